@@ -1,0 +1,63 @@
+-- Laws of `sumFrom`. A sum from i up to `to` is written `sumFrom f i (to - i)`.
+use mathlib.Core.Path.{_≡_, refl, sym, ap, ap₂, _∙_}
+use mathlib.Core.Bool.{Bool, true, false}
+use Prim.Native.Nat.{ℕ, zero, suc, _+_, _-_, _*_, _≤_, _<_}
+use native.Mathlib.Nat.{zero-add, add-zero}
+use native.Mathlib.Numerals.{add-one}
+use native.Mathlib.Omega.{arith}
+use Rattle.pciv_bytes.specs.Ranges.{flag, sumFrom}
+
+pub flag-le : (b : Bool) → flag b ≤ 1
+flag-le true = omega arith
+flag-le false = omega arith
+
+pub sumFrom-none : (f : ℕ → ℕ) (i to : ℕ) → to ≤ i → sumFrom f i (to - i) ≡ 0
+unfolding sumFrom
+sumFrom-none f i to h = let e : to - i ≡ 0 = omega arith in rw e
+
+pub sumFrom-more : (f : ℕ → ℕ) (i to : ℕ) → i < to → sumFrom f i (to - i) ≡ f i + sumFrom f (i + 1) (to - (i + 1))
+unfolding sumFrom
+sumFrom-more f i to h = let e : to - i ≡ suc (to - (i + 1)) = omega arith in rw (e, add-one i)
+
+sumFrom-add : (f : ℕ → ℕ) (m i n : ℕ) → sumFrom f i (m + n) ≡ sumFrom f i m + sumFrom f (i + m) n
+unfolding sumFrom
+sumFrom-add f zero i n = rw (zero-add n, add-zero i, zero-add (sumFrom f i n))
+sumFrom-add f (suc m) i n =
+    let e : suc m + n ≡ suc (m + n) = omega arith in
+    let g : i + suc m ≡ suc i + m = omega arith in
+    rw (e, g) (omega (arith, sumFrom-add f m (suc i) n))
+
+-- a range in two
+pub sumFrom-split : (f : ℕ → ℕ) (i s to : ℕ) → i ≤ s → s ≤ to
+    → sumFrom f i (to - i) ≡ sumFrom f i (s - i) + sumFrom f s (to - s)
+sumFrom-split f i s to h₁ h₂ =
+    let e : to - i ≡ (s - i) + (to - s) = omega arith in
+    let g : i + (s - i) ≡ s = omega arith in
+    rw e (sumFrom-add f (s - i) i (to - s) ∙ rw g)
+
+-- each term at most b
+pub sumFrom-le : (f : ℕ → ℕ) (b : ℕ) → ((j : ℕ) → f j ≤ b) → (i c : ℕ) → sumFrom f i c ≤ b * c
+unfolding sumFrom
+sumFrom-le f b each i zero = omega arith
+sumFrom-le f b each i (suc c) = omega (arith, each i, sumFrom-le f b each (suc i) c)
+
+pub sumFrom-cong : (f g : ℕ → ℕ) (i c : ℕ) → ((j : ℕ) → i ≤ j → j < i + c → f j ≡ g j) → sumFrom f i c ≡ sumFrom g i c
+unfolding sumFrom
+sumFrom-cong f g i zero same = refl
+sumFrom-cong f g i (suc c) same =
+    ap₂ (λ (x y : ℕ). x + y) (same i (omega arith) (omega arith))
+    (sumFrom-cong f g (suc i) c (λ j h₁ h₂. same j (omega arith) (omega arith)))
+
+-- of c flags, those that are set and those that are not
+pub sumFrom-rest : (f g : ℕ → ℕ) → ((j : ℕ) → f j + g j ≡ 1) → (i c : ℕ) → sumFrom f i c + sumFrom g i c ≡ c
+unfolding sumFrom
+sumFrom-rest f g each i zero = refl
+sumFrom-rest f g each i (suc c) = omega (arith, each i, sumFrom-rest f g each (suc i) c)
+
+-- the same terms, from another place on
+pub sumFrom-shift : (f g : ℕ → ℕ) (i t c : ℕ) → ((j : ℕ) → f (i + j) ≡ g (t + j)) → sumFrom f i c ≡ sumFrom g t c
+unfolding sumFrom
+sumFrom-shift f g i t zero same = refl
+sumFrom-shift f g i t (suc c) same =
+    ap₂ (λ (x y : ℕ). x + y) (rw (add-zero, add-zero) at (same 0))
+    (sumFrom-shift f g (suc i) (suc t) c (λ j. ap f (omega arith) ∙ same (suc j) ∙ ap g (omega arith)))

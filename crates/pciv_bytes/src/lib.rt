@@ -1,0 +1,1 @@
+// Bytes: little-endian numbers, counts and sums. Nothing here knows of PCIV.

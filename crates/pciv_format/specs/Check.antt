@@ -1,0 +1,75 @@
+-- What a check answers: refusals 1 to 8, first case first, else the summary (docs/FORMAT.md, "Refusals").
+--   nField b, kField b, mField b, stepField b   the counts in the header of b
+--   fileParts b n k           the primary array and overflow entries of a file with n slots and k entries
+--   badIndexEntry b n k i     index entry i is wrong (refusal 8)
+--   checkFile mp b            the check of a whole file, as map mp
+--   checkBuffer mp b          the check of a buffer to be edited, which may be longer than the file at its front
+-- Laws are in proofs/CheckLaws.antt. Axioms: none.
+use Prim.Native.Nat.{ℕ, _+_, _*_}
+use mathlib.Core.Bool.{Bool, not, _||_}
+use mathlib.Core.List.{List}
+use lib.ListN.{length, getD}
+use lib.Dec.{ltb, eqb}
+use Rattle.pciv_bytes.specs.LittleEndian.{get}
+use Rattle.pciv_format.specs.Layout.{maxSlots, magic, indexStep, indexLen, fileLen, countsOf}
+use Rattle.pciv_format.specs.Refusals.{Outcome, done, refuse, refuseIf, refuseFirst}
+use Rattle.pciv_format.specs.Parts.{Parts, refuseParts}
+use Rattle.pciv_format.specs.declared.Summary.{Summary}
+
+abbrev pub nField : List ℕ → ℕ
+nField b = get 8 b 8
+
+abbrev pub kField : List ℕ → ℕ
+kField b = get 8 b 16
+
+abbrev pub mField : List ℕ → ℕ
+mField b = get 8 b 24
+
+abbrev pub stepField : List ℕ → ℕ
+stepField b = get 8 b 32
+
+abbrev pub fileParts : List ℕ → ℕ → ℕ → Parts
+fileParts b n k =
+    record {
+      n = n;
+      k = k;
+      byte = λ i. getD b (40 + i) 0;
+      slot = λ j. get 8 b (40 + n + 12 * j);
+      distance = λ j. get 4 b (40 + n + 12 * j + 8);
+    }
+
+unfoldable pub badIndexEntry : List ℕ → ℕ → ℕ → ℕ → Bool
+badIndexEntry b n k i =
+    not (eqb (get 8 b (40 + n + 12 * k + 16 * i)) (fileParts b n k .slot (i * indexStep k)))
+    || not (eqb (get 8 b (40 + n + 12 * k + 16 * i + 8)) (i * indexStep k))
+
+-- k above n, or step or m not by the rule
+unfoldable pub badCounts : ℕ → ℕ → ℕ → ℕ → Bool
+badCounts n k m step = ltb n k || not (eqb step (indexStep k)) || not (eqb m (indexLen k))
+
+-- refusals 6 to 8
+unfoldable pub checkParts : ℕ → List ℕ → ℕ → ℕ → Outcome Summary
+checkParts mp b n k =
+    refuseParts mp (fileParts b n k) (refuseFirst 8 mp (badIndexEntry b n k) (indexLen k) (done (countsOf n k)))
+
+-- refusals 1 to 5, then next; `wrong len L` tells if a buffer of len bytes has the wrong length for a file of L
+unfoldable pub checkHeader : (ℕ → ℕ → Bool) → ℕ → List ℕ → Outcome Summary → Outcome Summary
+checkHeader wrong mp b next =
+    refuseIf (ltb (length b) 40) (refuse 1 mp 0)
+    (refuseIf (not (eqb (get 8 b 0) magic)) (refuse 2 mp 0)
+    (refuseIf (ltb maxSlots (nField b)) (refuse 3 mp 0)
+    (refuseIf (badCounts (nField b) (kField b) (mField b) (stepField b)) (refuse 4 mp 0)
+    (refuseIf (wrong (length b) (fileLen (nField b) (kField b))) (refuse 5 mp 0) next))))
+
+unfoldable pub checkWith : (ℕ → ℕ → Bool) → ℕ → List ℕ → Outcome Summary
+checkWith wrong mp b = checkHeader wrong mp b (checkParts mp b (nField b) (kField b))
+
+-- a whole file has exactly its length
+abbrev pub otherLength : ℕ → ℕ → Bool
+otherLength len l = not (eqb len l)
+
+abbrev pub checkFile : ℕ → List ℕ → Outcome Summary
+checkFile mp b = checkWith otherLength mp b
+
+abbrev pub checkBuffer : ℕ → List ℕ → Outcome Summary
+checkBuffer mp b = checkWith ltb mp b

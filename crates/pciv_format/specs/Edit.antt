@@ -1,0 +1,105 @@
+-- The editor, and a run of edits (docs/FORMAT.md, "The editor" and "A run of edits").
+--   editedFile b              the file at the front of a buffer b, by the counts in its header
+--   plainOutcome x R e        the plain editor's answer to edit e, from the list x and a buffer of R bytes
+--   editOutcome, editBuffer   the editor's answer, and the buffer afterwards
+--   MayChange x e i           byte i of the buffer may change when x is edited by e
+--   plainRun, plainOutcomes   the plain editor's state after a list of edits, and its answers in order
+--   bufferOf z b₀             what the buffer holds in state z, where it was b₀ at the start
+-- The plain editor is given the starting list, R and the edits, and nothing else. Axioms: none.
+use mathlib.Core.Path.{_≡_}
+use Prim.Native.Nat.{ℕ, _+_, _-_, _*_, _≤_, _<_, max}
+use mathlib.Core.Bool.{Bool, true, false, cond}
+use mathlib.Core.List.{List, [], _∷_, _++_}
+use mathlib.Core.Logic.{_⊎_}
+use lib.ListN.{length, take, drop, set, replicate}
+use lib.Dec.{ltb, leb}
+use Rattle.pciv_format.specs.Layout.{fileLen, inOverflow, overflowCount, at, fileOf, summaryOf}
+use Rattle.pciv_format.specs.Refusals.{Outcome, done, refused, refuse, refuseIf, andThen, fileAnswer}
+use Rattle.pciv_format.specs.Check.{nField, kField, checkBuffer}
+use Rattle.pciv_format.specs.Read.{listOf}
+use Rattle.pciv_format.specs.declared.Summary.{Summary}
+use Rattle.pciv_format.specs.declared.EditAnswer.{EditAnswer}
+
+-- an edit: a slot and the distance that it gets
+pub record Edit : Type 0 where
+  pub slot : ℕ
+  pub distance : ℕ
+
+abbrev pub edited : List ℕ → Edit → List ℕ
+edited x e = set x (e .slot) (e .distance)
+
+-- ---- one edit
+
+unfoldable pub plainOutcome : List ℕ → ℕ → Edit → Outcome Summary
+plainOutcome x R e =
+    refuseIf (leb (length x) (e .slot)) (refuse 9 0 0)
+    (refuseIf (ltb R (length (fileOf (edited x e)))) (refuse 12 0 0) (done (summaryOf (edited x e))))
+
+unfoldable pub editedFile : List ℕ → List ℕ
+editedFile b = take (fileLen (nField b) (kField b)) b
+
+unfoldable pub editOutcome : List ℕ → Edit → Outcome Summary
+editOutcome b e = andThen (checkBuffer 1 b) (λ s. plainOutcome (listOf (editedFile b)) (length b) e)
+
+-- the editor's answer as its type
+abbrev pub editAnswer : Outcome Summary → EditAnswer
+editAnswer o = record { outcome = fileAnswer o }
+
+-- the file of y in the place of the file of x: what it leaves free becomes 0, and bytes past both stay
+unfoldable pub replaced : List ℕ → List ℕ → List ℕ → List ℕ
+replaced b x y =
+    fileOf y
+    ++ (replicate (length (fileOf x) - length (fileOf y)) 0 ++ drop (max (length (fileOf x)) (length (fileOf y))) b)
+
+module _ {A : Type 0} where
+  -- the new state where an edit is accepted, the old one where it is refused
+  abbrev pub ifAccepted : Outcome Summary → A → A → A
+  ifAccepted (done s) new old = new
+  ifAccepted (refused r) new old = old
+
+unfoldable pub editBuffer : List ℕ → Edit → List ℕ
+editBuffer b e =
+    ifAccepted (editOutcome b e) (replaced b (listOf (editedFile b)) (edited (listOf (editedFile b)) e)) b
+
+-- ---- the limits on changed bytes
+
+-- where the entry of slot s stands, or would: after the entries of smaller slots
+abbrev pub entryPlace : List ℕ → ℕ → ℕ
+entryPlace x s = 40 + length x + 12 * overflowCount s (at x)
+
+abbrev pub limitsBy : Bool → Bool → List ℕ → ℕ → ℕ → Type 0
+limitsBy false false x s i = i ≡ 40 + s
+limitsBy true true x s i = (entryPlace x s + 8 ≤ i) × (i < entryPlace x s + 12)
+limitsBy true false x s i = ((16 ≤ i) × (i < 40)) ⊎ ((i ≡ 40 + s) ⊎ (entryPlace x s ≤ i))
+limitsBy false true x s i = ((16 ≤ i) × (i < 40)) ⊎ ((i ≡ 40 + s) ⊎ (entryPlace x s ≤ i))
+
+-- stays inline, stays in overflow, or moves into or out of overflow
+abbrev pub MayChange : List ℕ → Edit → ℕ → Type 0
+MayChange x e i = limitsBy (inOverflow (at x (e .slot))) (inOverflow (e .distance)) x (e .slot) i
+
+-- ---- a run of edits
+
+-- the plain editor keeps a list, and the length of the longest file so far
+pub record State : Type 0 where
+  pub list : List ℕ
+  pub filled : ℕ
+
+unfoldable pub plainStart : List ℕ → State
+plainStart x = record { list = x; filled = length (fileOf x) }
+
+unfoldable pub plainStep : ℕ → State → Edit → State
+plainStep R z e =
+    ifAccepted (plainOutcome (z .list) R e)
+    (record { list = edited (z .list) e; filled = max (z .filled) (length (fileOf (edited (z .list) e))) }) z
+
+unfoldable pub plainRun : ℕ → State → List Edit → State
+plainRun R z [] = z
+plainRun R z (e ∷ es) = plainRun R (plainStep R z e) es
+
+unfoldable pub plainOutcomes : ℕ → State → List Edit → List (Outcome Summary)
+plainOutcomes R z [] = []
+plainOutcomes R z (e ∷ es) = plainOutcome (z .list) R e ∷ plainOutcomes R (plainStep R z e) es
+
+-- x's file, zeros up to the longest file so far, then the bytes that stood there at the start
+unfoldable pub bufferOf : State → List ℕ → List ℕ
+bufferOf z b₀ = fileOf (z .list) ++ (replicate (z .filled - length (fileOf (z .list))) 0 ++ drop (z .filled) b₀)

@@ -1,0 +1,11 @@
+pub mod Layout
+pub mod Refusals
+pub mod Parts
+pub mod Check
+pub mod Read
+pub mod Write
+pub mod Mask
+pub mod Arith
+pub mod Figures
+pub mod Edit
+pub mod Report

@@ -1,0 +1,45 @@
+-- The primary array and the overflow entries, wherever they stand: in a file, or in a caller's lists.
+--   Parts              n slots, k overflow entries, the primary byte of each slot, each entry's slot and distance
+--   badEntry P j       overflow entry j is wrong (refusal 6)
+--   entryOf P i        the entry of slot i, or k
+--   badSlot P i        slot i has byte 255 and no entry (refusal 7)
+--   valueOf P i        the distance of slot i
+--   refuseParts        refusals 6 and 7
+-- Laws are in proofs/PartsLaws.antt. Axioms: none.
+use Prim.Native.Nat.{ℕ, zero, suc, _+_}
+use mathlib.Core.Bool.{Bool, not, cond, _&&_, _||_}
+use lib.Dec.{ltb, leb, eqb}
+use Rattle.pciv_bytes.specs.Ranges.{firstBelow}
+use Rattle.pciv_format.specs.Refusals.{Outcome, refuseFirst}
+
+pub record Parts : Type 0 where
+  pub n : ℕ
+  pub k : ℕ
+  pub byte : ℕ → ℕ
+  pub slot : ℕ → ℕ
+  pub distance : ℕ → ℕ
+
+-- the least slot that entry j may have: above the one before
+abbrev pub lowestSlot : Parts → ℕ → ℕ
+lowestSlot P zero = 0
+lowestSlot P (suc j) = P .slot j + 1
+
+unfoldable pub badEntry : Parts → ℕ → Bool
+badEntry P j =
+    leb (P .n) (P .slot j)
+    || ltb (P .slot j) (lowestSlot P j)
+    || ltb (P .distance j) 255
+    || not (eqb (P .byte (P .slot j)) 255)
+
+unfoldable pub entryOf : Parts → ℕ → ℕ
+entryOf P i = firstBelow (λ (j : ℕ). eqb (P .slot j) i) (P .k)
+
+unfoldable pub badSlot : Parts → ℕ → Bool
+badSlot P i = eqb (P .byte i) 255 && leb (P .k) (entryOf P i)
+
+unfoldable pub valueOf : Parts → ℕ → ℕ
+valueOf P i = cond (ltb (P .byte i) 255) (P .byte i) (P .distance (entryOf P i))
+
+module _ {A : Type 0} where
+  abbrev pub refuseParts : ℕ → Parts → Outcome A → Outcome A
+  refuseParts mp P o = refuseFirst 6 mp (badEntry P) (P .k) (refuseFirst 7 mp (badSlot P) (P .n) o)

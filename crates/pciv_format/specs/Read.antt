@@ -1,0 +1,73 @@
+-- What the reading routines answer (docs/FORMAT.md, "Reading").
+--   listOf b         the list that a file b is read as
+--   primaryPart b    the primary bytes of b, a part of b; empty where b is refused
+--   lookupOutcome, lookupListOutcome and -Buffer, scanOutcome and -Buffer
+--   total xs, readings xs    the sum of all distances, and how many are not 0
+-- Laws are in proofs/ReadLaws.antt. Axioms: none.
+use Prim.Native.Nat.{ℕ}
+use mathlib.Core.Bool.{not}
+use mathlib.Core.List.{List, [], map}
+use lib.ListN.{length, getD, take, drop}
+use lib.Dec.{ltb, leb, eqb}
+use Rattle.pciv_bytes.specs.Ranges.{flag, table, sumFrom}
+use Rattle.pciv_format.specs.Layout.{at}
+use Rattle.pciv_format.specs.Refusals.{Outcome, done, refused, refuse, refuseIf, refuseFirst, andThen, written}
+use Rattle.pciv_format.specs.Parts.{valueOf}
+use Rattle.pciv_format.specs.Check.{nField, kField, fileParts, checkFile}
+use Rattle.pciv_format.specs.declared.Summary.{Summary}
+
+-- the distance that a file b has at slot i
+abbrev pub valueAt : List ℕ → ℕ → ℕ
+valueAt b i = valueOf (fileParts b (nField b) (kField b)) i
+
+unfoldable pub listOf : List ℕ → List ℕ
+listOf b = table (valueAt b) 0 (nField b)
+
+-- ---- the primary part
+
+abbrev pub onlyDone : Outcome Summary → List ℕ → List ℕ
+onlyDone (done s) l = l
+onlyDone (refused r) l = []
+
+unfoldable pub primaryPart : List ℕ → List ℕ
+primaryPart b = onlyDone (checkFile 1 b) (take (nField b) (drop 40 b))
+
+-- ---- lookup and scan
+
+unfoldable pub lookupOutcome : List ℕ → ℕ → Outcome ℕ
+lookupOutcome b slot =
+    andThen (checkFile 1 b) (λ s. refuseIf (leb (s .n) slot) (refuse 9 0 0) (done (at (listOf b) slot)))
+
+-- c items into a list with room for `room` of them; the answer is how many were written
+abbrev pub itemsInto : ℕ → ℕ → Outcome ℕ
+itemsInto c room = refuseIf (ltb room c) (refuse 12 0 0) (done c)
+
+unfoldable pub lookupListOutcome : List ℕ → List ℕ → ℕ → Outcome ℕ
+lookupListOutcome b slots room =
+    andThen (checkFile 1 b)
+    (λ s. refuseFirst 9 0 (λ (i : ℕ). leb (s .n) (at slots i)) (length slots) (itemsInto (length slots) room))
+
+unfoldable pub lookupListBuffer : List ℕ → List ℕ → List ℕ → List ℕ
+lookupListBuffer b slots out =
+    written (lookupListOutcome b slots (length out)) (map (at (listOf b)) slots) out
+
+unfoldable pub scanOutcome : List ℕ → ℕ → Outcome ℕ
+scanOutcome b room = andThen (checkFile 1 b) (λ s. itemsInto (s .n) room)
+
+unfoldable pub scanBuffer : List ℕ → List ℕ → List ℕ
+scanBuffer b out = written (scanOutcome b (length out)) (listOf b) out
+
+-- ---- totals
+
+unfoldable pub total : List ℕ → ℕ
+total xs = sumFrom (at xs) 0 (length xs)
+
+-- a reading is a distance that is not 0
+unfoldable pub readings : List ℕ → ℕ
+readings xs = sumFrom (λ (i : ℕ). flag (not (eqb (at xs i) 0))) 0 (length xs)
+
+unfoldable pub sumOutcome : List ℕ → Outcome ℕ
+sumOutcome b = andThen (checkFile 1 b) (λ s. done (total (listOf b)))
+
+unfoldable pub readingsOutcome : List ℕ → Outcome ℕ
+readingsOutcome b = andThen (checkFile 1 b) (λ s. done (readings (listOf b)))
