@@ -4,16 +4,18 @@
 --   badIndexEntry b n k i     index entry i is wrong (refusal 8)
 --   checkFile mp b            the check of a whole file, as map mp
 --   checkBuffer mp b          the check of a buffer to be edited, which may be longer than the file at its front
+--   CheckedMap b n k          what inner routines know of b: a file of n slots and k overflow entries stands at its front
 -- Laws are in proofs/CheckLaws.antt. Axioms: none.
-use Prim.Native.Nat.{ℕ, _+_, _*_}
-use mathlib.Core.Bool.{Bool, not, _||_}
+use mathlib.Core.Path.{_≡_}
+use Prim.Native.Nat.{ℕ, _+_, _*_, _≤_, _<_}
+use mathlib.Core.Bool.{Bool, false, not, _||_}
 use mathlib.Core.List.{List}
 use lib.ListN.{length, getD}
 use lib.Dec.{ltb, eqb}
 use Rattle.pciv_bytes.specs.LittleEndian.{get}
 use Rattle.pciv_format.specs.Layout.{maxSlots, magic, indexStep, indexLen, fileLen, countsOf}
 use Rattle.pciv_format.specs.Refusals.{Outcome, done, refuse, refuseIf, refuseFirst}
-use Rattle.pciv_format.specs.Parts.{Parts, refuseParts}
+use Rattle.pciv_format.specs.Parts.{Parts, refuseParts, SoundParts}
 use Rattle.pciv_format.specs.declared.Summary.{Summary}
 
 abbrev pub nField : List ℕ → ℕ
@@ -73,3 +75,20 @@ checkFile mp b = checkWith otherLength mp b
 
 abbrev pub checkBuffer : ℕ → List ℕ → Outcome Summary
 checkBuffer mp b = checkWith ltb mp b
+
+-- ---- what a check has shown
+
+pub record CheckedHeader (b : List ℕ) (n k : ℕ) : Type 0 where
+  pub mark : get 8 b 0 ≡ magic
+  pub nIs : nField b ≡ n
+  pub kIs : kField b ≡ k
+  pub mIs : mField b ≡ indexLen k
+  pub stepIs : stepField b ≡ indexStep k
+  pub small : n ≤ maxSlots
+  pub few : k ≤ n
+
+pub record CheckedMap (b : List ℕ) (n k : ℕ) : Type 0 where
+  pub header : CheckedHeader b n k
+  pub fits : fileLen n k ≤ length b
+  pub parts : SoundParts (fileParts b n k)
+  pub index : (i : ℕ) → i < indexLen k → badIndexEntry b n k i ≡ false

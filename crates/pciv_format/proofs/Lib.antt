@@ -1,0 +1,3 @@
+pub mod PartsLaws
+pub mod RefusalsLaws
+pub mod LayoutLaws
