@@ -1,3 +1,5 @@
 pub mod PartsLaws
 pub mod RefusalsLaws
 pub mod LayoutLaws
+pub mod CheckLaws
+pub mod FileLaws
