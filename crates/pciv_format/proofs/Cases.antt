@@ -7,14 +7,14 @@
 use mathlib.Core.Path.{_≡_, refl}
 use Prim.Native.Nat.{ℕ, _+_}
 use mathlib.Core.List.{List, [], _∷_, _++_}
-use lib.ListN.{length, getD, take, drop, replicate}
+use lib.ListN.{length, drop, replicate}
 use lib.Ieee.{ofBits, ofInt, div, binary64}
 use Rattle.pciv_bytes.specs.Ranges.{firstFrom, firstBelow, table, positions, joined, sumFrom}
 use Rattle.pciv_bytes.specs.LittleEndian.{le, number, get}
 use Rattle.pciv_format.specs.Layout.{indexStep, indexLen, fileLen, primary, overflowSlots, overflowCount}
 use Rattle.pciv_format.specs.Layout.{overflowEntry, overflowPart, indexEntry, indexPart, header, file}
 use Rattle.pciv_format.specs.Layout.{countsOf, summary, at, fileOf, summaryOf}
-use Rattle.pciv_format.specs.Refusals.{Outcome, done, refuse}
+use Rattle.pciv_format.specs.Refusals.{done, refuse}
 use Rattle.pciv_format.specs.Parts.{badEntry, entryOf, badSlot, valueOf}
 use Rattle.pciv_format.specs.Check.{badIndexEntry, badCounts, checkParts, checkHeader, checkWith, checkFile}
 use Rattle.pciv_format.specs.Read.{listOf, primaryPart, lookupOutcome, total, readings}
