@@ -11,14 +11,16 @@ use lib.ListN.{length, drop, replicate}
 use lib.Ieee.{ofBits, ofInt, div, binary64}
 use Rattle.pciv_bytes.specs.Ranges.{firstFrom, firstBelow, table, positions, joined, sumFrom}
 use Rattle.pciv_bytes.specs.LittleEndian.{le, number, get}
-use Rattle.pciv_format.specs.Layout.{indexStep, indexLen, fileLen, primary, overflowSlots, overflowCount}
-use Rattle.pciv_format.specs.Layout.{overflowEntry, overflowPart, indexEntry, indexPart, header, file}
-use Rattle.pciv_format.specs.Layout.{countsOf, summary, at, fileOf, summaryOf}
+use Rattle.pciv_format.specs.Layout.{indexStep, indexLen, fileLen, primary, overflowSlots}
+use Rattle.pciv_format.specs.Layout.{overflowCount, overflowEntry, overflowPart, indexEntry, indexPart}
+use Rattle.pciv_format.specs.Layout.{header, file, countsOf, summary, at, fileOf, summaryOf}
 use Rattle.pciv_format.specs.Refusals.{done, refuse}
 use Rattle.pciv_format.specs.Parts.{badEntry, entryOf, badSlot, valueOf}
-use Rattle.pciv_format.specs.Check.{badIndexEntry, badCounts, checkParts, checkHeader, checkWith, checkFile}
+use Rattle.pciv_format.specs.Check.{badIndexEntry, badCounts, checkParts}
+use Rattle.pciv_format.specs.Check.{checkHeader, checkWith, checkFile}
 use Rattle.pciv_format.specs.Read.{listOf, primaryPart, lookupOutcome, total, readings}
-use Rattle.pciv_format.specs.Mask.{maskLen, bitAt, maskHas, word, maskOf, badMask, setBits, setBitsOutcome}
+use Rattle.pciv_format.specs.Mask.{maskLen, bitAt, maskHas, word, maskOf, badMask}
+use Rattle.pciv_format.specs.Mask.{setBits, setBitsOutcome}
 use Rattle.pciv_format.specs.Mask.{thresholdOutcome, thresholdWords, nearMaskOutcome, nearMaskWords}
 use Rattle.pciv_format.specs.Arith.{combineMapsOutcome, combineMapsBuffer}
 use Rattle.pciv_format.specs.Figures.{quotient, distanceBetween, brayCurtisOutcome}
@@ -41,7 +43,7 @@ counts n k m step len = record { n = n; k = k; m = m; step = step; len = len }
 abbrev pub setTo : ℕ → ℕ → Edit
 setTo slot distance = record { slot = slot; distance = distance }
 
--- o on the maps of xs and ys is the map of zs: a file of len bytes with k overflow entries, which is read as zs
+-- o on the maps of xs and ys is the map of zs: a file of len bytes with k overflow entries, read as zs
 abbrev pub Gives : SlotOp → List ℕ → List ℕ → List ℕ → ℕ → ℕ → Type 0
 Gives o xs ys zs k len =
     (combineMapsOutcome o (fileOf xs) (fileOf ys) len ≡ done (counts 4 k 0 0 len))
