@@ -1,7 +1,7 @@
 -- Laws of `sets`, which writes a list over another from a place on, and of lists written one element a turn.
 -- A loop's invariant is the work that remains: writing all from the start equals writing the rest from here.
-use mathlib.Core.Path.{_≡_, refl, sym, ap, ap₂, _∙_}
-use Prim.Native.Nat.{ℕ, zero, suc, _+_, _-_, _/_, _%_, _≤_, _<_}
+use mathlib.Core.Path.{_≡_, refl, ap, _∙_}
+use Prim.Native.Nat.{ℕ, suc, _+_, _-_, _/_, _%_, _≤_, _<_}
 use native.Mathlib.Nat.{add-zero, zero-add, sub-zero}
 use native.Mathlib.Numerals.{add-one}
 use native.Mathlib.Omega.{arith}
@@ -44,7 +44,7 @@ module _ {A : Type 0} where
   pub sets-table-end : (f : ℕ → A) (at n i : ℕ) (d : List A) → n ≤ i → sets d (at + i) (table f i (n - i)) ≡ d
   sets-table-end f at n i d h = ap (sets d (at + i)) (table-done f n i h)
 
-  -- ---- a copy of s
+  -- ---- a copy of s; i elements are written, and j is the place of the next
 
   pub sets-copy-more : (s d : List A) (z : A) (j i next : ℕ) → i < length s → next ≡ j + 1
       → sets d j (drop i s) ≡ sets (set d j (getD s i z)) next (drop (i + 1) s)

@@ -1,6 +1,6 @@
 -- Proves copies::copy_bytes. Invariant: writing all of src from `at` on is writing the rest of src
 -- from at + i on. Falls: length src - i.
-use Prim.Native.Nat.{_+_, _-_, _≤_}
+use Prim.Native.Nat.{ℕ, _+_, _-_, _≤_}
 use native.Mathlib.Nat.{add-zero}
 use native.Mathlib.Omega.{arith}
 use mathlib.Core.Path.{_≡_, refl, sym, _∙_}
@@ -40,7 +40,9 @@ loop-again : tie.Need-loop-again Inv-loop μ-loop
 loop-again c =
     let l = c .before .before .loop in
     let a = c .before .before .before .args in
-    let more = sets-copy-more (a .src .now) (l .out) 0 (a .at + l .i) (l .i) (a .at + (l .i + 1)) (omega arith) (omega arith) in
+    let here : ℕ = a .at + l .i in
+    let next : ℕ = a .at + (l .i + 1) in
+    let more = sets-copy-more (a .src .now) (l .out) 0 here (l .i) next (omega arith) (omega arith) in
     (search needs, simp length-set (l .inv .1), l .inv .2 ∙ more)
 
 same-length : tie.Need-same-length Inv-loop μ-loop

@@ -12,7 +12,8 @@ use Rattle.pciv_bytes.proofs.copies.fill_zero.Tie as tie
 
 abbrev Inv-loop : tie.InvT-loop
 Inv-loop out₀ from to i₀ out i =
-    (i ≤ to) × (length out ≡ length out₀) × (sets out₀ from (replicate (to - from) 0) ≡ sets out i (replicate (to - i) 0))
+    (i ≤ to) × (length out ≡ length out₀)
+    × (sets out₀ from (replicate (to - from) 0) ≡ sets out i (replicate (to - i) 0))
 
 abbrev μ-loop : tie.MeasureT-loop
 μ-loop out₀ from to i₀ out i = to - i

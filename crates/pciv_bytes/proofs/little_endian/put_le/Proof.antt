@@ -40,7 +40,8 @@ loop-again : tie.Need-loop-again Inv-loop μ-loop
 loop-again c =
     let l = c .before .loop in
     let a = c .before .before .args in
-    (search needs, simp length-set (l .inv .1), l .inv .2 ∙ sets-le-more (l .out) (a .at) (a .w) (l .y) (l .i) (omega arith))
+    let more = sets-le-more (l .out) (a .at) (a .w) (l .y) (l .i) (omega arith) in
+    (search needs, simp length-set (l .inv .1), l .inv .2 ∙ more)
 
 same-length : tie.Need-same-length Inv-loop μ-loop
 same-length c = search needs
