@@ -20,6 +20,7 @@ fn get_le(b: &[u8], at: usize, w: usize) -> usize
     x
 }
 
+// The number of the eight bytes from `at` on.
 pub fn get64(b: &[u8], at: usize) -> usize
     requires { ⌜ at + 8 ≤ length (now b) ⌝ }
     ensures { λ r. ⌜ r ≡ get 8 (now (b .entry)) at ⌝ }
@@ -27,6 +28,7 @@ pub fn get64(b: &[u8], at: usize) -> usize
     get_le(b, at, 8)
 }
 
+// The number of the four bytes from `at` on.
 pub fn get32(b: &[u8], at: usize) -> u32
     requires { ⌜ at + 4 ≤ length (now b) ⌝ }
     ensures { λ r. ⌜ r ≡ get 4 (now (b .entry)) at ⌝ }
@@ -48,6 +50,7 @@ fn put_le(out: &mut [u8], at: usize, w: usize, x: usize)
     }
 }
 
+// Writes x as eight bytes from `at` on.
 pub fn put64(out: &mut [u8], at: usize, x: usize)
     requires { ⌜ at + 8 ≤ length (now out) ⌝ }
     ensures { λ _. ⌜ now (out .exit) ≡ sets (now (out .entry)) at (le 8 x) ⌝ }
@@ -55,6 +58,7 @@ pub fn put64(out: &mut [u8], at: usize, x: usize)
     put_le(out, at, 8, x);
 }
 
+// Writes x as four bytes from `at` on.
 pub fn put32(out: &mut [u8], at: usize, x: u32)
     requires { ⌜ at + 4 ≤ length (now out) ⌝ }
     ensures { λ _. ⌜ now (out .exit) ≡ sets (now (out .entry)) at (le 4 x) ⌝ }
