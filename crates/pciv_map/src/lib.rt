@@ -1,0 +1,2 @@
+// Reading a checked map: one distance by its slot.
+pub mod lookup;
