@@ -1,18 +1,19 @@
 -- Laws of a search among sorted numbers, of the blocks of a sparse index, and of the entry of a slot.
---   Between f s c lo hi     the lower bound of s among f 0, .., f (c - 1) lies from lo to hi
---   between-start/-up/-down/-end    a search by halves starts, goes on and ends
---   lowerBound-between      what is known of a lower bound;  between-part  it is found in a part
---   block-between           the block of a sparse index
---   valueOf-entry           the distance of a slot in overflow is that of its entry
-use mathlib.Core.Path.{_≡_, refl, sym, ap, _∙_}
-use Prim.Native.Nat.{ℕ, zero, suc, _+_, _-_, _*_, _≤_, _<_}
+--   Between f s c lo hi             the lower bound of s among the c first numbers of f lies from lo to hi
+--   between-start/-up/-down/-end    a search by halves begins, goes on and ends
+--   between-part                    a search in the part from lo to hi finds it
+--   block-between                   the block that a sparse index names is such a part
+--   valueOf-entry                   a slot in overflow has its distance at entry `entriesBelow`
+--   index-table, entries-table      the two tables of a checked map
+use mathlib.Core.Path.{_≡_, sym, ap, _∙_}
+use mathlib.Core.Bool.{Bool, false}
+use mathlib.Core.List.{List}
+use Prim.Native.Nat.{ℕ, suc, _+_, _-_, _*_, _≤_, _<_}
 use native.Mathlib.Nat.{le-refl, zero-mul, mul-suc, mul-le-mul-left, mul-le-mul-right}
 use native.Mathlib.Omega.{arith}
 use native.Mathlib.Decide.{decLe}
-use mathlib.Core.Bool.{Bool, false}
-use mathlib.Core.List.{List}
 use lib.ListN.{length}
-use lib.Dec.{ltb, leb}
+use lib.Dec.{leb}
 use borrow.Author.Tests.{le-leb, lt-leb, leb-true, leb-false, lt-ltb, le-ltb}
 use Rattle.pciv_bytes.specs.Ranges.{firstBelow}
 use Rattle.pciv_bytes.proofs.RangesLaws.{firstBelow-none, firstBelow-at, firstBelow-le, firstBelow-clear, firstBelow-has}
@@ -30,7 +31,8 @@ pub record Between (f : ℕ → ℕ) (s c lo hi : ℕ) : Type 0 where
   pub below : (j : ℕ) → j < lo → f j < s
   pub above : (j : ℕ) → hi ≤ j → j < c → s ≤ f j
 
-pub between-same : {f : ℕ → ℕ} {s c lo hi lo' hi' : ℕ} → lo' ≡ lo → hi' ≡ hi → Between f s c lo hi → Between f s c lo' hi'
+pub between-same : {f : ℕ → ℕ} {s c lo hi lo' hi' : ℕ} → lo' ≡ lo → hi' ≡ hi → Between f s c lo hi
+    → Between f s c lo' hi'
 between-same e₁ e₂ w = rw (e₁, e₂) w
 
 -- ---- a search by halves
@@ -51,7 +53,8 @@ between-end f s c lo hi w done =
     let p : ℕ → Bool = λ j. leb s (f j) in
     let none : (j : ℕ) → j < lo → p j ≡ false = λ j h. lt-leb s (f j) (w .below j h) in
     elim (decLe c lo) [
-      | yes d ↦ (let q : lo ≡ c = omega (arith, w .ordered, w .within) in q ∙ sym (firstBelow-none p c (λ j h. none j (omega arith))))
+      | yes d ↦ (let q : lo ≡ c = omega (arith, w .ordered, w .within) in
+          q ∙ sym (firstBelow-none p c (λ j h. none j (omega arith))))
       | no d ↦ sym (firstBelow-at p c lo (omega arith) none (le-leb s (f lo) (w .above lo done (omega arith))))
     ]
 
@@ -65,7 +68,8 @@ module _ (f : ℕ → ℕ) (s c : ℕ) (sorted : Sorted f c) where
         above = w .above;
       }
 
-  pub between-down : (lo hi mid : ℕ) → Between f s c lo hi → lo ≤ mid → mid < hi → s ≤ f mid → Between f s c lo mid
+  pub between-down : (lo hi mid : ℕ) → Between f s c lo hi → lo ≤ mid → mid < hi → s ≤ f mid
+      → Between f s c lo mid
   between-down lo hi mid w h₁ h₂ more =
       record {
         ordered = h₁;
@@ -90,9 +94,10 @@ lowerBound-at f s c h =
     let p : ℕ → Bool = λ j. leb s (f j) in
     leb-true s (f (firstBelow p c)) (firstBelow-has p c h)
 
--- a lower bound among a part g of f is one among all
+-- g is the part of f from lo to hi: a lower bound there is one in the whole
 module _ (f : ℕ → ℕ) (s c : ℕ) (sorted : Sorted f c) (lo hi : ℕ) (w : Between f s c lo hi) where
-  pub between-part : (g : ℕ → ℕ) → ((j : ℕ) → j < hi - lo → g j ≡ f (lo + j)) → lo + lowerBound g s (hi - lo) ≡ lowerBound f s c
+  pub between-part : (g : ℕ → ℕ) → ((j : ℕ) → j < hi - lo → g j ≡ f (lo + j))
+      → lo + lowerBound g s (hi - lo) ≡ lowerBound f s c
   between-part g same =
       let r : ℕ = lowerBound g s (hi - lo) in
       let le : r ≤ hi - lo = lowerBound-le g s (hi - lo) in
@@ -142,17 +147,20 @@ pub record Sample (f : ℕ → ℕ) (k : ℕ) (g : ℕ → ℕ) (m step : ℕ) :
 module _ (f : ℕ → ℕ) (k : ℕ) (g : ℕ → ℕ) (m step : ℕ) (x : Sample f k g m step) where
   pub sample-sorted : Sorted g m
   sample-sorted i j h hm =
-      omega (arith, x .same i (omega arith), x .same j hm, x .sorted (i * step) (j * step) (mul-le-mul-right step h) (x .inside j hm))
+      let rise = x .sorted (i * step) (j * step) (mul-le-mul-right step h) (x .inside j hm) in
+      omega (arith, x .same i (omega arith), x .same j hm)
 
   module _ (s i : ℕ) (is : i ≡ lowerBound g s m) where
     -- the block starts at 0, or at a number below s
-    start-cases : {B : Type 0} → (blockStart i step ≡ 0 → B) → (blockStart i step < k → f (blockStart i step) < s → B) → B
+    start-cases : {B : Type 0} → (blockStart i step ≡ 0 → B)
+        → (blockStart i step < k → f (blockStart i step) < s → B) → B
     start-cases first later =
         let t : ℕ = i - 1 in
         elim (decLe i 0) [
           | yes d ↦ (let z : t ≡ 0 = omega arith in first (rw z (zero-mul step)))
           | no d ↦ (let inner : t < m = omega (arith, lowerBound-le g s m) in
-              later (x .inside t inner) (omega (arith, x .same t inner, lowerBound-below g s m t (omega arith))))
+              let less = lowerBound-below g s m t (omega arith) in
+              later (x .inside t inner) (omega (arith, x .same t inner)))
         ]
 
     pub block-between : Between f s k (blockStart i step) (blockEnd i m step k)
@@ -172,7 +180,8 @@ module _ (f : ℕ → ℕ) (k : ℕ) (g : ℕ → ℕ) (m step : ℕ) (x : Sampl
                 within = omega (arith, x .inside i inner);
                 below = start-below;
                 above = λ j h hk.
-                    omega (arith, x .same i inner, ap g is, lowerBound-at g s m (omega arith), x .sorted (i * step) j h hk);
+                    (let at = lowerBound-at g s m (omega arith) in
+                    omega (arith, x .same i inner, ap g is, x .sorted (i * step) j h hk));
               }))
         ]
       where
@@ -212,7 +221,7 @@ module _ (P : Parts) (sound : SoundParts P) where
       let at : entriesBelow P i ≡ q .0 = ap (entriesBelow P) (sym (q .2)) ∙ entriesBelow-slot (q .0) (q .1) in
       (omega (arith, q .1), rw at (ap (valueOf P) (sym (q .2)) ∙ valueOf-slot P sound (q .0) (q .1)))
 
--- ---- the two tables of a checked map, with the m and the step that its header has
+-- ---- the two tables of a checked map
 
 module _ (b : List ℕ) (n k : ℕ) (map : CheckedMap b n k) where
   pub checked-fits : 40 + n + 12 * k + 16 * indexLen k ≤ length b
@@ -232,7 +241,8 @@ module _ (b : List ℕ) (n k : ℕ) (map : CheckedMap b n k) where
         apart = omega arith;
         inside = omega (arith, checked-fits);
         sorted = λ i j h hj.
-            omega (arith, entry-key lo i, entry-key lo j, entries-sorted (lo + i) (lo + j) (omega arith) (omega arith));
+            (let rise = entries-sorted (lo + i) (lo + j) (omega arith) (omega arith) in
+            omega (arith, entry-key lo i, entry-key lo j));
       }
 
   pub entriesBelow-part : (slot lo hi : ℕ) → Between (fileParts b n k .slot) slot k lo hi
@@ -240,6 +250,7 @@ module _ (b : List ℕ) (n k : ℕ) (map : CheckedMap b n k) where
   entriesBelow-part slot lo hi w =
       between-part (fileParts b n k .slot) slot k entries-sorted lo hi w _ (λ j h. entry-key lo j)
 
+  -- the index, with the m and the step of the header
   module _ (m step : ℕ) (mIs : m ≡ mField b) (stepIs : step ≡ stepField b) where
     counts : (m ≡ indexLen k) × (step ≡ indexStep k)
     counts = (mIs ∙ map .header .mIs, stepIs ∙ map .header .stepIs)

@@ -1,2 +1,2 @@
-// Reading a checked map: one distance by its slot.
+// Reading a checked map.
 pub mod lookup;

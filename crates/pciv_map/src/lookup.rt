@@ -1,7 +1,7 @@
 // The distance at a slot of a checked map, through the sparse index where there is one.
 // What is counted is defined in specs/Lookup.antt, and a slot's distance in pciv_format, specs/Parts.antt.
 ghost use mathlib.Core.Path.{_≡_};
-ghost use Prim.Native.Nat.{_*_, _^_, _<_};
+ghost use Prim.Native.Nat.{_^_, _<_};
 ghost use Rattle.pciv_format.specs.Parts.{valueOf};
 ghost use Rattle.pciv_format.specs.Check.{fileParts, CheckedMap};
 ghost use Rattle.pciv_map.specs.Lookup.{lowerBound, entriesBelow, blockStart, blockEnd, keyAt, KeyTable};

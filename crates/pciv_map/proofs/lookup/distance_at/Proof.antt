@@ -3,12 +3,12 @@ use mathlib.Core.Path.{_≡_, sym, _∙_}
 use Prim.Native.Nat.{_+_, _*_, _≤_, _<_}
 use native.Mathlib.Omega.{arith}
 use lib.ListN.{length}
+use borrow.Author.Needs.{needs}
 use Rattle.pciv_format.specs.Parts.{valueOf}
 use Rattle.pciv_format.specs.Check.{fileParts}
 use Rattle.pciv_format.proofs.PartsLaws.{valueOf-inline}
 use Rattle.pciv_map.specs.Lookup.{entriesBelow}
 use Rattle.pciv_map.proofs.LookupLaws.{checked-fits, valueOf-entry}
-use borrow.Author.Needs.{needs}
 use Rattle.pciv_map.proofs.lookup.distance_at.Statement.{statement}
 use Rattle.pciv_map.proofs.lookup.distance_at.Tie as tie
 

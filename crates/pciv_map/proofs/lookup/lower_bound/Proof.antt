@@ -1,12 +1,11 @@
 -- Proves pciv_map::lookup::lower_bound. Invariant: keys before lo are below the key that is looked for, and
 -- keys from hi on are not. Falls: hi - lo. The reasoning on sorted numbers is in LookupLaws.antt.
-use mathlib.Core.Path.{_≡_, sym}
 use Prim.Native.Nat.{ℕ, _+_, _-_, _*_, _/_, _≤_}
 use native.Mathlib.Omega.{arith}
 use lib.ListN.{length}
+use borrow.Author.Needs.{needs}
 use Rattle.pciv_map.specs.Lookup.{keyAt}
 use Rattle.pciv_map.proofs.LookupLaws.{Between, between-start, between-up, between-down, between-end, key-inside}
-use borrow.Author.Needs.{needs}
 use Rattle.pciv_map.proofs.lookup.lower_bound.Statement.{statement}
 use Rattle.pciv_map.proofs.lookup.lower_bound.Tie as tie
 
@@ -20,6 +19,13 @@ abbrev μ-loop : tie.MeasureT-loop
 abbrev middle : tie.In-loop Inv-loop μ-loop → ℕ
 middle c = let l = c .before .loop in l .lo + (l .hi - l .lo) / 2
 
+-- its key lies in the file
+inside : (c : tie.In-loop Inv-loop μ-loop) → (let a = c .before .before .before .args in
+    a .base + a .stride * middle c + 8 ≤ length (a .file .now))
+inside c =
+    let at-entry = c .before .before .before in
+    key-inside _ _ _ (at-entry .args .count) (middle c) (at-entry .pre) (omega arith)
+
 loop-holds : tie.Need-loop-holds Inv-loop μ-loop
 loop-holds c = between-start _ _ _
 
@@ -28,12 +34,6 @@ sub-mid c = search needs
 
 add-mid : tie.Need-add-mid Inv-loop μ-loop
 add-mid c = search needs
-
-inside : (c : tie.In-loop Inv-loop μ-loop) → (let a = c .before .before .before .args in
-    a .base + a .stride * middle c + 8 ≤ length (a .file .now))
-inside c =
-    let at-entry = c .before .before .before in
-    key-inside _ _ _ (at-entry .args .count) (middle c) (at-entry .pre) (omega arith)
 
 mul-get64 : tie.Need-mul-get64 Inv-loop μ-loop
 mul-get64 c = omega (arith, inside c)
@@ -52,18 +52,18 @@ loop-less c = search needs
 
 loop-again : tie.Need-loop-again Inv-loop μ-loop
 loop-again c =
-    let in-loop = c .before .before in
-    let at-entry = in-loop .before .before .before in
-    between-up _ _ _ (at-entry .pre .sorted) _ _ (middle in-loop) (in-loop .before .loop .inv) (omega arith) (omega arith)
+    let at-loop = c .before .before .before in
+    let sorted = at-loop .before .before .pre .sorted in
+    between-up _ _ _ sorted _ _ (middle (c .before .before)) (at-loop .loop .inv) (omega arith) (omega arith)
 
 loop-less-2 : tie.Need-loop-less-2 Inv-loop μ-loop
 loop-less-2 c = search needs
 
 loop-again-2 : tie.Need-loop-again-2 Inv-loop μ-loop
 loop-again-2 c =
-    let in-loop = c .before .before in
-    let at-entry = in-loop .before .before .before in
-    between-down _ _ _ (at-entry .pre .sorted) _ _ (middle in-loop) (in-loop .before .loop .inv) (omega arith) (omega arith) (omega arith)
+    let at-loop = c .before .before .before in
+    let sorted = at-loop .before .before .pre .sorted in
+    between-down _ _ _ sorted _ _ (middle (c .before .before)) (at-loop .loop .inv) (omega arith) (omega arith) (omega arith)
 
 returns : tie.Need-returns Inv-loop μ-loop
 returns c = between-end _ _ _ _ _ (c .before .loop .inv) (omega arith)
