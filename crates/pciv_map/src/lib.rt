@@ -1,0 +1,1 @@
+// Reading a checked map: one slot, all of them, and their totals.
