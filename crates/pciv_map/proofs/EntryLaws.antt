@@ -4,24 +4,35 @@
 --   sum-entries         a sum over the distances, from one over the bytes and one over the entries
 --   patched P j         the primary bytes, with the distances at the slots of the first j entries
 --   readings-bytes      as many distances as bytes are not 0
+-- Last the same facts of a checked map: where its entries and primary bytes stand, and that its sums fit.
 -- Axioms: none.
 use mathlib.Core.Path.{_≡_, refl, sym, ap, ap₂, _∙_}
-use Prim.Native.Nat.{ℕ, zero, suc, _+_, _-_, _≤_, _<_}
+use Prim.Native.Nat.{ℕ, zero, suc, _+_, _-_, _*_, _^_, _≤_, _<_}
 use native.Mathlib.Nat.{zero-add, sub-zero}
 use native.Mathlib.Numerals.{add-one}
 use native.Mathlib.Omega.{arith}
 use native.Mathlib.Decide.{decLe}
-use mathlib.Core.Bool.{cond, not}
-use mathlib.Core.List.{List}
-use lib.ListN.{length, getD, set, length-set}
-use lib.Seq.{ext-getD, getD-set-same, getD-set-other}
+use mathlib.Core.Bool.{Bool, true, false, cond, not}
+use mathlib.Core.List.{List, _++_}
+use lib.ListN.{length, getD, take, drop, set, length-append, length-drop, length-set}
+use lib.Seq.{sets, set-append-left, drop-at, ext-getD, length-take-le, getD-take, getD-drop, getD-set-same, getD-set-other}
 use lib.Dec.{ltb, eqb}
 use borrow.Author.Tests.{lt-ltb, le-ltb, ne-eqb}
 use Rattle.pciv_bytes.specs.Ranges.{flag, table, sumFrom}
+use Rattle.pciv_bytes.specs.LittleEndian.{Bytes}
+use Rattle.pciv_bytes.specs.Counts.{byteAt, byteIs}
 use Rattle.pciv_bytes.proofs.RangesLaws.{length-table, getD-table, table-cong}
-use Rattle.pciv_bytes.proofs.SumLaws.{sumFrom-none, sumFrom-more, sumFrom-split, sumFrom-cong}
+use Rattle.pciv_bytes.proofs.SumLaws.{sumFrom-none, sumFrom-more, sumFrom-split, sumFrom-cong, sumFrom-rest, sumFrom-le}
+use Rattle.pciv_bytes.proofs.LittleEndianLaws.{get-lt}
+use Rattle.pciv_bytes.proofs.WriteLaws.{sets-front}
 use Rattle.pciv_format.specs.Parts.{Parts, lowestSlot, valueOf, SoundParts}
+use Rattle.pciv_format.specs.Check.{fileParts, CheckedMap}
+use Rattle.pciv_format.proofs.LayoutLaws.{fileLen-is}
 use Rattle.pciv_format.proofs.PartsLaws.{entry-good, slots-rise, valueOf-slot, valueOf-inline, slot-cases, neb-not}
+
+-- what entry j has above the byte 255
+abbrev pub excess : Parts → ℕ → ℕ
+excess P j = P .distance j - 255
 
 -- slot i after the first j entries: its distance below the least slot that entry j may have, else its byte
 abbrev patchedAt : Parts → ℕ → ℕ → ℕ
@@ -43,6 +54,18 @@ patchedAt-below P j i h = rw (lt-ltb i (lowestSlot P j) h)
 
 patchedAt-above : (P : Parts) (j i : ℕ) → lowestSlot P j ≤ i → patchedAt P j i ≡ P .byte i
 patchedAt-above P j i h = rw (le-ltb i (lowestSlot P j) h)
+
+-- a list with these at its front
+abbrev pub over : Parts → ℕ → List ℕ → List ℕ
+over P j d = patched P j ++ drop (P .n) d
+
+over-sets : (P : Parts) (j : ℕ) (d : List ℕ) → P .n ≤ length d → sets d 0 (patched P j) ≡ over P j d
+over-sets P j d long =
+    sets-front (patched P j) d (rw length-patched long) ∙ ap (λ (m : ℕ). patched P j ++ drop m d) (length-patched P j)
+
+-- only the rest of the list counts
+pub over-again : (P : Parts) (j t : ℕ) (d : List ℕ) → over P j (over P t d) ≡ over P j d
+over-again P j t d = ap (λ (l : List ℕ). patched P j ++ l) (drop-at (patched P t) (drop (P .n) d) (P .n) (length-patched P t))
 
 module _ (P : Parts) (s : SoundParts P) (bytes : (i : ℕ) → P .byte i < 256) where
   slots-le : (j t : ℕ) → j ≤ t → t < P .k → P .slot j ≤ P .slot t
@@ -119,9 +142,9 @@ module _ (P : Parts) (s : SoundParts P) (bytes : (i : ℕ) → P .byte i < 256) 
     sum-entries-of = rw (sub-zero (P .n), sub-zero (P .k)) at (sum-rest (P .k) 0 (zero-add (P .k)))
 
   pub sum-entries : sumFrom (valueOf P) 0 (P .n)
-      ≡ sumFrom (P .byte) 0 (P .n) + sumFrom (λ (j : ℕ). P .distance j - 255) 0 (P .k)
+      ≡ sumFrom (P .byte) 0 (P .n) + sumFrom (excess P) 0 (P .k)
   sum-entries =
-      sum-entries-of (λ (x : ℕ). x) (λ (j : ℕ). P .distance j - 255) (λ j h. omega (arith, entry-good P s j h .far))
+      sum-entries-of (λ (x : ℕ). x) (excess P) (λ j h. omega (arith, entry-good P s j h .far))
 
   -- a byte 255 is a reading already
   pub readings-bytes : sumFrom (λ (i : ℕ). flag (not (eqb (valueOf P i) 0))) 0 (P .n)
@@ -190,3 +213,83 @@ module _ (P : Parts) (s : SoundParts P) (bytes : (i : ℕ) → P .byte i < 256) 
       (λ i h.
       (let inside : i < P .n = rw length-patched at h in
       at-patched P (suc j) i inside ∙ patched-set j i here inside)))
+
+  -- ---- patching at the front of a list
+
+  pub over-more : (j : ℕ) (d : List ℕ) → j < P .k → set (over P j d) (P .slot j) (P .distance j) ≡ over P (j + 1) d
+  over-more j d here =
+      let inside : P .slot j < length (patched P j) = rw length-patched (entry-good P s j here .inside) in
+      set-append-left (patched P j) (drop (P .n) d) (P .slot j) (P .distance j) inside
+      ∙ ap (λ (l : List ℕ). l ++ drop (P .n) d) (sym (patched-more j here))
+
+  pub over-end : (d : List ℕ) → P .n ≤ length d → over P (P .k) d ≡ sets d 0 (table (valueOf P) 0 (P .n))
+  over-end d long = sym (over-sets P (P .k) d long) ∙ ap (sets d 0) patched-end
+
+-- ---- of the primary bytes alone
+
+flag-not : (b : Bool) → flag (not b) + flag b ≡ 1
+flag-not true = refl
+flag-not false = refl
+
+-- the bytes that are not 0 and those that are
+pub readings-rest : (xs : List ℕ)
+    → sumFrom (λ (i : ℕ). flag (not (eqb (byteAt xs i) 0))) 0 (length xs) + sumFrom (byteIs xs 0) 0 (length xs) ≡ length xs
+readings-rest xs =
+    sumFrom-rest (λ (i : ℕ). flag (not (eqb (byteAt xs i) 0))) (byteIs xs 0) (λ i. flag-not (eqb (byteAt xs i) 0)) 0 (length xs)
+
+-- ---- of a checked map
+
+module _ (b : List ℕ) (n k : ℕ) (c : CheckedMap b n k) where
+  pub entry-inside : (j : ℕ) → j < k → 40 + n + 12 * j + 12 ≤ length b
+  entry-inside j h = omega (arith, c .fits, fileLen-is n k)
+
+  pub primary-inside : 40 + n ≤ length b
+  primary-inside = omega (arith, c .fits, fileLen-is n k)
+
+  pub primary-length : length (take n (drop 40 b)) ≡ n
+  primary-length = length-take-le n (drop 40 b) (simp length-drop (omega (arith, primary-inside)))
+
+  primary-at : (i : ℕ) → i < n → getD (take n (drop 40 b)) i 0 ≡ fileParts b n k .byte i
+  primary-at i h = getD-take n (drop 40 b) i 0 h ∙ getD-drop 40 b i 0
+
+  primary-table : take n (drop 40 b) ≡ table (fileParts b n k .byte) 0 n
+  primary-table =
+      let byte : ℕ → ℕ = fileParts b n k .byte in
+      ext-getD 0 _ _ (primary-length ∙ sym (length-table byte 0 n))
+      (λ i h.
+        (let inside : i < n = rw primary-length at h in
+        primary-at i inside ∙ sym (getD-table byte 0 0 n i inside ∙ ap byte (zero-add i))))
+
+  module _ (bytes : Bytes b) where
+    -- the primary bytes at the front of a list, patched by no entry yet
+    pub primary-over : (d : List ℕ) → n ≤ length d → sets d 0 (take n (drop 40 b)) ≡ over (fileParts b n k) 0 d
+    primary-over d long =
+        ap (sets d 0) (primary-table ∙ sym (patched-start (fileParts b n k) (c .parts) (λ i. bytes (40 + i))))
+        ∙ over-sets (fileParts b n k) 0 d long
+
+    -- the sum of the primary bytes and what the entries have above them
+    pub sum-parts : sumFrom (byteAt (take n (drop 40 b))) 0 (length (take n (drop 40 b))) + sumFrom (excess (fileParts b n k)) 0 k
+        ≡ sumFrom (valueOf (fileParts b n k)) 0 n
+    sum-parts =
+        rw primary-length
+        (omega (
+          arith,
+          sumFrom-cong (byteAt (take n (drop 40 b))) (fileParts b n k .byte) 0 n (λ i h₁ h₂. primary-at i (omega arith)),
+          sum-entries (fileParts b n k) (c .parts) (λ i. bytes (40 + i))
+        ))
+
+    -- at most 2 ^ 20 distances, each below 2 ^ 32
+    pub sum-lt : sumFrom (valueOf (fileParts b n k)) 0 n < 2 ^ 52
+    sum-lt =
+        let P = fileParts b n k in
+        omega (
+          arith,
+          c .header .small,
+          c .header .few,
+          sum-entries P (c .parts) (λ i. bytes (40 + i)),
+          sumFrom-le (P .byte) 255 (λ i. omega (arith, bytes (40 + i))) 0 n,
+          sumFrom-le (excess P) 4294967040 (λ j. omega (arith, get-lt 4 b (40 + n + 12 * j + 8) bytes)) 0 k
+        )
+
+    pub excess-lt : sumFrom (excess (fileParts b n k)) 0 k < 2 ^ 52
+    excess-lt = omega (arith, sum-parts, sum-lt)
