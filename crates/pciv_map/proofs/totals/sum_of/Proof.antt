@@ -1,55 +1,51 @@
-use mathlib.Core.Path.{_≡_, ap₂, _∙_}
+-- Proves totals::sum_of: what the two passes add up to is the sum of all distances, which fits.
+use mathlib.Core.Path.{ap₂, _∙_}
 use Prim.Native.Nat.{ℕ, _+_}
 use native.Mathlib.Nat.{add-sub-cancel-left}
 use native.Mathlib.Omega.{arith}
-use Rattle.pciv_map.proofs.EntryLaws.{primary-inside, sum-parts, sum-lt}
 use borrow.Author.Needs.{needs}
+use Rattle.pciv_bytes.specs.LittleEndian.{Bytes}
+use Rattle.pciv_map.proofs.MapLaws.{primary-inside, sum-primary, sum-lt}
 use Rattle.pciv_map.proofs.totals.sum_of.Statement.{statement}
 use Rattle.pciv_map.proofs.totals.sum_of.Tie as tie
-use Rattle.pciv_map.proofs.totals.sum_of.Reads as reads
-use Rattle.pciv_map.proofs.totals.sum_of.Lts as lts
-use Rattle.pciv_bytes.proofs.counts.sum_bytes.Reads as sum-bytes-reads
-use Rattle.pciv_map.proofs.totals.excess_of.Reads as excess-of-reads
 
--- src/totals.rt:36:15
+bytes : (c : tie.After-shared-slice-known) → Bytes (c .before .args .file .now)
+bytes c i = c .shared-slice-known .given i .fits
+
 add-end : tie.Need-add-end
 add-end c = search needs
 
--- src/totals.rt:37:15
 sub-sum-bytes : tie.Need-sub-sum-bytes
 sub-sum-bytes c = search needs
 
--- src/totals.rt:37:15
 part-sum-bytes-start : tie.Need-part-sum-bytes-start
 part-sum-bytes-start c = search needs
 
--- src/totals.rt:37:15
 part-sum-bytes-end : tie.Need-part-sum-bytes-end
 part-sum-bytes-end c =
     let s = c .before in
-    omega (arith, primary-inside (s .args .file .now) (s .args .n) (s .args .k) (s .pre))
+    primary-inside (s .args .file .now) (s .args .n) (s .args .k) (s .pre)
 
--- src/totals.rt:37:5
 sum-bytes-requires : tie.Need-sum-bytes-requires
 sum-bytes-requires c κs = search needs
 
--- src/totals.rt:37:41
 excess-of-requires : tie.Need-excess-of-requires
 excess-of-requires c κs = search needs
 
--- src/totals.rt:32:1
 returns : tie.Need-returns
 returns c =
-    let s = c .before .before .before .before in
+    let known = c .before .before .before in
+    let s = known .before in
     let a = s .args in
-    ap₂ (λ (x y : ℕ). x + y) (rw (add-sub-cancel-left 40 (a .n)) at (c .before .sum-bytes .ensures)) (c .excess-of .ensures)
-    ∙ sum-parts (a .file .now) (a .n) (a .k) (s .pre) (λ i. c .before .before .before .shared-slice-known .given i .fits)
+    let primary = rw (add-sub-cancel-left 40 (a .n)) at (c .before .sum-bytes .ensures) in
+    ap₂ (λ (x y : ℕ). x + y) primary (c .excess-of .ensures)
+    ∙ sum-primary (a .file .now) (a .n) (a .k) (s .pre) (bytes known)
 
--- src/totals.rt:37:5
 add-result : tie.Need-add-result
 add-result c =
-    let s = c .before .before .before .before in
-    omega (arith, returns c, sum-lt (s .args .file .now) (s .args .n) (s .args .k) (s .pre) (λ i. c .before .before .before .shared-slice-known .given i .fits))
+    let known = c .before .before .before in
+    let s = known .before in
+    omega (arith, returns c, sum-lt (s .args .file .now) (s .args .n) (s .args .k) (s .pre) (bytes known))
 
 pub sum-of-spec : {M : Type 1} → statement M
 sum-of-spec =
