@@ -30,7 +30,7 @@ bytes : (c : tie.After-shared-slice-known Inv-loop μ-loop) → Bytes (c .before
 bytes c i = c .shared-slice-known .given i .fits
 
 loop-holds : tie.Need-loop-holds Inv-loop μ-loop
-loop-holds c = rw sub-zero at (added-none (excess (parts (c .before))) (c .before .args .k) 0 (omega arith))
+loop-holds c = rw sub-zero at (added-none (excess (parts (c .before))) 0 (c .before .args .k) (omega arith))
 
 entry-distance-requires : tie.Need-entry-distance-requires Inv-loop μ-loop
 entry-distance-requires c κs =
@@ -54,7 +54,7 @@ loop-again c =
     let d = c .before .before in
     let s = d .before .before in
     rw (c .entry-distance .ensures)
-    (added-one (excess (parts s)) (s .args .k) _ (d .loop .j) (d .loop .sum) (d .loop .inv) (omega arith))
+    (added-one (d .loop .inv) (omega arith))
 
 add-sum : tie.Need-add-sum Inv-loop μ-loop
 add-sum c =
@@ -71,8 +71,7 @@ loop-less c = search needs
 returns : tie.Need-returns Inv-loop μ-loop
 returns c =
     let d = c .before in
-    let s = d .before .before in
-    added-all (excess (parts s)) (s .args .k) _ (d .loop .j) (d .loop .sum) (d .loop .inv) (omega arith)
+    added-all (d .loop .inv) (omega arith)
 
 pub excess-of-spec : {M : Type 1} → statement M
 excess-of-spec =
