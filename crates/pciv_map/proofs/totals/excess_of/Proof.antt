@@ -60,7 +60,8 @@ add-sum : tie.Need-add-sum Inv-loop μ-loop
 add-sum c =
     let known = c .before .before .before in
     let s = known .before in
-    omega (arith, loop-again c .rest, excess-lt (s .args .file .now) (s .args .n) (s .args .k) (s .pre) (bytes known))
+    let fits = excess-lt (s .args .file .now) (s .args .n) (s .args .k) (s .pre) (bytes known) in
+    omega (arith, loop-again c .rest)
 
 add-j : tie.Need-add-j Inv-loop μ-loop
 add-j c = search needs
