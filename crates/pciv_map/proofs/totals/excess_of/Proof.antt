@@ -30,7 +30,7 @@ bytes : (c : tie.After-shared-slice-known Inv-loop μ-loop) → Bytes (c .before
 bytes c i = c .shared-slice-known .given i .fits
 
 loop-holds : tie.Need-loop-holds Inv-loop μ-loop
-loop-holds c = rw sub-zero at (added-none (excess (parts (c .before))) (c .before .args .k) 0 (omega arith))
+loop-holds c = rw sub-zero at (added-none (excess (parts (c .before))) 0 (c .before .args .k) (omega arith))
 
 entry-distance-requires : tie.Need-entry-distance-requires Inv-loop μ-loop
 entry-distance-requires c κs =
@@ -50,11 +50,7 @@ cast-sum-2 : tie.Need-cast-sum-2 Inv-loop μ-loop
 cast-sum-2 c = search needs
 
 loop-again : tie.Need-loop-again Inv-loop μ-loop
-loop-again c =
-    let d = c .before .before in
-    let s = d .before .before in
-    rw (c .entry-distance .ensures)
-    (added-one (excess (parts s)) (s .args .k) _ (d .loop .j) (d .loop .sum) (d .loop .inv) (omega arith))
+loop-again c = rw (c .entry-distance .ensures) (added-one (c .before .before .loop .inv) (omega arith))
 
 add-sum : tie.Need-add-sum Inv-loop μ-loop
 add-sum c =
@@ -70,10 +66,7 @@ loop-less : tie.Need-loop-less Inv-loop μ-loop
 loop-less c = search needs
 
 returns : tie.Need-returns Inv-loop μ-loop
-returns c =
-    let d = c .before in
-    let s = d .before .before in
-    added-all (excess (parts s)) (s .args .k) _ (d .loop .j) (d .loop .sum) (d .loop .inv) (omega arith)
+returns c = added-all (c .before .loop .inv) (omega arith)
 
 pub excess-of-spec : {M : Type 1} → statement M
 excess-of-spec =
