@@ -8,6 +8,7 @@ mod judge;
 mod lists;
 mod rng;
 mod routines;
+mod trial;
 
 use damage::Damage;
 use judge::Judge;
@@ -59,7 +60,7 @@ impl Run {
         let case = make(&mut rng);
         self.cases += 1;
         self.judge.case = format!(
-            "{group} {number}, PCIV_SEED={:#x} PCIV_CASE={seed:#x}\n  file:      {}, {} bytes",
+            "{group} {number}, PCIV_SEED={:#x} PCIV_CASE={seed:#x}\n  file:     {}, {} bytes",
             self.seed,
             case.what,
             case.file.len()

@@ -2,90 +2,66 @@
 
 use crate::judge::Judge;
 use crate::rng::Rng;
+use crate::trial::Trial;
 use reference::Summary;
 
-/// Largest displacement of a file from an aligned address.
+/// Files start anywhere up to here in their memory, so at any alignment.
 const MAX_SHIFT: usize = 16;
 
-/// Compares every routine on a file, which lies at any address between bytes that do not matter.
+/// Compares every routine on a file.
 pub fn compare_file(judge: &mut Judge, rng: &mut Rng, file: &[u8]) {
-    let start = rng.below(MAX_SHIFT);
-    let mut memory = vec![reference::SENTINEL; start + file.len() + MAX_SHIFT];
-    memory[start..start + file.len()].copy_from_slice(file);
-    let before = memory.clone();
-    let lent = &memory[start..start + file.len()];
-    match reference::check(file) {
-        Ok(summary) => sound_file(judge, rng, lent, &summary),
-        Err(_) => refused_file(judge, rng, lent),
+    let mut trial = Trial::new(judge, file, rng.below(MAX_SHIFT));
+    trial.check();
+    trial.primary();
+    trial.sum();
+    trial.readings();
+    for capacity in capacities(rng, reference::report_text(file).len()) {
+        trial.report(capacity);
     }
-    judge.buffer(
-        &"all calls: the file and what surrounds it",
-        &before,
-        &memory,
-    );
+    match reference::check(file) {
+        Ok(summary) => sound_file(&mut trial, rng, &summary),
+        Err(_) => refused_file(&mut trial, rng),
+    }
 }
 
-/// Compares the reference itself with the list that a file was made of.
+/// Compares the reference with the list that a file was made of.
 pub fn compare_list(judge: &mut Judge, file: &[u8], distances: &[u32]) {
     let decoded = reference::decode(file).unwrap_or_default();
-    judge.buffer(&"decode of the list's file", distances, &decoded);
+    judge.same_buffer(&"the reference's list", distances, &decoded);
 }
 
-fn sound_file(judge: &mut Judge, rng: &mut Rng, file: &[u8], summary: &Summary) {
-    whole_file_calls(judge, file);
-    let n = summary.n as usize;
-    for capacity in capacities(n, rng) {
-        judge.scan(file, capacity);
+fn sound_file(trial: &mut Trial, rng: &mut Rng, summary: &Summary) {
+    for capacity in capacities(rng, summary.n as usize) {
+        trial.scan(capacity);
     }
-    let slots = telling_slots(rng, file, summary);
-    let beyond = [
-        summary.n,
-        summary.n + 1,
-        summary.n + (1 << 32),
-        1 << 63,
-        u64::MAX,
-    ];
-    for &slot in slots.iter().chain(&beyond) {
-        judge.lookup(file, slot);
+    let inside = telling_slots(rng, trial.original(), summary);
+    let beyond = [summary.n, summary.n + 1, 1 << 32, 1 << 63, u64::MAX];
+    for &slot in inside.iter().chain(&beyond) {
+        trial.lookup(slot);
     }
-    lookup_lists(judge, rng, file, &slots, &beyond);
-    for capacity in capacities(reference::report_text(file).len(), rng) {
-        judge.report(file, capacity);
-    }
+    lookup_lists(trial, rng, &inside, &beyond);
 }
 
 /// Calls whose own faults must not come before those of the file.
-fn refused_file(judge: &mut Judge, rng: &mut Rng, file: &[u8]) {
-    whole_file_calls(judge, file);
-    judge.scan(file, 0);
-    judge.scan(file, file.len());
-    judge.lookup(file, 0);
-    judge.lookup(file, u64::MAX);
-    judge.lookup_list(file, &[0, u64::MAX, rng.next()], rng.below(5));
-    for capacity in capacities(reference::report_text(file).len(), rng) {
-        judge.report(file, capacity);
-    }
+fn refused_file(trial: &mut Trial, rng: &mut Rng) {
+    trial.scan(0);
+    trial.scan(trial.original().len());
+    trial.lookup(0);
+    trial.lookup(u64::MAX);
+    trial.lookup_list(&[0, u64::MAX, rng.next()], rng.below(5));
 }
 
-fn whole_file_calls(judge: &mut Judge, file: &[u8]) {
-    judge.check(file);
-    judge.primary(file);
-    judge.sum(file);
-    judge.readings(file);
-}
-
-/// Capacities for a result of `len` elements: exact, none, one short, generous.
-fn capacities(len: usize, rng: &mut Rng) -> Vec<usize> {
+/// Capacities for a result of `len` elements: exact, generous, one short, none.
+fn capacities(rng: &mut Rng, len: usize) -> Vec<usize> {
     let mut capacities = vec![len, len + 1 + rng.below(20)];
     if len > 0 {
-        capacities.push(len - 1);
-        capacities.push(0);
+        capacities.extend([len - 1, 0]);
     }
     capacities
 }
 
-/// Slots below n where a lookup may go wrong: the ends, random ones, overflow slots at the ends of
-/// the overflow entries and about the first and last index entries.
+/// Slots below n where a lookup may go wrong: both ends, random ones, and those about telling
+/// overflow entries.
 fn telling_slots(rng: &mut Rng, file: &[u8], summary: &Summary) -> Vec<u64> {
     let n = summary.n as usize;
     if n == 0 {
@@ -101,7 +77,8 @@ fn telling_slots(rng: &mut Rng, file: &[u8], summary: &Summary) -> Vec<u64> {
     slots
 }
 
-/// Overflow entries at the ends, at the start of a block of the index and just before and after.
+/// Overflow entries at both ends, a random one, and those about the second and the last index
+/// entry.
 fn telling_entries(rng: &mut Rng, summary: &Summary) -> Vec<usize> {
     let k = summary.k as usize;
     if k == 0 {
@@ -110,8 +87,9 @@ fn telling_entries(rng: &mut Rng, summary: &Summary) -> Vec<usize> {
     let step = summary.step as usize;
     let last_indexed = (k - 1) / step.max(1) * step;
     let mut entries = vec![0, k - 1, rng.below(k)];
-    entries.extend([step.wrapping_sub(1), step, last_indexed, last_indexed + 1]);
-    entries.push(last_indexed.wrapping_sub(1));
+    for indexed in [step, last_indexed] {
+        entries.extend([indexed.wrapping_sub(1), indexed, indexed + 1]);
+    }
     entries.retain(|&entry| entry < k);
     entries.sort_unstable();
     entries.dedup();
@@ -123,30 +101,21 @@ fn overflow_slot(file: &[u8], n: usize, entry: usize) -> u64 {
     u64::from_le_bytes(file[at..at + 8].try_into().expect("eight bytes"))
 }
 
-/// Lists of slots below n, and the same with slots beyond n at several positions.
-fn lookup_lists(judge: &mut Judge, rng: &mut Rng, file: &[u8], slots: &[u64], beyond: &[u64]) {
-    for capacity in capacities(0, rng) {
-        judge.lookup_list(file, &[], capacity);
-    }
-    let list = shuffled_with_repeats(rng, slots);
-    for capacity in capacities(list.len(), rng) {
-        judge.lookup_list(file, &list, capacity);
+/// Lists of slots inside the map, and the same with slots beyond it at several positions.
+fn lookup_lists(trial: &mut Trial, rng: &mut Rng, inside: &[u64], beyond: &[u64]) {
+    let mut list = inside.to_vec();
+    list.extend((0..inside.len()).map(|_| rng.pick(inside)));
+    for capacity in capacities(rng, list.len()) {
+        trial.lookup_list(&list, capacity);
+        trial.lookup_list(&[], capacity);
     }
     for position in [0, list.len() / 2, list.len()] {
         let mut refused = list.clone();
         refused.insert(position, rng.pick(beyond));
-        judge.lookup_list(file, &refused, refused.len());
+        trial.lookup_list(&refused, refused.len());
         refused.push(rng.pick(beyond));
-        for capacity in capacities(refused.len(), rng) {
-            judge.lookup_list(file, &refused, capacity);
+        for capacity in capacities(rng, refused.len()) {
+            trial.lookup_list(&refused, capacity);
         }
     }
-}
-
-fn shuffled_with_repeats(rng: &mut Rng, slots: &[u64]) -> Vec<u64> {
-    if slots.is_empty() {
-        return Vec::new();
-    }
-    let repeats = (0..slots.len() + 3).map(|_| rng.pick(slots));
-    slots.iter().copied().chain(repeats).collect()
 }
