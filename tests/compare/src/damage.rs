@@ -1,6 +1,6 @@
 //! Faults to put into a sound file.
 
-use crate::rng::Rng;
+use compare::rng::Rng;
 use reference::Summary;
 
 const MAGIC_LEN: usize = 8;

@@ -8,11 +8,15 @@ const CORNERS: [u32; 7] = [0, 1, 254, 255, 256, 300, u32::MAX];
 /// How the overflow slots of a list lie.
 #[derive(Clone, Copy, Debug)]
 pub enum Spread {
+    /// They are the first slots.
     Front,
+    /// They are the last slots.
     Back,
+    /// They are random.
     Scattered,
 }
 
+/// All of them.
 pub const SPREADS: [Spread; 3] = [Spread::Front, Spread::Back, Spread::Scattered];
 
 /// A list of `n` distances in one of several mixtures.

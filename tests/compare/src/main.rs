@@ -5,15 +5,13 @@
 
 mod damage;
 mod judge;
-mod lists;
-mod rng;
 mod routines;
 mod trial;
 
+use compare::lists::{self, Spread, SPREADS};
+use compare::rng::{case_seed, Rng};
 use damage::Damage;
 use judge::Judge;
-use lists::{Spread, SPREADS};
-use rng::{case_seed, Rng};
 use std::{env, process};
 
 const DEFAULT_SEED: u64 = 0x5043_4956_0000_0001;

@@ -1,12 +1,15 @@
 //! SplitMix64: small, fast, and the same everywhere.
 
+/// A source of random numbers.
 pub struct Rng(u64);
 
 impl Rng {
+    /// The source that starts from a seed.
     pub fn new(seed: u64) -> Rng {
         Rng(seed)
     }
 
+    /// The next 64 bits.
     pub fn next(&mut self) -> u64 {
         self.0 = self.0.wrapping_add(0x9E37_79B9_7F4A_7C15);
         let mut z = self.0;
@@ -20,14 +23,17 @@ impl Rng {
         (self.next() % bound as u64) as usize
     }
 
+    /// One of several choices.
     pub fn pick<T: Copy>(&mut self, choices: &[T]) -> T {
         choices[self.below(choices.len())]
     }
 
+    /// The next byte.
     pub fn byte(&mut self) -> u8 {
         self.next() as u8
     }
 
+    /// The next bytes.
     pub fn bytes(&mut self, len: usize) -> Vec<u8> {
         (0..len).map(|_| self.byte()).collect()
     }

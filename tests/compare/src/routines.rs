@@ -1,8 +1,8 @@
 //! The calls made for one file.
 
 use crate::judge::Judge;
-use crate::rng::Rng;
 use crate::trial::Trial;
+use compare::rng::Rng;
 use reference::Summary;
 
 /// Files start anywhere up to here in their memory, so at any alignment.
