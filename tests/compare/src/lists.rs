@@ -28,7 +28,7 @@ pub fn mixed(rng: &mut Rng, n: usize) -> Vec<u32> {
         mostly_inline,
         |_| 0,
         |_| 255,
-        |rng| rng.next() as u32,
+        |rng| rng.word() as u32,
     ]);
     (0..n).map(|_| distance(rng)).collect()
 }
@@ -58,14 +58,14 @@ fn corner(rng: &mut Rng) -> u32 {
 }
 
 fn inline(rng: &mut Rng) -> u32 {
-    (rng.next() % 255) as u32
+    (rng.word() % 255) as u32
 }
 
 fn overflow(rng: &mut Rng) -> u32 {
     match rng.below(4) {
         0 => corner(rng).max(255),
         1 => 255 + inline(rng),
-        _ => (rng.next() as u32).max(255),
+        _ => (rng.word() as u32).max(255),
     }
 }
 

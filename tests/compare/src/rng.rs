@@ -10,7 +10,7 @@ impl Rng {
     }
 
     /// The next 64 bits.
-    pub fn next(&mut self) -> u64 {
+    pub fn word(&mut self) -> u64 {
         self.0 = self.0.wrapping_add(0x9E37_79B9_7F4A_7C15);
         let mut z = self.0;
         z = (z ^ (z >> 30)).wrapping_mul(0xBF58_476D_1CE4_E5B9);
@@ -20,7 +20,7 @@ impl Rng {
 
     /// A number below `bound`, which is not 0.
     pub fn below(&mut self, bound: usize) -> usize {
-        (self.next() % bound as u64) as usize
+        (self.word() % bound as u64) as usize
     }
 
     /// One of several choices.
@@ -30,7 +30,7 @@ impl Rng {
 
     /// The next byte.
     pub fn byte(&mut self) -> u8 {
-        self.next() as u8
+        self.word() as u8
     }
 
     /// The next bytes.
@@ -43,6 +43,6 @@ impl Rng {
 pub fn case_seed(run: u64, group: &str, number: usize) -> u64 {
     let named = group
         .bytes()
-        .fold(run, |seed, byte| Rng::new(seed ^ u64::from(byte)).next());
-    Rng::new(named ^ number as u64).next()
+        .fold(run, |seed, byte| Rng::new(seed ^ u64::from(byte)).word());
+    Rng::new(named ^ number as u64).word()
 }

@@ -48,7 +48,7 @@ fn refused_file(trial: &mut Trial, rng: &mut Rng) {
     trial.scan(trial.original().len());
     trial.lookup(0);
     trial.lookup(u64::MAX);
-    trial.lookup_list(&[0, u64::MAX, rng.next()], rng.below(5));
+    trial.lookup_list(&[0, u64::MAX, rng.word()], rng.below(5));
 }
 
 /// Capacities for a result of `len` elements: exact, generous, one short, none.
