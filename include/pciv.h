@@ -59,7 +59,8 @@ enum pciv_refusal_number {
     PCIV_SIZE_MISMATCH = 10,         /* two maps differ in n */
     PCIV_DISTANCE_OVERFLOW = 11,     /* a resulting distance is above 4,294,967,295; place: the
                                         least such slot */
-    PCIV_BUFFER_TOO_SMALL = 12,      /* the result does not fit into the caller's buffer */
+    PCIV_BUFFER_TOO_SMALL = 12,      /* the result does not fit into the caller's buffer, or the
+                                        report program's input is longer than 65,536 bytes */
     PCIV_BAD_MASK = 13               /* a mask has another number of words than n needs, or a bit
                                         set past n */
 };

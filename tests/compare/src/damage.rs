@@ -109,7 +109,7 @@ fn counts(summary: &Summary) -> Vec<Damage> {
     let fields = [(8, n), (16, k), (24, m), (32, step)];
     let single = fields
         .into_iter()
-        .flat_map(|(at, value)| near(value).map(move |wrong| Damage::write64(at, wrong)));
+        .flat_map(|(at, value)| other_values(value).map(move |wrong| Damage::write64(at, wrong)));
     let combined = wrapping_counts(n, k, m, step)
         .into_iter()
         .map(|counts| Damage::Write(8, counts.map(u64::to_le_bytes).concat()));
@@ -117,7 +117,7 @@ fn counts(summary: &Summary) -> Vec<Damage> {
 }
 
 /// Other values for a count: next to it, at borders, and equal to it in its low bits.
-fn near(value: u64) -> impl Iterator<Item = u64> {
+fn other_values(value: u64) -> impl Iterator<Item = u64> {
     let neighbours = [value.wrapping_sub(1), value + 1, value + 2, value ^ 1];
     let borders = [
         0,
@@ -255,7 +255,7 @@ fn index(file: &[u8], layout: &Layout) -> Vec<Damage> {
             [at, at + 8].into_iter().flat_map(|half| {
                 let bytes = (half..half + 8).flat_map(|at| flipped(file, at, &[0x01, 0x80]));
                 let value = le64(&file[half..half + 8]);
-                let values = near(value).map(move |wrong| Damage::write64(half, wrong));
+                let values = other_values(value).map(move |wrong| Damage::write64(half, wrong));
                 bytes.chain(values).collect::<Vec<_>>()
             })
         })

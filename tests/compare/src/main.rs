@@ -74,26 +74,31 @@ impl Run {
 
     /// Prints the verdict; answers the exit code.
     fn conclude(&self) -> i32 {
-        let Judge {
-            calls,
-            differences,
-            refusals,
-            ..
-        } = &self.judge;
         println!(
-            "compare: {} cases, {calls} calls, seed {:#x}, {differences} differences",
-            self.cases, self.seed
+            "compare: {} cases, {} calls, seed {:#x}, {} differences",
+            self.cases, self.judge.calls, self.seed, self.judge.differences
         );
-        let unseen = READING_REFUSALS
-            .iter()
-            .find(|&&number| refusals[number] == 0);
-        match unseen {
-            Some(number) if self.only.is_none() && *differences == 0 => {
-                println!("compare: no case was refused with {number}");
+        if self.judge.differences > 0 {
+            return 1;
+        }
+        match self.gap() {
+            Some(gap) => {
+                println!("compare: {gap}");
                 1
             }
-            _ => i32::from(*differences > 0),
+            None => 0,
         }
+    }
+
+    /// What a run without differences has failed to try.
+    fn gap(&self) -> Option<String> {
+        if let Some(only) = self.only {
+            return (self.cases == 0).then(|| format!("no case has the seed {only:#x}"));
+        }
+        READING_REFUSALS
+            .iter()
+            .find(|&&number| self.judge.refusals[number] == 0)
+            .map(|number| format!("no call was refused with {number}"))
     }
 }
 

@@ -25,14 +25,14 @@ fn portrait() -> Vec<u32> {
         .collect()
 }
 
-/// The distance in centimetres at one pixel, 0 for a hole.
+/// The distance in centimetres at one pixel, 0 where none is measured.
 fn distance_at(x: u32, y: u32) -> u32 {
     let pixel = Pixel {
         x: f64::from(x),
         y: f64::from(y),
         grain: grain(x, y),
     };
-    if pixel.is_hole() {
+    if pixel.is_lost() {
         return 0;
     }
     let depth = pixel
@@ -76,8 +76,8 @@ impl Pixel {
         self.radius2((68.0, 46.0), (23.0, 31.0))
     }
 
-    /// Stray hair gives no reading along the upper rim of the head.
-    fn is_hole(&self) -> bool {
+    /// Stray hair scatters the light along the upper rim of the head: no distance is measured.
+    fn is_lost(&self) -> bool {
         let rim = (self.head_radius2() - 1.02).abs();
         let chance = 0.9 - 6.0 * rim;
         self.y < 52.0 && self.grain < chance
