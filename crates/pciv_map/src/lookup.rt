@@ -1,7 +1,9 @@
 // The distance at a slot of a checked map, through the sparse index where there is one.
 // What is counted is defined in specs/Lookup.antt, and a slot's distance in pciv_format, specs/Parts.antt.
 ghost use mathlib.Core.Path.{_≡_};
+ghost use mathlib.Core.Bool.{cond};
 ghost use Prim.Native.Nat.{_^_, _<_};
+ghost use lib.Dec.{ltb};
 ghost use Rattle.pciv_format.specs.Parts.{valueOf};
 ghost use Rattle.pciv_format.specs.Check.{fileParts, CheckedMap};
 ghost use Rattle.pciv_map.specs.Lookup.{lowerBound, entriesBelow, blockStart, blockEnd, keyAt, KeyTable};
@@ -10,22 +12,33 @@ use pciv_bytes::little_endian::get64;
 use pciv_format::HEADER_LEN;
 use pciv_format::SENTINEL;
 
+// Keys are below half of the numbers that fit.
+const HALF_RANGE: usize = 0x8000_0000_0000_0000;
+
+// `rest` where `found` is below `key`, else 0. Computed without a branch, which a search would guess
+// wrong every other time.
+fn rest_if_below(found: usize, key: usize, rest: usize) -> usize
+    requires { ⌜ (found < 2 ^ 63) × (key < 2 ^ 63) ⌝ }
+    ensures { λ r. ⌜ r ≡ cond (ltb found key) rest 0 ⌝ }
+{
+    rest * ((key + (HALF_RANGE - 1) - found) / HALF_RANGE)
+}
+
 // The number of keys below `key` in a sorted table of count records, which starts at `base` and has a
 // record every `stride` bytes.
 fn lower_bound(file: &[u8], base: usize, stride: usize, count: usize, key: usize) -> usize
     requires { ⌜ KeyTable (now file) base stride count ⌝ }
+    requires { ⌜ key < 2 ^ 63 ⌝ }
     ensures { λ r. ⌜ r ≡ lowerBound (keyAt (now (file .entry)) base stride) key count ⌝ }
 {
     let mut lo: usize = 0;
-    let mut hi = count;
-    while lo < hi {
-        let mid = lo + (hi - lo) / 2;
-        let found = get64(file, base + stride * mid);
-        if found < key {
-            lo = mid + 1;
-        } else {
-            hi = mid;
-        }
+    let mut len = count;
+    while 0 < len {
+        let half = len / 2;
+        let rest = len - half;
+        let found = get64(file, base + stride * (lo + rest - 1));
+        lo += rest_if_below(found, key, rest);
+        len = half;
     }
     lo
 }
@@ -53,11 +66,15 @@ fn block_end(i: usize, m: usize, step: usize, k: usize) -> usize
 }
 
 // The number of overflow entries with a smaller slot: where the entry of the slot stands, if it has one.
-// The index names a block of the entries; without an index the block is all of them.
+// The m and the step of the sparse index stand in the header. The index names a block of the entries; where
+// there is no index, m is 0 and the block is all of them.
 pub fn entry_of(file: &[u8], n: usize, k: usize, slot: usize) -> usize
     requires { ⌜ CheckedMap (now file) n k ⌝ }
     ensures { λ r. ⌜ r ≡ entriesBelow (fileParts (now (file .entry)) n k) slot ⌝ }
 {
+    if n <= slot {
+        return k;
+    }
     let m = get64(file, 24);
     let step = get64(file, 32);
     let entries = HEADER_LEN + n;
