@@ -41,9 +41,9 @@ file-read xs l =
     let h = file-checked n (at xs) (l .count) (l .each) .header in
     ext-getD 0 (listOf b) xs (length-listOf b ∙ h .nIs)
     (λ i hi.
-      (let i<n : i < n = omega (arith, length-listOf b, h .nIs) in
-      at-listOf b i (omega (arith, h .nIs))
-      ∙ rw (h .nIs, h .kIs) (file-value n (at xs) (l .count) (l .each) i i<n)))
+    (let i<n : i < n = omega (arith, length-listOf b, h .nIs) in
+    at-listOf b i (omega (arith, h .nIs))
+    ∙ rw (h .nIs, h .kIs) (file-value n (at xs) (l .count) (l .each) i i<n)))
 
 -- what an accepted file is
 pub record IsFile (b : List ℕ) (s : Summary) : Type 0 where
@@ -62,22 +62,21 @@ accepted-is-file mp b s bytes e =
     let same : (i : ℕ) → i < n → at (listOf b) i ≡ valueAt b i = at-listOf b in
     record {
       limits =
-        record {
-          count = omega (arith, len, c .header .small);
-          each = λ i h. (let h' : i < n = omega (arith, len) in omega (arith, same i h', checked-value-le b n k bytes c i h'))
-        };
+          record {
+            count = omega (arith, len, c .header .small);
+            each = λ i h. (let h' : i < n = omega (arith, len) in omega (arith, same i h', checked-value-le b n k bytes c i h'));
+          };
       bytes =
-        sym (rw len (file-cong n (at (listOf b)) (valueAt b) same ∙ checked-file b n k bytes c (accepted-length b n k s a)));
-      counts = a .counts ∙ ap (countsOf n) (sym (checked-count b n k bytes c)) ∙ sym (rw len (summary-cong n (at (listOf b)) (valueAt b) same))
+          sym (rw len (file-cong n (at (listOf b)) (valueAt b) same ∙ checked-file b n k bytes c (accepted-length b n k s a)));
+      counts = a .counts ∙ ap (countsOf n) (sym (checked-count b n k bytes c)) ∙ sym (rw len (summary-cong n (at (listOf b)) (valueAt b) same));
     }
 
 pub accepted-iff : (mp : ℕ) (b : List ℕ) → Bytes b
     → ((s : Summary) × (checkFile mp b ≡ done s)) ↔ ((xs : List ℕ) × Limits xs × (b ≡ fileOf xs))
-accepted-iff mp b bytes =
-    (
-      λ a. (let f = accepted-is-file mp b (a .0) bytes (a .1) in (listOf b, f .limits, f .bytes)),
-      λ x. (summaryOf (x .0), ap (checkFile mp) (x .2) ∙ file-accepted mp (x .0) (x .1))
-    )
+accepted-iff mp b bytes = (
+  λ a. (let f = accepted-is-file mp b (a .0) bytes (a .1) in (listOf b, f .limits, f .bytes)),
+  λ x. (summaryOf (x .0), ap (checkFile mp) (x .2) ∙ file-accepted mp (x .0) (x .1)),
+)
 
 pub fileOf-inj : (xs ys : List ℕ) → Limits xs → Limits ys → fileOf xs ≡ fileOf ys → xs ≡ ys
 fileOf-inj xs ys l m e = sym (file-read xs l) ∙ ap listOf e ∙ file-read ys m

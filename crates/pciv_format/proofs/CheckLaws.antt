@@ -14,7 +14,7 @@ use Rattle.pciv_format.specs.Parts.{badEntry, badSlot, SoundParts}
 use Rattle.pciv_format.specs.Check.{nField, kField, mField, stepField, fileParts, badIndexEntry, badCounts, checkParts, checkHeader, checkWith, otherLength, checkFile, checkBuffer, CheckedHeader, CheckedMap}
 use Rattle.pciv_format.specs.declared.Summary.{Summary}
 use Rattle.pciv_format.proofs.PartsLaws.{or-false, not-eqb, eqb-not}
-use Rattle.pciv_format.proofs.RefusalsLaws.{refuseIf-done, refuseFirst-done, refuseFirst-none}
+use Rattle.pciv_format.proofs.RefusalsLaws.{refuseIf-done, refuseFirst-done, refuseFirst-none, andThen-done}
 use Rattle.pciv_format.proofs.LayoutLaws.{fileLen-is}
 
 -- ---- the counts of the header
@@ -25,28 +25,58 @@ badCounts-good n k m step few e₁ e₂ = rw (le-ltb n k few, eqb-not step (inde
 
 -- ---- done, from what is checked
 
-module _ (wrong : ℕ → ℕ → Bool) (mp : ℕ) (b : List ℕ) (n k : ℕ) where
-  pub checkWith-done : CheckedMap b n k → wrong (length b) (fileLen n k) ≡ false → checkWith wrong mp b ≡ done (countsOf n k)
-  unfolding checkWith checkHeader checkParts
-  checkWith-done c right =
-      let h = c .header in
-      let long : 40 ≤ length b = omega (arith, c .fits, fileLen-is n k) in
-      rw (
-        h .nIs,
-        h .kIs,
-        h .mIs,
-        h .stepIs,
-        le-ltb (length b) 40 long,
-        eqb-not (get 8 b 0) magic (h .mark),
-        le-ltb maxSlots n (h .small),
-        badCounts-good n k (indexLen k) (indexStep k) (h .few) refl refl,
-        right
-      )
-      (refuseFirst-none 6 mp (badEntry (fileParts b n k)) k _ (c .parts .entries)
-      ∙ refuseFirst-none 7 mp (badSlot (fileParts b n k)) n _ (c .parts .slots)
-      ∙ refuseFirst-none 8 mp (badIndexEntry b n k) (indexLen k) _ (c .index))
+pub checkHeader-done : (mp : ℕ) (b : List ℕ) (n k : ℕ) → 40 ≤ length b → CheckedHeader b n k → checkHeader mp b ≡ done (countsOf n k)
+unfolding checkHeader
+checkHeader-done mp b n k long h =
+    rw (
+      h .nIs,
+      h .kIs,
+      h .mIs,
+      h .stepIs,
+      le-ltb (length b) 40 long,
+      eqb-not (get 8 b 0) magic (h .mark),
+      le-ltb maxSlots n (h .small),
+      badCounts-good n k (indexLen k) (indexStep k) (h .few) refl refl,
+    )
+
+pub checkParts-done : (mp : ℕ) (b : List ℕ) (n k : ℕ) → CheckedMap b n k → checkParts mp b n k ≡ done (countsOf n k)
+unfolding checkParts
+checkParts-done mp b n k c =
+    refuseFirst-none 6 mp (badEntry (fileParts b n k)) k _ (c .parts .entries)
+    ∙ refuseFirst-none 7 mp (badSlot (fileParts b n k)) n _ (c .parts .slots)
+    ∙ refuseFirst-none 8 mp (badIndexEntry b n k) (indexLen k) _ (c .index)
+
+pub checkWith-done : (wrong : ℕ → ℕ → Bool) (mp : ℕ) (b : List ℕ) (n k : ℕ) → CheckedMap b n k
+    → wrong (length b) (fileLen n k) ≡ false → checkWith wrong mp b ≡ done (countsOf n k)
+unfolding checkWith countsOf
+checkWith-done wrong mp b n k c right =
+    rw (checkHeader-done mp b n k (omega (arith, c .fits, fileLen-is n k)) (c .header), right) (checkParts-done mp b n k c)
 
 -- ---- what is checked, from done
+
+pub done-checkHeader : (mp : ℕ) (b : List ℕ) (s : Summary) → checkHeader mp b ≡ done s
+    → CheckedHeader b (nField b) (kField b) × (s ≡ countsOf (nField b) (kField b))
+unfolding checkHeader badCounts
+done-checkHeader mp b s e =
+    let counts : Bool = badCounts (nField b) (kField b) (mField b) (stepField b) in
+    let g₁ = refuseIf-done (ltb (length b) 40) _ _ s e in
+    let g₂ = refuseIf-done (not (eqb (get 8 b 0) magic)) _ _ s (g₁ .1) in
+    let g₃ = refuseIf-done (ltb maxSlots (nField b)) _ _ s (g₂ .1) in
+    let g₄ = refuseIf-done counts _ _ s (g₃ .1) in
+    let o₂ = or-false _ _ (g₄ .0) in
+    let o₁ = or-false _ _ (o₂ .0) in
+    let q : done (countsOf (nField b) (kField b)) ≡ done s = g₄ .1 in (
+      record {
+        mark = not-eqb _ _ (g₂ .0);
+        nIs = refl;
+        kIs = refl;
+        mIs = not-eqb _ _ (o₂ .1);
+        stepIs = not-eqb _ _ (o₁ .1);
+        small = ltb-false _ _ (g₃ .0);
+        few = ltb-false _ _ (o₁ .0);
+      },
+      cc,
+    )
 
 -- what a done check says: the map, the right length, and the summary
 pub record Accepted (wrong : ℕ → ℕ → Bool) (b : List ℕ) (n k : ℕ) (s : Summary) : Type 0 where
@@ -56,38 +86,28 @@ pub record Accepted (wrong : ℕ → ℕ → Bool) (b : List ℕ) (n k : ℕ) (s
 
 module _ (wrong : ℕ → ℕ → Bool) (fits : (len l : ℕ) → wrong len l ≡ false → l ≤ len) (mp : ℕ) (b : List ℕ) (s : Summary) where
   pub done-checkWith : checkWith wrong mp b ≡ done s → Accepted wrong b (nField b) (kField b) s
-  unfolding checkWith checkHeader checkParts badCounts
+  unfolding checkWith checkParts countsOf
   done-checkWith e =
-      let counts : Bool = badCounts (nField b) (kField b) (mField b) (stepField b) in
-      let g₁ = refuseIf-done (ltb (length b) 40) _ _ s e in
-      let g₂ = refuseIf-done (not (eqb (get 8 b 0) magic)) _ _ s (g₁ .1) in
-      let g₃ = refuseIf-done (ltb maxSlots (nField b)) _ _ s (g₂ .1) in
-      let g₄ = refuseIf-done counts _ _ s (g₃ .1) in
-      let g₅ = refuseIf-done (wrong (length b) (fileLen (nField b) (kField b))) _ _ s (g₄ .1) in
-      let g₆ = refuseFirst-done 6 mp (badEntry (fileParts b (nField b) (kField b))) (kField b) _ s (g₅ .1) in
-      let g₇ = refuseFirst-done 7 mp (badSlot (fileParts b (nField b) (kField b))) (nField b) _ s (g₆ .1) in
-      let g₈ = refuseFirst-done 8 mp (badIndexEntry b (nField b) (kField b)) (indexLen (kField b)) _ s (g₇ .1) in
-      let o₂ = or-false _ _ (g₄ .0) in
-      let o₁ = or-false _ _ (o₂ .0) in
+      let n : ℕ = nField b in
+      let k : ℕ = kField b in
+      let h = andThen-done (checkHeader mp b) _ s e in
+      let d = done-checkHeader mp b (h .0) (h .1) in
+      let rest = rw (d .1) at (h .2) in
+      let g₅ = refuseIf-done (wrong (length b) (fileLen n k)) _ _ s rest in
+      let g₆ = refuseFirst-done 6 mp (badEntry (fileParts b n k)) k _ s (g₅ .1) in
+      let g₇ = refuseFirst-done 7 mp (badSlot (fileParts b n k)) n _ s (g₆ .1) in
+      let g₈ = refuseFirst-done 8 mp (badIndexEntry b n k) (indexLen k) _ s (g₇ .1) in
+      let q : done (countsOf n k) ≡ done s = g₈ .1 in
       record {
         checked =
-          record {
-            header =
-              record {
-                mark = not-eqb _ _ (g₂ .0);
-                nIs = refl;
-                kIs = refl;
-                mIs = not-eqb _ _ (o₂ .1);
-                stepIs = not-eqb _ _ (o₁ .1);
-                small = ltb-false _ _ (g₃ .0);
-                few = ltb-false _ _ (o₁ .0)
-              };
-            fits = fits (length b) (fileLen (nField b) (kField b)) (g₅ .0);
-            parts = record { entries = g₆ .0; slots = g₇ .0 };
-            index = g₈ .0
-          };
+            record {
+              header = d .0;
+              fits = fits (length b) (fileLen n k) (g₅ .0);
+              parts = record { entries = g₆ .0; slots = g₇ .0 };
+              index = g₈ .0;
+            };
         right = g₅ .0;
-        counts = (let q : done (countsOf (nField b) (kField b)) ≡ done s = g₈ .1 in cc)
+        counts = cc;
       }
 
 -- ---- of a whole file, and of a buffer to be edited

@@ -77,11 +77,11 @@ module _ (b : List ℕ) (n k : ℕ) (bytes : Bytes b) (c : CheckedMap b n k) whe
       ext-getD 0 _ _
       (length-table f 0 n ∙ sym (length-take-le n (drop 40 b) (simp length-drop (omega (arith, checked-length)))))
       (λ i h.
-        (let h' : i < n = rw (length-table f 0 n) at h in
-        getD-table f 0 0 n i h'
-        ∙ ap f (zero-add i)
-        ∙ primaryByte-valueOf (fileParts b n k) (c .parts) byte-bound i h'
-        ∙ sym (getD-take n (drop 40 b) i 0 h' ∙ getD-drop 40 b i 0)))
+      (let h' : i < n = rw (length-table f 0 n) at h in
+      getD-table f 0 0 n i h'
+      ∙ ap f (zero-add i)
+      ∙ primaryByte-valueOf (fileParts b n k) (c .parts) byte-bound i h'
+      ∙ sym (getD-take n (drop 40 b) i 0 h' ∙ getD-drop 40 b i 0)))
 
   overflow-part : overflowPart n (valueOf (fileParts b n k)) ≡ take (12 * k) (drop (40 + n) b)
   unfolding overflowPart overflowEntry overflowCount
@@ -89,10 +89,10 @@ module _ (b : List ℕ) (n k : ℕ) (bytes : Bytes b) (c : CheckedMap b n k) whe
       let v : ℕ → ℕ = valueOf (fileParts b n k) in
       joined-is (overflowEntry v) 12 (length-overflowEntry v) (overflowSlots n v) (drop (40 + n) b)
       (λ j h.
-        (let h' : j < k = (rw checked-count at h) in
-        let X : ℕ = 40 + n + 12 * j in
-        rw (slot-at j h', valueOf-slot (fileParts b n k) (c .parts) j h')
-        (ap (take 12) (drop-drop (12 * j) (40 + n) b) ∙ sym (two-numbers 8 4 X b bytes (omega (arith, checked-length))))))
+      (let h' : j < k = (rw checked-count at h) in
+      let X : ℕ = 40 + n + 12 * j in
+      rw (slot-at j h', valueOf-slot (fileParts b n k) (c .parts) j h')
+      (ap (take 12) (drop-drop (12 * j) (40 + n) b) ∙ sym (two-numbers 8 4 X b bytes (omega (arith, checked-length))))))
       ∙ ap (λ (x : ℕ). take (12 * x) (drop (40 + n) b)) checked-count
 
   index-part : indexPart (overflowSlots n (valueOf (fileParts b n k))) ≡ take (16 * indexLen k) (drop (40 + n + 12 * k) b)
@@ -103,18 +103,18 @@ module _ (b : List ℕ) (n k : ℕ) (bytes : Bytes b) (c : CheckedMap b n k) whe
       rw checked-count
       (joined-is (indexEntry ss (indexStep k)) 16 (length-indexEntry ss (indexStep k)) r (drop (40 + n + 12 * k) b)
       (λ i h.
-        (let h' : i < indexLen k = (rw length-table at h) in
-        let u : getD r i 0 ≡ i = getD-table (λ (i : ℕ). i) 0 0 (indexLen k) i h' ∙ zero-add i in
-        let o = or-false _ _ (c .index i h') in
-        let t : ℕ = i * indexStep k in
-        let X : ℕ = 40 + n + 12 * k + 16 * i in
-        let e₁ : getD ss t 0 ≡ get 8 b X = slot-at t (index-inside k i h') ∙ sym (not-eqb _ _ (o .0)) in
-        let e₂ : t ≡ get 8 b (X + 8) = sym (not-eqb _ _ (o .1)) in
-        ap (take 16) (drop-drop (16 * i) (40 + n + 12 * k) b)
-        ∙ sym
-        (ap (indexEntry ss (indexStep k)) u
-        ∙ ap₂ (λ (x y : ℕ). le 8 x ++ le 8 y) e₁ e₂
-        ∙ two-numbers 8 8 X b bytes (omega (arith, checked-length)))))
+      (let h' : i < indexLen k = (rw length-table at h) in
+      let u : getD r i 0 ≡ i = getD-table (λ (i : ℕ). i) 0 0 (indexLen k) i h' ∙ zero-add i in
+      let o = or-false _ _ (c .index i h') in
+      let t : ℕ = i * indexStep k in
+      let X : ℕ = 40 + n + 12 * k + 16 * i in
+      let e₁ : getD ss t 0 ≡ get 8 b X = slot-at t (index-inside k i h') ∙ sym (not-eqb _ _ (o .0)) in
+      let e₂ : t ≡ get 8 b (X + 8) = sym (not-eqb _ _ (o .1)) in
+      ap (take 16) (drop-drop (16 * i) (40 + n + 12 * k) b)
+      ∙ sym
+      (ap (indexEntry ss (indexStep k)) u
+      ∙ ap₂ (λ (x y : ℕ). le 8 x ++ le 8 y) e₁ e₂
+      ∙ two-numbers 8 8 X b bytes (omega (arith, checked-length)))))
       ∙ ap (λ (x : ℕ). take (16 * x) (drop (40 + n + 12 * k) b)) (length-table (λ (i : ℕ). i) 0 (indexLen k)))
 
   -- ---- the whole
@@ -125,7 +125,7 @@ module _ (b : List ℕ) (n k : ℕ) (bytes : Bytes b) (c : CheckedMap b n k) whe
       let B : ℕ = 40 + n in
       let C : ℕ = B + 12 * k in
       let last : take (16 * indexLen k) (drop C b) ≡ drop C b =
-        take-all (16 * indexLen k) (drop C b) (simp length-drop (omega (arith, long, fileLen-is n k))) in
+      take-all (16 * indexLen k) (drop C b) (simp length-drop (omega (arith, long, fileLen-is n k))) in
       let j : List ℕ → List ℕ → List ℕ = λ x y. x ++ y in
       rw checked-count
       (ap₂ j header-part (ap₂ j primary-part (ap₂ j overflow-part (index-part ∙ last)))

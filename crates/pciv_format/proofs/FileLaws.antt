@@ -64,7 +64,7 @@ module _ (n : ℕ) (v : ℕ → ℕ) (few : n ≤ maxSlots) (each : (i : ℕ) �
         mIs = in-header 24 (omega arith) ∙ number-le 8 (indexLen (overflowCount n v)) (omega arith);
         stepIs = in-header 32 (omega arith) ∙ number-le 8 (indexStep (overflowCount n v)) (omega arith);
         small = few;
-        few = overflowCount-le n v
+        few = overflowCount-le n v;
       }
 
   -- ---- the primary array
@@ -90,7 +90,7 @@ module _ (n : ℕ) (v : ℕ → ℕ) (few : n ≤ maxSlots) (each : (i : ℕ) �
         ← drop-drop (n + j) 40 (h ++ (primary n v ++ q)),
         drop-at h (primary n v ++ q) 40 (length-header n _),
         ← drop-drop j n,
-        drop-at (primary n v) q n (length-primary n v)
+        drop-at (primary n v) q n (length-primary n v),
       )
 
   file-entry : (j : ℕ) → j < overflowCount n v
@@ -121,14 +121,16 @@ module _ (n : ℕ) (v : ℕ → ℕ) (few : n ≤ maxSlots) (each : (i : ℕ) �
       let c : ℕ = overflowCount n v in
       let g : ℕ → List ℕ = indexEntry (overflowSlots n v) (indexStep c) in
       let r : List ℕ = table (λ (i : ℕ). i) 0 (indexLen c) in
-      let e : getD r i 0 ≡ i = getD-table (λ (i : ℕ). i) 0 0 (indexLen c) i h ∙ zero-add i in
-      (_, ap (λ (a : ℕ). drop a (file n v)) (add-assoc (40 + n) (12 * c) (16 * i))
-      ∙ drop-primary (12 * c + 16 * i)
-      ∙ sym (drop-drop (16 * i) (12 * c) _)
-      ∙ ap (drop (16 * i)) (drop-at (overflowPart n v) _ (12 * c) (length-overflowPart n v))
-      ∙ ap (drop (16 * i)) (sym (append-nil (joined g r)))
-      ∙ joined-piece g 16 (length-indexEntry (overflowSlots n v) (indexStep c)) r [] i (rw length-table h)
-      ∙ ap (λ (j : ℕ). g j ++ (joined g (drop (suc i) r) ++ [])) e)
+      let e : getD r i 0 ≡ i = getD-table (λ (i : ℕ). i) 0 0 (indexLen c) i h ∙ zero-add i in (
+        _,
+        ap (λ (a : ℕ). drop a (file n v)) (add-assoc (40 + n) (12 * c) (16 * i))
+            ∙ drop-primary (12 * c + 16 * i)
+            ∙ sym (drop-drop (16 * i) (12 * c) _)
+            ∙ ap (drop (16 * i)) (drop-at (overflowPart n v) _ (12 * c) (length-overflowPart n v))
+            ∙ ap (drop (16 * i)) (sym (append-nil (joined g r)))
+            ∙ joined-piece g 16 (length-indexEntry (overflowSlots n v) (indexStep c)) r [] i (rw length-table h)
+            ∙ ap (λ (j : ℕ). g j ++ (joined g (drop (suc i) r) ++ [])) e,
+      )
 
   -- ---- no refusal 6, 7 or 8
 
@@ -146,7 +148,7 @@ module _ (n : ℕ) (v : ℕ → ℕ) (few : n ≤ maxSlots) (each : (i : ℕ) �
         inside = omega (arith, e, slot-inside j h);
         above = omega (arith, e, lowest j h);
         far = omega (arith, file-distance j h, slot-far j h);
-        marked = ap (λ (i : ℕ). getD (file n v) (40 + i) 0) e ∙ file-byte s (slot-inside j h) ∙ primaryByte-overflow (v s) (slot-far j h)
+        marked = ap (λ (i : ℕ). getD (file n v) (40 + i) 0) e ∙ file-byte s (slot-inside j h) ∙ primaryByte-overflow (v s) (slot-far j h);
       })
 
   entry-exists : (i : ℕ) → i < n → 255 ≤ v i → entryOf (fileParts (file n v) n (overflowCount n v)) i < overflowCount n v
@@ -159,9 +161,10 @@ module _ (n : ℕ) (v : ℕ → ℕ) (few : n ≤ maxSlots) (each : (i : ℕ) �
   slot-right : (i : ℕ) → i < n → badSlot (fileParts (file n v) n (overflowCount n v)) i ≡ false
   unfolding badSlot
   slot-right i h =
-      elim (decLe 255 (v i))
-      [ yes far ↦ rw (lt-leb (overflowCount n v) _ (entry-exists i h far)) (and-false (eqb (getD (file n v) (40 + i) 0) 255))
-      | no near ↦ rw (file-byte i h, primaryByte-inline (v i) (omega arith), ne-eqb (v i) 255 (λ q. omega arith)) ]
+      elim (decLe 255 (v i)) [
+        | yes far ↦ rw (lt-leb (overflowCount n v) _ (entry-exists i h far)) (and-false (eqb (getD (file n v) (40 + i) 0) 255))
+        | no near ↦ rw (file-byte i h, primaryByte-inline (v i) (omega arith), ne-eqb (v i) 255 (λ q. omega arith))
+      ]
 
   index-right : (i : ℕ) → i < indexLen (overflowCount n v) → badIndexEntry (file n v) n (overflowCount n v) i ≡ false
   unfolding badIndexEntry indexEntry le
@@ -174,7 +177,7 @@ module _ (n : ℕ) (v : ℕ → ℕ) (few : n ≤ maxSlots) (each : (i : ℕ) �
       let X : ℕ = 40 + n + 12 * c + 16 * i in
       let g₁ : get 8 (file n v) X ≡ s = get-at 8 (file n v) X s (le 8 t ++ e .0) (e .1) (omega (arith, slot-inside t lt)) in
       let g₂ : get 8 (file n v) (X + 8) ≡ t =
-        get-at 8 (file n v) (X + 8) t (e .0) (sym (drop-drop 8 X (file n v)) ∙ ap (drop 8) (e .1)) (omega (arith, count-small)) in
+      get-at 8 (file n v) (X + 8) t (e .0) (sym (drop-drop 8 X (file n v)) ∙ ap (drop 8) (e .1)) (omega (arith, count-small)) in
       rw (g₁, g₂, file-slot t lt, eq-eqb s s refl, eq-eqb t t refl)
 
   pub file-checked : CheckedMap (file n v) n (overflowCount n v)
@@ -183,7 +186,7 @@ module _ (n : ℕ) (v : ℕ → ℕ) (few : n ≤ maxSlots) (each : (i : ℕ) �
         header = file-header;
         fits = omega (arith, length-file n v);
         parts = record { entries = entry-right; slots = slot-right };
-        index = index-right
+        index = index-right;
       }
 
   -- the file is read as the distances that it was made of
@@ -191,9 +194,10 @@ module _ (n : ℕ) (v : ℕ → ℕ) (few : n ≤ maxSlots) (each : (i : ℕ) �
   file-value i h =
       let P = fileParts (file n v) n (overflowCount n v) in
       let s : SoundParts P = record { entries = entry-right; slots = slot-right } in
-      elim (decLe 255 (v i))
-      [ yes far ↦ (let a = slot-every i h far in
-          let e : get 8 (file n v) (40 + n + 12 * a .0) ≡ i = file-slot (a .0) (a .1) ∙ a .2 in
-          ap (valueOf P) (sym e) ∙ valueOf-slot P s (a .0) (a .1) ∙ file-distance (a .0) (a .1) ∙ ap v (a .2))
-      | no near ↦ (let e : getD (file n v) (40 + i) 0 ≡ v i = file-byte i h ∙ primaryByte-inline (v i) (omega arith) in
-          valueOf-inline P s i (omega (arith, e)) ∙ e) ]
+      elim (decLe 255 (v i)) [
+        | yes far ↦ (let a = slot-every i h far in
+            let e : get 8 (file n v) (40 + n + 12 * a .0) ≡ i = file-slot (a .0) (a .1) ∙ a .2 in
+            ap (valueOf P) (sym e) ∙ valueOf-slot P s (a .0) (a .1) ∙ file-distance (a .0) (a .1) ∙ ap v (a .2))
+        | no near ↦ (let e : getD (file n v) (40 + i) 0 ≡ v i = file-byte i h ∙ primaryByte-inline (v i) (omega arith) in
+            valueOf-inline P s i (omega (arith, e)) ∙ e)
+      ]

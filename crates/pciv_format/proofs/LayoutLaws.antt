@@ -56,11 +56,11 @@ pub index-inside : (k i : ℕ) → i < indexLen k → i * indexStep k < k
 index-inside k i h =
     index-cases k (λ few s l. absurd (omega arith))
     (λ many s l.
-      (let st : ℕ = indexStep k in
-      let h₂ : suc i ≤ (k + (st - 1)) / st = omega arith in
-      let h₃ : suc i * st ≤ k + (st - 1) = le-div-iff-mul-le (omega arith) .0 h₂ in
-      let h₄ : suc i * st ≡ i * st + st = suc-mul i st in
-      omega arith))
+    (let st : ℕ = indexStep k in
+    let h₂ : suc i ≤ (k + (st - 1)) / st = omega arith in
+    let h₃ : suc i * st ≤ k + (st - 1) = le-div-iff-mul-le (omega arith) .0 h₂ in
+    let h₄ : suc i * st ≡ i * st + st = suc-mul i st in
+    omega arith))
 
 pub indexStep-le : (k : ℕ) → indexStep k ≤ k
 indexStep-le k = index-cases k (λ few s l. omega arith) (λ many s l. omega arith)
@@ -134,9 +134,9 @@ module _ (n : ℕ) (v w : ℕ → ℕ) (same : (i : ℕ) → i < n → v i ≡ w
   overflowPart-cong =
       joined-cong (overflowEntry v) (overflowEntry w) (overflowSlots n v)
       (λ j h.
-        (let s : ℕ = getD (overflowSlots n v) j 0 in
-        let inside : s < n = omega (arith, positions-at (λ (i : ℕ). inOverflow (v i)) 0 n j h .high) in
-        ap (λ (x : ℕ). le 8 s ++ le 4 x) (same s inside)))
+      (let s : ℕ = getD (overflowSlots n v) j 0 in
+      let inside : s < n = omega (arith, positions-at (λ (i : ℕ). inOverflow (v i)) 0 n j h .high) in
+      ap (λ (x : ℕ). le 8 s ++ le 4 x) (same s inside)))
       ∙ ap (joined (overflowEntry w)) overflowSlots-cong
 
   pub overflowCount-cong : overflowCount n v ≡ overflowCount n w

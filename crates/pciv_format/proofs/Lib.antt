@@ -6,3 +6,4 @@ pub mod FileLaws
 pub mod ExactLaws
 pub mod ReadLaws
 pub mod Acceptance
+pub mod Cases

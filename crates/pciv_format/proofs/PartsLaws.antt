@@ -74,7 +74,7 @@ badEntry-good P j g =
       lt-leb (P .n) (P .slot j) (g .inside),
       le-ltb (P .slot j) (lowestSlot P j) (g .above),
       le-ltb (P .distance j) 255 (g .far),
-      eq-eqb (P .byte (P .slot j)) 255 (g .marked)
+      eq-eqb (P .byte (P .slot j)) 255 (g .marked),
     )
 
 -- ---- what sound parts satisfy
@@ -117,12 +117,13 @@ module _ (P : Parts) (s : SoundParts P) where
     pub slot-cases : {B : Type 0} (i : ℕ) → i < P .n → (P .byte i < 255 → valueOf P i ≡ P .byte i → B)
         → ((j : ℕ) → j < P .k → P .slot j ≡ i → P .byte i ≡ 255 → valueOf P i ≡ P .distance j → 255 ≤ valueOf P i → B) → B
     slot-cases i h inline overflow =
-        elim (decLe 255 (P .byte i))
-        [ yes d ↦ (let e : P .byte i ≡ 255 = omega (arith, bytes i) in
-            let q = slot-entry i h e in
-            let w : valueOf P i ≡ P .distance (q .0) = ap (valueOf P) (sym (q .2)) ∙ valueOf-slot (q .0) (q .1) in
-            overflow (q .0) (q .1) (q .2) e w (omega (arith, w, entry-good (q .0) (q .1) .far)))
-        | no d ↦ inline (omega arith) (valueOf-inline i (omega arith)) ]
+        elim (decLe 255 (P .byte i)) [
+          | yes d ↦ (let e : P .byte i ≡ 255 = omega (arith, bytes i) in
+              let q = slot-entry i h e in
+              let w : valueOf P i ≡ P .distance (q .0) = ap (valueOf P) (sym (q .2)) ∙ valueOf-slot (q .0) (q .1) in
+              overflow (q .0) (q .1) (q .2) e w (omega (arith, w, entry-good (q .0) (q .1) .far)))
+          | no d ↦ inline (omega arith) (valueOf-inline i (omega arith))
+        ]
 
     -- the primary byte is that of the distance
     pub primaryByte-valueOf : (i : ℕ) → i < P .n → primaryByte (valueOf P i) ≡ P .byte i
@@ -143,16 +144,16 @@ module _ (P : Parts) (s : SoundParts P) where
         positions-are (λ (i : ℕ). inOverflow (valueOf P i)) (P .slot) (P .n) 0 0 (P .k)
         (record {
           each = λ j h₁ h₂. (let hj : j < P .k = omega arith in
-            record {
-              low = omega arith;
-              high = omega (arith, entry-good j hj .inside);
-              has = le-leb 255 (valueOf P (P .slot j)) (omega (arith, valueOf-slot j hj, entry-good j hj .far))
-            });
+              record {
+                low = omega arith;
+                high = omega (arith, entry-good j hj .inside);
+                has = le-leb 255 (valueOf P (P .slot j)) (omega (arith, valueOf-slot j hj, entry-good j hj .far));
+              });
           rise = λ j l h₁ h₂ h₃. slots-rise j l h₂ (omega arith);
           every = λ t h₁ h₂ q.
-            (let e : P .byte t ≡ 255 = byte-of-overflow t (omega arith) (leb-true 255 (valueOf P t) q) in
-            let r = slot-entry t (omega arith) e in
-            (r .0, omega arith, omega (arith, r .1), r .2))
+              (let e : P .byte t ≡ 255 = byte-of-overflow t (omega arith) (leb-true 255 (valueOf P t) q) in
+              let r = slot-entry t (omega arith) e in
+              (r .0, omega arith, omega (arith, r .1), r .2));
         })
 
     pub overflowCount-is : overflowCount (P .n) (valueOf P) ≡ P .k

@@ -7,7 +7,7 @@ use lib.Dec.{ltb}
 use borrow.Author.Tests.{lt-ltb, le-ltb, ltb-false}
 use Rattle.pciv_bytes.specs.Ranges.{firstBelow}
 use Rattle.pciv_bytes.proofs.RangesLaws.{firstBelow-all, firstBelow-none, firstBelow-le}
-use Rattle.pciv_format.specs.Refusals.{Outcome, done, refused, refuse, refuseIf, refuseFirst, fileAnswer, numberAnswer}
+use Rattle.pciv_format.specs.Refusals.{Outcome, done, refused, refuse, refuseIf, refuseFirst, andThen, fileAnswer, numberAnswer}
 use Rattle.pciv_format.specs.declared.Summary.{Summary}
 use Rattle.pciv_format.specs.declared.Refusal.{Refusal}
 use Rattle.pciv_format.specs.declared.FileAnswer.{FileAnswer}
@@ -39,6 +39,12 @@ module _ {A : Type 0} where
   pub refuseFirst-some : (number mp : ℕ) (bad : ℕ → Bool) (count place : ℕ) (o : Outcome A)
       → place ≡ firstBelow bad count → place < count → refuseFirst number mp bad count o ≡ refuse number mp place
   refuseFirst-some number mp bad count place o e h = rw (← e, lt-ltb place count h)
+
+module _ {A B : Type 0} where
+  -- past an outcome that something follows
+  pub andThen-done : (o : Outcome A) (f : A → Outcome B) (b : B) → andThen o f ≡ done b → (a : A) × (o ≡ done a) × (f a ≡ done b)
+  andThen-done (done a) f b e = (a, refl, e)
+  andThen-done (refused r) f b e = let z : _≡_ {A = ℕ} 0 1 = cc in absurd (omega arith)
 
 -- ---- answers
 

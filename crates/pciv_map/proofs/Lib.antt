@@ -1,2 +1,5 @@
 pub mod SearchLaws
 pub mod LookupLaws
+pub mod EntryLaws
+pub mod PatchLaws
+pub mod MapLaws

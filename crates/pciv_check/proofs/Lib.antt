@@ -1,0 +1,5 @@
+pub mod WalkLaws
+pub mod CountLaws
+pub mod RefusalLaws
+pub mod EntryLaws
+pub mod IndexLaws
