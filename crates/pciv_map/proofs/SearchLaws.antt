@@ -1,11 +1,11 @@
 -- Laws of a search among numbers that do not fall, and of the blocks that a sample of them divides them into.
 --   Between f s c lo hi          the lower bound of s among the c first numbers of f lies from lo to hi
---   choice-is                    a choice that is computed without a branch
+--   flag-ltb                     a test that is computed without a branch
 --   between-start/-halve/-end    a search by halves begins, goes on and ends
 --   between-part                 a search in the part from lo to hi finds the lower bound
 --   Sample, block-between        the block that a sparse index names is such a part
 use mathlib.Core.Path.{_≡_, sym, ap, _∙_}
-use mathlib.Core.Bool.{Bool, true, false, cond}
+use mathlib.Core.Bool.{Bool, true, false}
 use mathlib.Core.List.{List}
 use Prim.Native.Nat.{ℕ, suc, _+_, _-_, _*_, _/_, _^_, _≤_, _<_}
 use native.Mathlib.Nat.{le-refl, zero-mul, mul-zero, mul-one, mul-suc, mul-le-mul-left, mul-le-mul-right}
@@ -14,7 +14,7 @@ use native.Mathlib.Decide.{decLe}
 use lib.ListN.{length}
 use lib.Dec.{ltb, leb}
 use borrow.Author.Tests.{le-leb, lt-leb, leb-true, leb-false, lt-ltb, le-ltb}
-use Rattle.pciv_bytes.specs.Ranges.{firstBelow}
+use Rattle.pciv_bytes.specs.Ranges.{flag, firstBelow}
 use Rattle.pciv_bytes.proofs.RangesLaws.{firstBelow-none, firstBelow-at, firstBelow-le, firstBelow-clear, firstBelow-has}
 use Rattle.pciv_map.specs.Lookup.{lowerBound, blockStart, blockEnd, Sorted, KeyTable}
 
@@ -28,25 +28,15 @@ pub between-same : {f : ℕ → ℕ} {s c lo hi lo' hi' : ℕ} → lo' ≡ lo �
     → Between f s c lo' hi'
 between-same e₁ e₂ w = rw (e₁, e₂) w
 
--- ---- a choice without a branch
+-- ---- a test without a branch
 
--- 1 where found is below key, else 0
-abbrev pub belowBit : ℕ → ℕ → ℕ
-belowBit found key = (key + 0x7fff_ffff_ffff_ffff - found) / 0x8000_0000_0000_0000
-
-pub choice-is : (found key rest : ℕ) → found < 2 ^ 63 → key < 2 ^ 63
-    → rest * belowBit found key ≡ cond (ltb found key) rest 0
-choice-is found key rest h₁ h₂ =
-    elim (decLe key found) [
-      | yes d ↦ (let e : belowBit found key ≡ 0 = omega arith in rw (e, le-ltb found key d) (mul-zero rest))
-      | no d ↦ (let e : belowBit found key ≡ 1 = omega arith in
-          let less : found < key = omega arith in
-          rw (e, lt-ltb found key less) (mul-one rest))
+pub flag-ltb : (x y : ℕ) → x < 2 ^ 63 → y < 2 ^ 63
+    → (y + 0x7fff_ffff_ffff_ffff - x) / 0x8000_0000_0000_0000 ≡ flag (ltb x y)
+flag-ltb x y h₁ h₂ =
+    elim (decLe y x) [
+      | yes d ↦ rw (le-ltb x y d) (omega arith)
+      | no d ↦ (let less : x < y = omega arith in rw (lt-ltb x y less) (omega arith))
     ]
-
-pub choice-le : (b : Bool) (x : ℕ) → cond b x 0 ≤ x
-choice-le true x = le-refl x
-choice-le false x = omega arith
 
 -- ---- a search by halves
 
@@ -93,18 +83,21 @@ module _ (f : ℕ → ℕ) (s c : ℕ) (sorted : Sorted f c) where
       }
 
   -- len numbers are left: x, the last of the first half, tells which half stays
-  pub between-halve : (lo len x r : ℕ) → x ≡ f (lo + (len - len / 2) - 1)
-      → r ≡ cond (ltb x s) (len - len / 2) 0 → 0 < len → Between f s c lo (lo + len)
-      → Between f s c (lo + r) (lo + r + len / 2)
-  between-halve lo len x r xIs rIs some w =
-      let mid : ℕ = lo + (len - len / 2) - 1 in
+  pub between-halve : (lo len x less : ℕ) → x ≡ f (lo + (len - len / 2) - 1) → less ≡ flag (ltb x s) → 0 < len
+      → Between f s c lo (lo + len)
+      → (let lo' = lo + (len - len / 2) * less in Between f s c lo' (lo' + len / 2))
+  between-halve lo len x less xIs lessIs some w =
+      let rest : ℕ = len - len / 2 in
+      let mid : ℕ = lo + rest - 1 in
       elim (decLe s x) [
-        | yes d ↦ (let e : r ≡ 0 = rw (le-ltb x s d) at rIs in
+        | yes d ↦ (let e : less ≡ 0 = rw (le-ltb x s d) at lessIs in
+            let z : rest * less ≡ 0 = rw e (mul-zero rest) in
             let h : mid ≤ lo + len / 2 = omega arith in
             between-same (omega arith) (omega arith)
             (between-down lo (lo + len) mid (lo + len / 2) w (omega arith) (omega arith) h (omega arith)))
-        | no d ↦ (let less : x < s = omega arith in
-            let e : r ≡ len - len / 2 = rw (lt-ltb x s less) at rIs in
+        | no d ↦ (let below : x < s = omega arith in
+            let e : less ≡ 1 = rw (lt-ltb x s below) at lessIs in
+            let z : rest * less ≡ rest = rw e (mul-one rest) in
             between-same (omega arith) (omega arith)
             (between-up lo (lo + len) mid w (omega arith) (omega arith)))
       ]

@@ -1,13 +1,13 @@
 // The distance at a slot of a checked map, through the sparse index where there is one.
 // What is counted is defined in specs/Lookup.antt, and a slot's distance in pciv_format, specs/Parts.antt.
 ghost use mathlib.Core.Path.{_≡_};
-ghost use mathlib.Core.Bool.{cond};
 ghost use Prim.Native.Nat.{_^_, _<_};
 ghost use lib.Dec.{ltb};
+ghost use Rattle.pciv_bytes.specs.Ranges.{flag};
 ghost use Rattle.pciv_format.specs.Parts.{valueOf};
 ghost use Rattle.pciv_format.specs.Check.{fileParts, CheckedMap};
 ghost use Rattle.pciv_map.specs.Lookup.{lowerBound, entriesBelow, blockStart, blockEnd, keyAt, KeyTable};
-use pciv_bytes::little_endian::get32;
+use crate::entries::entry_distance;
 use pciv_bytes::little_endian::get64;
 use pciv_format::HEADER_LEN;
 use pciv_format::SENTINEL;
@@ -15,13 +15,12 @@ use pciv_format::SENTINEL;
 // Keys are below half of the numbers that fit.
 const HALF_RANGE: usize = 0x8000_0000_0000_0000;
 
-// `rest` where `found` is below `key`, else 0. Computed without a branch, which a search would guess
-// wrong every other time.
-fn rest_if_below(found: usize, key: usize, rest: usize) -> usize
-    requires { ⌜ (found < 2 ^ 63) × (key < 2 ^ 63) ⌝ }
-    ensures { λ r. ⌜ r ≡ cond (ltb found key) rest 0 ⌝ }
+// 1 where x is below y, else 0. Computed without a branch, which a search would guess wrong every other time.
+fn is_below(x: usize, y: usize) -> usize
+    requires { ⌜ (x < 2 ^ 63) × (y < 2 ^ 63) ⌝ }
+    ensures { λ r. ⌜ r ≡ flag (ltb x y) ⌝ }
 {
-    rest * ((key + (HALF_RANGE - 1) - found) / HALF_RANGE)
+    (y + (HALF_RANGE - 1) - x) / HALF_RANGE
 }
 
 // The number of keys below `key` in a sorted table of count records, which starts at `base` and has a
@@ -37,7 +36,7 @@ fn lower_bound(file: &[u8], base: usize, stride: usize, count: usize, key: usize
         let half = len / 2;
         let rest = len - half;
         let found = get64(file, base + stride * (lo + rest - 1));
-        lo += rest_if_below(found, key, rest);
+        lo += rest * is_below(found, key);
         len = half;
     }
     lo
@@ -95,5 +94,5 @@ pub fn distance_at(file: &[u8], n: usize, k: usize, slot: usize) -> u32
         return byte as u32;
     }
     let j = entry_of(file, n, k, slot);
-    get32(file, HEADER_LEN + n + 12 * j + 8)
+    entry_distance(file, n, j)
 }

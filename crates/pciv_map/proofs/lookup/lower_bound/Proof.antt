@@ -30,14 +30,14 @@ inside c =
     key-inside _ _ _ (at-entry .args .count) (probe c) (at-entry .pre .0) (probe-lt c)
 
 -- what is left after a turn
-halved : (c : tie.After-rest-if-below Inv-loop μ-loop) → (let at-loop = c .before .before .before in
+halved : (c : tie.After-is-below Inv-loop μ-loop) → (let at-loop = c .before .before .before in
     let a = at-loop .before .before .args in
-    let lo = at-loop .loop .lo + c .rest-if-below .result in
+    let lo = at-loop .loop .lo + (at-loop .loop .len - at-loop .loop .len / 2) * c .is-below .result in
     Between (keyAt (a .file .now) (a .base) (a .stride)) (a .key) (a .count) lo (lo + at-loop .loop .len / 2))
 halved c =
     let at-loop = c .before .before .before in
     between-halve _ _ _ (at-loop .before .before .pre .0 .sorted) _ _ _ _ (c .before .get64 .ensures)
-    (c .rest-if-below .ensures) (omega arith) (at-loop .loop .inv)
+    (c .is-below .ensures) (omega arith) (at-loop .loop .inv)
 
 loop-holds : tie.Need-loop-holds Inv-loop μ-loop
 loop-holds c = between-start _ _ _
@@ -60,11 +60,14 @@ add-get64-2 c = omega (arith, inside c)
 get64-requires : tie.Need-get64-requires Inv-loop μ-loop
 get64-requires c κs = omega (arith, inside c)
 
-rest-if-below-requires : tie.Need-rest-if-below-requires Inv-loop μ-loop
-rest-if-below-requires c κs =
+is-below-requires : tie.Need-is-below-requires Inv-loop μ-loop
+is-below-requires c κs =
     let in-loop = c .before in
     let pre = in-loop .before .before .before .pre in
     omega (arith, pre .0 .small (probe in-loop) (probe-lt in-loop), c .get64 .ensures, pre .1)
+
+mul-lo : tie.Need-mul-lo Inv-loop μ-loop
+mul-lo c = omega (arith, halved c .ordered, halved c .within)
 
 add-lo : tie.Need-add-lo Inv-loop μ-loop
 add-lo c = omega (arith, halved c .ordered, halved c .within)
@@ -91,7 +94,8 @@ lower-bound-spec =
     mul-get64
     add-get64-2
     get64-requires
-    rest-if-below-requires
+    is-below-requires
+    mul-lo
     add-lo
     loop-less
     loop-again
