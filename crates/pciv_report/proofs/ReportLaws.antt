@@ -1,0 +1,61 @@
+-- Laws of the report's text (pciv_format's specs/Report.antt).
+--   decimal-small/-large   the digits of a number below 10, and of a larger one
+--   length-..-le           how long each piece of text is at most
+use mathlib.Core.Path.{_≡_, refl, sym, ap, _∙_}
+use Prim.Native.Nat.{ℕ, zero, suc, _+_, _*_, _/_, _%_, _^_, _≤_, _<_}
+use native.Mathlib.Nat.{pow-suc}
+use native.Mathlib.Decide.{decLt}
+use native.Mathlib.Omega.{arith}
+use mathlib.Core.Bool.{Bool, true, false, cond}
+use mathlib.Core.List.{List, [], _∷_, _++_}
+use lib.ListN.{length, length-append}
+use lib.Dec.{ltb}
+use borrow.Author.Tests.{lt-ltb, le-ltb}
+use Rattle.pciv_format.specs.Report.{digits, decimal, field, line}
+
+-- ---- decimal
+
+digits-small : (f x : ℕ) → x < 10 → digits (suc f) x ≡ (48 + x % 10) ∷ []
+unfolding digits
+digits-small f x small = rw (lt-ltb x 10 small)
+
+digits-large : (f x : ℕ) → 10 ≤ x → digits (suc f) x ≡ digits f (x / 10) ++ ((48 + x % 10) ∷ [])
+unfolding digits
+digits-large f x large = rw (le-ltb x 10 large)
+
+-- a number below 10 ^ (f + 1) has no digits past f + 1
+digits-more : (f x : ℕ) → x < 10 ^ suc f → digits (suc (suc f)) x ≡ digits (suc f) x
+unfolding digits
+digits-more zero x fits = digits-small 1 x (omega arith) ∙ sym (digits-small 0 x (omega arith))
+digits-more (suc f) x fits =
+    ap (λ (l : List ℕ). cond (ltb x 10) [] l ++ ((48 + x % 10) ∷ []))
+    (digits-more f (x / 10) (omega (arith, pow-suc 10 (suc f))))
+
+length-digits-le : (f x : ℕ) → length (digits f x) ≤ f
+unfolding digits
+length-digits-le zero x = omega arith
+length-digits-le (suc f) x =
+    elim (decLt x 10) [
+      | yes small ↦ rw (digits-small f x small) (omega arith)
+      | no large ↦ (
+        let h : 10 ≤ x = omega arith in
+        rw (digits-large f x h, length-append) (omega (arith, length-digits-le f (x / 10)))
+      )
+    ]
+
+pub decimal-small : (x : ℕ) → x < 10 → decimal x ≡ (48 + x % 10) ∷ []
+unfolding decimal
+decimal-small x small = digits-small 19 x small
+
+pub decimal-large : (x : ℕ) → 10 ≤ x → x < 2 ^ 64 → decimal x ≡ decimal (x / 10) ++ ((48 + x % 10) ∷ [])
+unfolding decimal
+decimal-large x large fits =
+    digits-large 19 x large
+    ∙ ap (λ (l : List ℕ). l ++ ((48 + x % 10) ∷ [])) (sym (digits-more 18 (x / 10) (omega arith)))
+
+pub length-decimal-large : (x : ℕ) → 10 ≤ x → x < 2 ^ 64 → length (decimal x) ≡ length (decimal (x / 10)) + 1
+length-decimal-large x large fits = simp length-append at (ap length (decimal-large x large fits))
+
+pub length-decimal-le : (x : ℕ) → length (decimal x) ≤ 20
+unfolding decimal
+length-decimal-le x = length-digits-le 20 x

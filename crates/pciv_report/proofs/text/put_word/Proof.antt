@@ -1,0 +1,64 @@
+-- Proves pciv_report::text::put_word. Invariant: writing the whole word from the start equals writing what is
+-- left of it from here. Falls: what is left of the word.
+use borrow.Author.Needs.{needs}
+use mathlib.Core.Path.{_≡_, refl, sym, _∙_}
+use Prim.Native.Nat.{_+_, _-_, _≤_}
+use native.Mathlib.Nat.{add-zero}
+use native.Mathlib.Omega.{arith}
+use lib.ListN.{length, drop, length-set}
+use lib.Seq.{sets}
+use Rattle.pciv_report.proofs.TextLaws.{sets-rest-more, sets-rest-end}
+use Rattle.pciv_report.proofs.text.put_word.Statement.{statement}
+use Rattle.pciv_report.proofs.text.put_word.Tie as tie
+use Rattle.pciv_report.proofs.text.put_word.Reads as reads
+use Rattle.pciv_report.proofs.text.put_word.Lts as lts
+
+abbrev Inv-loop : tie.InvT-loop
+Inv-loop out₀ at word i₀ out i =
+    (i ≤ length word) × (length out ≡ length out₀) × (sets out₀ at word ≡ sets out (at + i) (drop i word))
+
+abbrev μ-loop : tie.MeasureT-loop
+μ-loop out₀ at word i₀ out i = length word - i
+
+loop-holds : tie.Need-loop-holds Inv-loop μ-loop
+loop-holds c = (omega arith, refl, rw add-zero)
+
+shared-slice-read-out : tie.Need-shared-slice-read-out Inv-loop μ-loop
+shared-slice-read-out c = search needs
+
+add-out : tie.Need-add-out Inv-loop μ-loop
+add-out c = search needs
+
+slice-write-out : tie.Need-slice-write-out Inv-loop μ-loop
+slice-write-out c = search needs
+
+add-i : tie.Need-add-i Inv-loop μ-loop
+add-i c = search needs
+
+loop-less : tie.Need-loop-less Inv-loop μ-loop
+loop-less c = search needs
+
+loop-again : tie.Need-loop-again Inv-loop μ-loop
+loop-again c =
+    let l = c .before .before .loop in
+    let a = c .before .before .before .args in
+    (omega arith, simp length-set (l .inv .1), l .inv .2 ∙ sets-rest-more (l .out) (a .word .now) (a .at) (l .i) (omega arith))
+
+add-result : tie.Need-add-result Inv-loop μ-loop
+add-result c = search needs
+
+same-length : tie.Need-same-length Inv-loop μ-loop
+same-length c = search needs
+
+returns : tie.Need-returns Inv-loop μ-loop
+returns c =
+    let l = c .before .loop in
+    let a = c .before .before .args in
+    record {
+      bytes = sym (l .inv .2 ∙ sets-rest-end (l .out) (a .word .now) (a .at) (l .i) (omega arith));
+      next = omega arith;
+    }
+
+pub put-word-spec : {M : Type 1} → statement M
+put-word-spec =
+    tie.close (tie.spec Inv-loop μ-loop loop-holds shared-slice-read-out add-out slice-write-out add-i loop-less loop-again add-result same-length returns)

@@ -1,0 +1,62 @@
+// Text in a buffer, a piece at a time. Each routine writes from the place `at` on and answers the place
+// after what it wrote.
+ghost use mathlib.Core.List.{[], _∷_};
+ghost use Prim.Native.Nat.{_+_, _≤_, _<_};
+ghost use lib.ListN.{length};
+ghost use Rattle.pciv_format.specs.Report.{decimal, field, line};
+ghost use Rattle.pciv_report.specs.Text.{Put};
+
+pub fn put_byte(out: &mut [u8], at: usize, b: u8) -> usize
+    requires { ⌜ at < length (now out) ⌝ }
+    ensures { λ r. ⌜ Put (now (out .entry)) at (b ∷ []) (now (out .exit)) r ⌝ }
+{
+    out[at] = b;
+    at + 1
+}
+
+pub fn put_word(out: &mut [u8], at: usize, word: &[u8]) -> usize
+    requires { ⌜ at + length (now word) ≤ length (now out) ⌝ }
+    ensures { λ r. ⌜ Put (now (out .entry)) at (now (word .entry)) (now (out .exit)) r ⌝ }
+{
+    let mut i = 0;
+    while i < word.len() {
+        out[at + i] = word[i];
+        i += 1;
+    }
+    at + i
+}
+
+// The digits of x, the highest first.
+pub fn put_decimal(out: &mut [u8], at: usize, x: usize) -> usize
+    requires { ⌜ at + length (decimal x) ≤ length (now out) ⌝ }
+    ensures { λ r. ⌜ Put (now (out .entry)) at (decimal x) (now (out .exit)) r ⌝ }
+{
+    let digit = (48 + x % 10) as u8;
+    if x < 10 {
+        put_byte(out, at, digit)
+    } else {
+        let last = put_decimal(out, at, x / 10);
+        put_byte(out, last, digit)
+    }
+}
+
+// A word, a space and a number, which has at most 20 digits.
+pub fn put_field(out: &mut [u8], at: usize, word: &[u8], x: usize) -> usize
+    requires { ⌜ at + length (now word) + 21 ≤ length (now out) ⌝ }
+    ensures text { λ r. ⌜ Put (now (out .entry)) at (field (now (word .entry)) x) (now (out .exit)) r ⌝ }
+    ensures most { λ r. ⌜ r ≤ at + length (now (word .entry)) + 21 ⌝ }
+{
+    let space = put_word(out, at, word);
+    let number = put_byte(out, space, b' ');
+    put_decimal(out, number, x)
+}
+
+// Such a field as a line.
+pub fn put_line(out: &mut [u8], at: usize, word: &[u8], x: usize) -> usize
+    requires { ⌜ at + length (now word) + 22 ≤ length (now out) ⌝ }
+    ensures text { λ r. ⌜ Put (now (out .entry)) at (line (field (now (word .entry)) x)) (now (out .exit)) r ⌝ }
+    ensures most { λ r. ⌜ r ≤ at + length (now (word .entry)) + 22 ⌝ }
+{
+    let end = put_field(out, at, word, x);
+    put_byte(out, end, b'\n')
+}
