@@ -7,11 +7,12 @@ use native.Mathlib.Nat.{pow-suc}
 use native.Mathlib.Decide.{decLt}
 use native.Mathlib.Omega.{arith}
 use mathlib.Core.Bool.{Bool, true, false, cond}
-use mathlib.Core.List.{List, [], _∷_, _++_}
+use mathlib.Core.List.{List, [], _∷_, _++_, append-assoc}
 use lib.ListN.{length, length-append}
 use lib.Dec.{ltb}
 use borrow.Author.Tests.{lt-ltb, le-ltb}
-use Rattle.pciv_format.specs.Report.{digits, decimal, field, line}
+use Rattle.pciv_format.specs.Report.{digits, decimal, field, line, refusedWord, mapWord, placeWord, refusedLine}
+use Rattle.pciv_format.specs.declared.Refusal.{Refusal}
 
 -- ---- decimal
 
@@ -59,3 +60,20 @@ length-decimal-large x large fits = simp length-append at (ap length (decimal-la
 pub length-decimal-le : (x : ℕ) → length (decimal x) ≤ 20
 unfolding decimal
 length-decimal-le x = length-digits-le 20 x
+
+-- ---- the line of a refusal
+
+line-append : (a b : List ℕ) → line (a ++ b) ≡ a ++ line b
+unfolding line
+line-append a b = append-assoc a b (10 ∷ [])
+
+-- each space before a word as the word's first letter
+pub refusedLine-parts : (r : Refusal)
+    → refusedLine r
+    ≡ field refusedWord (r .number) ++ (field (32 ∷ mapWord) (r .map) ++ line (field (32 ∷ placeWord) (r .place)))
+unfolding refusedLine field
+refusedLine-parts r =
+    let first = field refusedWord (r .number) in
+    let second = field (32 ∷ mapWord) (r .map) in
+    let third = field (32 ∷ placeWord) (r .place) in
+    line-append first (second ++ third) ∙ ap (λ (l : List ℕ). first ++ l) (line-append second third)
