@@ -1,12 +1,14 @@
 -- Laws of little-endian numbers, at any width w.
 use mathlib.Core.Path.{_≡_, refl, sym, ap, ap₂, _∙_, subst}
 use Prim.Native.Nat.{ℕ, zero, suc, _+_, _*_, _/_, _%_, _^_, _≤_, _<_}
-use native.Mathlib.Nat.{div-lt-iff-lt-mul, pow-suc, lt-of-lt-of-le, min-le-left, pow-le-pow-right}
+use native.Mathlib.Nat.{div-lt-iff-lt-mul, pow-suc, lt-of-lt-of-le, min-le-left, pow-le-pow-right, add-zero, mul-assoc}
 use native.Mathlib.Omega.{arith}
 use mathlib.Core.List.{List, [], _∷_, _++_}
 use lib.ListN.{length, getD, take, drop, length-drop, length-take, take-append-drop}
 use lib.Seq.{take-at, drop-at, drop-drop, drop-append-le, take-append-le, length-take-le, getD-drop, drop-cons}
+use lib.Bits.{bitOr, or-shifted-r}
 use lib.Dec.{lit<}
+use lib.Pow.{pow-add, shl-exact}
 use Rattle.pciv_bytes.specs.LittleEndian.{le, number, get, Bytes}
 
 pub bytes-drop : (n : ℕ) (b : List ℕ) → Bytes b → Bytes (drop n b)
@@ -96,3 +98,38 @@ get-below w n at b c e h hb hc =
     ap (λ (z : List ℕ). get w z at) (sym (take-append-drop n l))
     ∙ get-in w (take n l) (drop n l) at (rw (length-take-le n l hl) h) in
     p b hb ∙ ap (λ (z : List ℕ). get w z at) e ∙ sym (p c hc)
+
+-- ---- a number read byte by byte, the lowest first
+
+pub get-zero : (b : List ℕ) (at : ℕ) → get 0 b at ≡ 0
+unfolding get number
+get-zero b at = refl
+
+byte-pow : (w : ℕ) → 256 ^ w ≡ 2 ^ (8 * w)
+byte-pow zero = refl
+byte-pow (suc w) =
+    let e : 8 * suc w ≡ 8 * w + 8 = omega arith in
+    rw (pow-suc, byte-pow w, e, pow-add)
+
+-- the byte above the lowest w
+get-top : (w : ℕ) (b : List ℕ) (at : ℕ) → at + w < length b
+    → get (w + 1) b at ≡ getD b (at + w) 0 * 256 ^ w + get w b at
+get-top zero b at h =
+    rw (add-zero at) (omega (arith, get-suc 0 b at (omega arith), get-zero b at, get-zero b (suc at)))
+get-top (suc w) b at h =
+    let e : suc w + 1 ≡ suc (w + 1) = omega arith in
+    let f : at + suc w ≡ suc at + w = omega arith in
+    rw (e, f, pow-suc 256 w, ← mul-assoc (getD b (suc at + w) 0) (256 ^ w) 256)
+    (omega (arith, get-suc (w + 1) b at (omega arith), get-suc w b at (omega arith), get-top w b (suc at) (omega arith)))
+
+-- put in place by a shift, in a word of 64 bits
+pub get-more : (w : ℕ) (b : List ℕ) (at : ℕ) → Bytes b → at + w < length b → w < 8
+    → bitOr (get w b at) (getD b (at + w) 0 * 2 ^ (8 * w) % 2 ^ 64) ≡ get (w + 1) b at
+get-more w b at hb h small =
+    let low : get w b at < 2 ^ (8 * w) = rw byte-pow at (get-lt w b at hb) in
+    rw (
+      shl-exact 8 (8 * w) 64 (hb (at + w)) (omega arith),
+      or-shifted-r (getD b (at + w) 0) (8 * w) (get w b at) low,
+      get-top w b at h,
+      byte-pow w,
+    )

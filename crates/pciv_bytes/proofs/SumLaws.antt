@@ -1,15 +1,25 @@
 -- Laws of `sumFrom`. A sum from i up to `to` is written `sumFrom f i (to - i)`.
 use mathlib.Core.Path.{_≡_, refl, sym, ap, ap₂, _∙_}
 use mathlib.Core.Bool.{Bool, true, false}
+use mathlib.Core.List.{List}
+use lib.Dec.{eqb}
+use mir.Val.{boolByte}
 use Prim.Native.Nat.{ℕ, zero, suc, _+_, _-_, _*_, _≤_, _<_}
 use native.Mathlib.Nat.{zero-add, add-zero}
 use native.Mathlib.Numerals.{add-one}
 use native.Mathlib.Omega.{arith}
 use Rattle.pciv_bytes.specs.Ranges.{flag, sumFrom}
+use Rattle.pciv_bytes.specs.LittleEndian.{Bytes}
+use Rattle.pciv_bytes.specs.Counts.{byteAt, byteIs}
 
 pub flag-le : (b : Bool) → flag b ≤ 1
 flag-le true = omega arith
 flag-le false = omega arith
+
+-- a test, cast to a number
+pub boolByte-flag : (b : Bool) → boolByte b ≡ flag b
+boolByte-flag true = refl
+boolByte-flag false = refl
 
 pub sumFrom-none : (f : ℕ → ℕ) (i to : ℕ) → to ≤ i → sumFrom f i (to - i) ≡ 0
 unfolding sumFrom
@@ -41,6 +51,13 @@ unfolding sumFrom
 sumFrom-le f b each i zero = omega arith
 sumFrom-le f b each i (suc c) = omega (arith, each i, sumFrom-le f b each (suc i) c)
 
+-- no more bytes are x than there are bytes, and a sum of bytes is at most 255 for each
+pub sumFrom-byteIs-le : (xs : List ℕ) (x i c : ℕ) → sumFrom (byteIs xs x) i c ≤ c
+sumFrom-byteIs-le xs x i c = omega (arith, sumFrom-le (byteIs xs x) 1 (λ j. flag-le (eqb (byteAt xs j) x)) i c)
+
+pub sumFrom-byteAt-le : (xs : List ℕ) → Bytes xs → (i c : ℕ) → sumFrom (byteAt xs) i c ≤ 255 * c
+sumFrom-byteAt-le xs bytes i c = sumFrom-le (byteAt xs) 255 (λ j. omega (arith, bytes j)) i c
+
 pub sumFrom-cong : (f g : ℕ → ℕ) (i c : ℕ) → ((j : ℕ) → i ≤ j → j < i + c → f j ≡ g j) → sumFrom f i c ≡ sumFrom g i c
 unfolding sumFrom
 sumFrom-cong f g i zero same = refl
@@ -59,5 +76,30 @@ pub sumFrom-shift : (f g : ℕ → ℕ) (i t c : ℕ) → ((j : ℕ) → f (i + 
 unfolding sumFrom
 sumFrom-shift f g i t zero same = refl
 sumFrom-shift f g i t (suc c) same =
-    ap₂ (λ (x y : ℕ). x + y) (rw (add-zero, add-zero) at (same 0))
+    ap₂ (λ (x y : ℕ). x + y) (rw (add-zero i, add-zero t) at (same 0))
     (sumFrom-shift f g (suc i) (suc t) c (λ j. ap f (omega arith) ∙ same (suc j) ∙ ap g (omega arith)))
+
+-- ---- a sum that is made piece by piece
+
+-- `sum` and the terms from i up to `to` are the whole
+pub record Added (f : ℕ → ℕ) (to whole i sum : ℕ) : Type 0 where
+  pub inside : i ≤ to
+  pub rest : sum + sumFrom f i (to - i) ≡ whole
+
+module _ (f : ℕ → ℕ) (to : ℕ) where
+  pub added-none : (from : ℕ) → from ≤ to → Added f to (sumFrom f from (to - from)) from 0
+  added-none from h = record { inside = h; rest = zero-add (sumFrom f from (to - from)) }
+
+  -- the terms up to s
+  pub added-part : (whole i s sum : ℕ) → Added f to whole i sum → i ≤ s → s ≤ to
+      → Added f to whole s (sum + sumFrom f i (s - i))
+  added-part whole i s sum a h₁ h₂ =
+      record { inside = h₂; rest = omega (arith, a .rest, sumFrom-split f i s to h₁ h₂) }
+
+  -- one term
+  pub added-one : (whole i sum : ℕ) → Added f to whole i sum → i < to → Added f to whole (i + 1) (sum + f i)
+  added-one whole i sum a h =
+      record { inside = omega arith; rest = omega (arith, a .rest, sumFrom-more f i to h) }
+
+  pub added-all : (whole i sum : ℕ) → Added f to whole i sum → to ≤ i → sum ≡ whole
+  added-all whole i sum a h = omega (arith, a .rest, sumFrom-none f i to h)

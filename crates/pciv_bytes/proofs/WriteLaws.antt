@@ -1,4 +1,4 @@
--- Laws of `sets`, which writes a list over another from a place on, and of a table written one element a turn.
+-- Laws of `sets`, which writes a list over another from a place on, and of lists written one element a turn.
 -- A loop's invariant is the work that remains: writing all from the start equals writing the rest from here.
 use mathlib.Core.Path.{_≡_, refl, sym, ap, ap₂, _∙_}
 use Prim.Native.Nat.{ℕ, zero, suc, _+_, _-_, _≤_, _<_}
@@ -6,8 +6,8 @@ use native.Mathlib.Nat.{add-zero, zero-add, sub-zero}
 use native.Mathlib.Numerals.{add-one}
 use native.Mathlib.Omega.{arith}
 use mathlib.Core.List.{List, [], _∷_, _++_}
-use lib.ListN.{length, take, drop, set}
-use lib.Seq.{sets, sets-eq, take-set-le}
+use lib.ListN.{length, getD, take, drop, set, drop-of-length-le}
+use lib.Seq.{sets, sets-eq, take-set-le, drop-cons}
 use Rattle.pciv_bytes.specs.Ranges.{table}
 use Rattle.pciv_bytes.proofs.RangesLaws.{table-rest, table-done}
 
@@ -26,14 +26,29 @@ module _ {A : Type 0} where
   pub sets-front : (f d : List A) → length f ≤ length d → sets d 0 f ≡ f ++ drop (length f) d
   sets-front f d h = sets-eq f d 0 (omega arith) ∙ ap (λ (k : ℕ). f ++ drop k d) (zero-add (length f))
 
+  -- the first element of what is left to write
+  pub sets-cons : (d l : List A) (x : A) (rest : List A) (i next : ℕ) → l ≡ x ∷ rest → next ≡ i + 1
+      → sets d i l ≡ sets (set d i x) next rest
+  sets-cons d l x rest i next e n = rw (e, n, add-one i)
+
+  -- ---- a table
+
   pub sets-table-start : (f : ℕ → A) (at n : ℕ) (d : List A) → sets d at (table f 0 n) ≡ sets d (at + 0) (table f 0 (n - 0))
   sets-table-start f at n d = rw (add-zero, sub-zero)
 
   pub sets-table-more : (f : ℕ → A) (at n i : ℕ) (d : List A) → i < n
       → sets d (at + i) (table f i (n - i)) ≡ sets (set d (at + i) (f i)) (at + (i + 1)) (table f (i + 1) (n - (i + 1)))
-  sets-table-more f at n i d h =
-      ap (sets d (at + i)) (table-rest f n i h)
-      ∙ ap (λ (z : ℕ). sets (set d (at + i) (f i)) z (table f (i + 1) (n - (i + 1)))) (let e : suc (at + i) ≡ at + (i + 1) = omega arith in e)
+  sets-table-more f at n i d h = sets-cons d _ (f i) _ (at + i) (at + (i + 1)) (table-rest f n i h) (omega arith)
 
   pub sets-table-end : (f : ℕ → A) (at n i : ℕ) (d : List A) → n ≤ i → sets d (at + i) (table f i (n - i)) ≡ d
   sets-table-end f at n i d h = ap (sets d (at + i)) (table-done f n i h)
+
+  -- ---- a copy of s
+
+  pub sets-copy-more : (s d : List A) (z : A) (j i next : ℕ) → i < length s → next ≡ j + 1
+      → sets d j (drop i s) ≡ sets (set d j (getD s i z)) next (drop (i + 1) s)
+  sets-copy-more s d z j i next h n =
+      sets-cons d (drop i s) (getD s i z) (drop (i + 1) s) j next (rw add-one (drop-cons s i z h)) n
+
+  pub sets-copy-end : (s d : List A) (j i : ℕ) → length s ≤ i → sets d j (drop i s) ≡ d
+  sets-copy-end s d j i h = ap (sets d j) (drop-of-length-le s h)

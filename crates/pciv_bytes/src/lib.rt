@@ -1,1 +1,4 @@
-// Bytes: little-endian numbers, counts and sums. Nothing here knows of PCIV.
+// Bytes: little-endian numbers, counts and sums, copies. Nothing here knows of PCIV.
+pub mod copies;
+pub mod counts;
+pub mod little_endian;

@@ -5,9 +5,11 @@
 --   badSlot P i        slot i has byte 255 and no entry (refusal 7)
 --   valueOf P i        the distance of slot i
 --   refuseParts        refusals 6 and 7
+--   SoundParts P       neither concerns P
 -- Laws are in proofs/PartsLaws.antt. Axioms: none.
-use Prim.Native.Nat.{ℕ, zero, suc, _+_}
-use mathlib.Core.Bool.{Bool, not, cond, _&&_, _||_}
+use mathlib.Core.Path.{_≡_}
+use Prim.Native.Nat.{ℕ, zero, suc, _+_, _<_}
+use mathlib.Core.Bool.{Bool, false, not, cond, _&&_, _||_}
 use lib.Dec.{ltb, leb, eqb}
 use Rattle.pciv_bytes.specs.Ranges.{firstBelow}
 use Rattle.pciv_format.specs.Refusals.{Outcome, refuseFirst}
@@ -43,3 +45,7 @@ valueOf P i = cond (ltb (P .byte i) 255) (P .byte i) (P .distance (entryOf P i))
 module _ {A : Type 0} where
   abbrev pub refuseParts : ℕ → Parts → Outcome A → Outcome A
   refuseParts mp P o = refuseFirst 6 mp (badEntry P) (P .k) (refuseFirst 7 mp (badSlot P) (P .n) o)
+
+pub record SoundParts (P : Parts) : Type 0 where
+  pub entries : (j : ℕ) → j < P .k → badEntry P j ≡ false
+  pub slots : (i : ℕ) → i < P .n → badSlot P i ≡ false

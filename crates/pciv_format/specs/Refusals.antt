@@ -11,7 +11,7 @@
 --                                the outcome as a value of the answer's type
 -- Laws are in proofs/RefusalsLaws.antt. Axioms: none.
 use Prim.Native.Nat.{ℕ}
-use mathlib.Core.Bool.{Bool, cond}
+use mathlib.Core.Bool.{Bool, true, false}
 use mathlib.Core.List.{List, _++_}
 use lib.ListN.{length, drop}
 use lib.Dec.{ltb}
@@ -37,7 +37,8 @@ module _ {A : Type 0} where
   refuse number mp place = refused (record { number = number; map = mp; place = place })
 
   abbrev pub refuseIf : Bool → Outcome A → Outcome A → Outcome A
-  refuseIf test refusal o = cond test refusal o
+  refuseIf true refusal o = refusal
+  refuseIf false refusal o = o
 
   abbrev pub refuseFirst : ℕ → ℕ → (ℕ → Bool) → ℕ → Outcome A → Outcome A
   refuseFirst number mp bad count o = refuseIf (ltb (firstBelow bad count) count) (refuse number mp (firstBelow bad count)) o

@@ -1,0 +1,82 @@
+-- Which files are accepted, and as what they are read (docs/PROMISES.md, "Acceptance").
+--   file-accepted     the file of a list within the limits is accepted, with that list's summary
+--   file-read         it is read as that list
+--   accepted-is-file  an accepted file is the file of the list that it is read as, which is within the limits,
+--                     and the answer is that list's summary
+--   accepted-iff      so a file is accepted exactly when it is the file of some list within the limits
+--   fileOf-inj        two lists within the limits with one file are one list: it is read as no other
+use mathlib.Core.Path.{_≡_, refl, sym, ap, _∙_}
+use mathlib.Core.Logic.{_↔_}
+use Prim.Native.Nat.{ℕ, _+_, _≤_, _<_}
+use native.Mathlib.Nat.{zero-add}
+use native.Mathlib.Omega.{arith}
+use mathlib.Core.List.{List}
+use lib.ListN.{length, getD}
+use lib.Seq.{ext-getD}
+use Rattle.pciv_bytes.specs.Ranges.{table}
+use Rattle.pciv_bytes.specs.LittleEndian.{Bytes}
+use Rattle.pciv_bytes.proofs.RangesLaws.{length-table, getD-table}
+use Rattle.pciv_format.specs.Layout.{maxSlots, fileLen, overflowCount, file, countsOf, summary, at, fileOf, summaryOf, Limits}
+use Rattle.pciv_format.specs.Refusals.{done}
+use Rattle.pciv_format.specs.Parts.{valueOf}
+use Rattle.pciv_format.specs.Check.{nField, kField, fileParts, checkFile, CheckedMap}
+use Rattle.pciv_format.specs.Read.{valueAt, listOf}
+use Rattle.pciv_format.specs.declared.Summary.{Summary}
+use Rattle.pciv_format.proofs.LayoutLaws.{length-file, file-cong, summary-cong}
+use Rattle.pciv_format.proofs.CheckLaws.{checkFile-done, done-checkFile, accepted-length}
+use Rattle.pciv_format.proofs.FileLaws.{file-checked, file-value}
+use Rattle.pciv_format.proofs.ExactLaws.{checked-value-le, checked-count, checked-file}
+use Rattle.pciv_format.proofs.ReadLaws.{length-listOf, at-listOf}
+
+pub file-accepted : (mp : ℕ) (xs : List ℕ) → Limits xs → checkFile mp (fileOf xs) ≡ done (summaryOf xs)
+unfolding summary
+file-accepted mp xs l =
+    let n : ℕ = length xs in
+    checkFile-done mp (fileOf xs) n (overflowCount n (at xs)) (file-checked n (at xs) (l .count) (l .each)) (length-file n (at xs))
+
+pub file-read : (xs : List ℕ) → Limits xs → listOf (fileOf xs) ≡ xs
+file-read xs l =
+    let n : ℕ = length xs in
+    let b : List ℕ = fileOf xs in
+    let h = file-checked n (at xs) (l .count) (l .each) .header in
+    ext-getD 0 (listOf b) xs (length-listOf b ∙ h .nIs)
+    (λ i hi.
+    (let i<n : i < n = omega (arith, length-listOf b, h .nIs) in
+    at-listOf b i (omega (arith, h .nIs))
+    ∙ rw (h .nIs, h .kIs) (file-value n (at xs) (l .count) (l .each) i i<n)))
+
+-- what an accepted file is
+pub record IsFile (b : List ℕ) (s : Summary) : Type 0 where
+  pub limits : Limits (listOf b)
+  pub bytes : b ≡ fileOf (listOf b)
+  pub counts : s ≡ summaryOf (listOf b)
+
+pub accepted-is-file : (mp : ℕ) (b : List ℕ) (s : Summary) → Bytes b → checkFile mp b ≡ done s → IsFile b s
+unfolding summary
+accepted-is-file mp b s bytes e =
+    let a = done-checkFile mp b s e in
+    let n : ℕ = nField b in
+    let k : ℕ = kField b in
+    let c : CheckedMap b n k = a .checked in
+    let len : length (listOf b) ≡ n = length-listOf b in
+    let same : (i : ℕ) → i < n → at (listOf b) i ≡ valueAt b i = at-listOf b in
+    record {
+      limits =
+          record {
+            count = omega (arith, len, c .header .small);
+            each = λ i h. (let h' : i < n = omega (arith, len) in omega (arith, same i h', checked-value-le b n k bytes c i h'));
+          };
+      bytes =
+          sym (rw len (file-cong n (at (listOf b)) (valueAt b) same ∙ checked-file b n k bytes c (accepted-length b n k s a)));
+      counts = a .counts ∙ ap (countsOf n) (sym (checked-count b n k bytes c)) ∙ sym (rw len (summary-cong n (at (listOf b)) (valueAt b) same));
+    }
+
+pub accepted-iff : (mp : ℕ) (b : List ℕ) → Bytes b
+    → ((s : Summary) × (checkFile mp b ≡ done s)) ↔ ((xs : List ℕ) × Limits xs × (b ≡ fileOf xs))
+accepted-iff mp b bytes = (
+  λ a. (let f = accepted-is-file mp b (a .0) bytes (a .1) in (listOf b, f .limits, f .bytes)),
+  λ x. (summaryOf (x .0), ap (checkFile mp) (x .2) ∙ file-accepted mp (x .0) (x .1)),
+)
+
+pub fileOf-inj : (xs ys : List ℕ) → Limits xs → Limits ys → fileOf xs ≡ fileOf ys → xs ≡ ys
+fileOf-inj xs ys l m e = sym (file-read xs l) ∙ ap listOf e ∙ file-read ys m

@@ -1,0 +1,162 @@
+-- The worked examples of docs/FORMAT.md, proved for the definitions by computing them.
+--   A, B        the two maps of "Worked examples"
+--   cases       the cases that "Worked examples" marks as proved, under one statement: a component for each
+--   lengths     the table of "Derived counts"
+--   examples    the other cases of "Worked examples", and texts of "The report program"
+-- A buffer or list that is lent holds 7 in each place, so that what is left unchanged shows.
+use mathlib.Core.Path.{_≡_, refl}
+use Prim.Native.Nat.{ℕ, _+_}
+use mathlib.Core.List.{List, [], _∷_, _++_}
+use lib.ListN.{length, drop, replicate}
+use lib.Ieee.{ofBits, ofInt, div, binary64}
+use Rattle.pciv_bytes.specs.Ranges.{firstFrom, firstBelow, table, positions, joined, sumFrom}
+use Rattle.pciv_bytes.specs.LittleEndian.{le, number, get}
+use Rattle.pciv_format.specs.Layout.{indexStep, indexLen, fileLen, primary, overflowSlots}
+use Rattle.pciv_format.specs.Layout.{overflowCount, overflowEntry, overflowPart, indexEntry, indexPart}
+use Rattle.pciv_format.specs.Layout.{header, file, countsOf, summary, at, fileOf, summaryOf}
+use Rattle.pciv_format.specs.Refusals.{done, refuse}
+use Rattle.pciv_format.specs.Parts.{badEntry, entryOf, badSlot, valueOf}
+use Rattle.pciv_format.specs.Check.{badIndexEntry, badCounts, checkParts}
+use Rattle.pciv_format.specs.Check.{checkHeader, checkWith, checkFile}
+use Rattle.pciv_format.specs.Read.{listOf, primaryPart, lookupOutcome, total, readings}
+use Rattle.pciv_format.specs.Mask.{maskLen, bitAt, maskHas, word, maskOf, badMask}
+use Rattle.pciv_format.specs.Mask.{setBits, setBitsOutcome}
+use Rattle.pciv_format.specs.Mask.{thresholdOutcome, thresholdWords, nearMaskOutcome, nearMaskWords}
+use Rattle.pciv_format.specs.Arith.{combineMapsOutcome, combineMapsBuffer}
+use Rattle.pciv_format.specs.Figures.{quotient, distanceBetween, brayCurtisOutcome}
+use Rattle.pciv_format.specs.Edit.{Edit, plainOutcome, editedFile, editOutcome, replaced, editBuffer}
+use Rattle.pciv_format.specs.Report.{digits, decimal, field, line, mapLines, refusedLine, reportText}
+use Rattle.pciv_format.specs.declared.Summary.{Summary}
+use Rattle.pciv_format.specs.declared.SlotOp.{SlotOp}
+use Rattle.pciv_format.specs.declared.SlotOp.the-variants.{Minimum, Maximum, Sum, Difference}
+use Rattle.pciv_format.specs.declared.Comparison.the-variants.{AtMost, AtLeast}
+
+abbrev pub A : List ℕ
+A = 0 ∷ 254 ∷ 255 ∷ 300 ∷ []
+
+abbrev pub B : List ℕ
+B = 1 ∷ 1 ∷ 1 ∷ 4294967295 ∷ []
+
+abbrev pub counts : ℕ → ℕ → ℕ → ℕ → ℕ → Summary
+counts n k m step len = record { n = n; k = k; m = m; step = step; len = len }
+
+abbrev pub setTo : ℕ → ℕ → Edit
+setTo slot distance = record { slot = slot; distance = distance }
+
+-- o on the maps of xs and ys is the map of zs: a file of len bytes with k overflow entries, read as zs
+abbrev pub Gives : SlotOp → List ℕ → List ℕ → List ℕ → ℕ → ℕ → Type 0
+Gives o xs ys zs k len =
+    (combineMapsOutcome o (fileOf xs) (fileOf ys) len ≡ done (counts 4 k 0 0 len))
+    × (combineMapsBuffer o (fileOf xs) (fileOf ys) (replicate (len + 3) 7) ≡ fileOf zs ++ (7 ∷ 7 ∷ 7 ∷ []))
+    × (listOf (fileOf zs) ≡ zs)
+
+pub cases :
+    -- empty map: L = 40, k = 0
+    ((length (fileOf []) ≡ 40) × (summaryOf [] .k ≡ 0) × (checkFile 1 (fileOf []) ≡ done (counts 0 0 0 0 40)))
+    -- primary of A: 00 FE FF FF, L = 68
+    × ((primaryPart (fileOf A) ≡ 0x00 ∷ 0xFE ∷ 0xFF ∷ 0xFF ∷ [])
+    × (length (fileOf A) ≡ 68)
+    × (checkFile 1 (fileOf A) ≡ done (counts 4 2 0 0 68)))
+    -- overflow entries of A: slot 2 has 255, slot 3 has 300
+    × ((overflowSlots 4 (at A) ≡ 2 ∷ 3 ∷ [])
+    × (lookupOutcome (fileOf A) 2 ≡ done 255)
+    × (lookupOutcome (fileOf A) 3 ≡ done 300)
+    × (drop 44 (fileOf A)
+    ≡ 2 ∷ 0 ∷ 0 ∷ 0 ∷ 0 ∷ 0 ∷ 0 ∷ 0 ∷ 0xFF ∷ 0x00 ∷ 0x00 ∷ 0x00
+    ∷ 3 ∷ 0 ∷ 0 ∷ 0 ∷ 0 ∷ 0 ∷ 0 ∷ 0 ∷ 0x2C ∷ 0x01 ∷ 0x00 ∷ 0x00 ∷ []))
+    -- minimum of A and B
+    × Gives Minimum A B (0 ∷ 1 ∷ 1 ∷ 300 ∷ []) 1 56
+    -- maximum of A and B
+    × Gives Maximum A B (1 ∷ 254 ∷ 255 ∷ 4294967295 ∷ []) 2 68
+    -- sum of A and B: refusal 11 at place 3, and the buffer is unchanged
+    × ((combineMapsOutcome Sum (fileOf A) (fileOf B) 99 ≡ refuse 11 0 3)
+    × (combineMapsBuffer Sum (fileOf A) (fileOf B) (replicate 99 7) ≡ replicate 99 7))
+    -- A + (1, 1, 1, 1), L = 80
+    × Gives Sum A (1 ∷ 1 ∷ 1 ∷ 1 ∷ []) (1 ∷ 255 ∷ 256 ∷ 301 ∷ []) 3 80
+    -- difference A - B, L = 44
+    × Gives Difference A B (0 ∷ 253 ∷ 254 ∷ 0 ∷ []) 0 44
+    -- difference B - A
+    × Gives Difference B A (1 ∷ 0 ∷ 0 ∷ 4294966995 ∷ []) 1 56
+    -- mask of A, at most 254: one word, 3
+    × ((thresholdOutcome AtMost (fileOf A) 254 1 ≡ done 1)
+    × (thresholdWords AtMost (fileOf A) 254 (7 ∷ 7 ∷ []) ≡ 3 ∷ 7 ∷ [])
+    × (nearMaskOutcome (fileOf A) 254 1 ≡ done 1)
+    × (nearMaskWords (fileOf A) 254 (7 ∷ 7 ∷ []) ≡ 3 ∷ 7 ∷ []))
+    -- mask of A, at least 255: one word, 12, with two set bits
+    × ((thresholdOutcome AtLeast (fileOf A) 255 1 ≡ done 1)
+    × (thresholdWords AtLeast (fileOf A) 255 (7 ∷ 7 ∷ []) ≡ 12 ∷ 7 ∷ [])
+    × (setBits 4 (12 ∷ []) ≡ 2)
+    × (setBitsOutcome 4 (12 ∷ []) ≡ done 2))
+    -- edit of A, slot 2 to 254: L = 56, and bytes 56 to 67 become 0
+    × ((editOutcome (fileOf A) (setTo 2 254) ≡ done (counts 4 1 0 0 56))
+    × (editBuffer (fileOf A) (setTo 2 254) ≡ fileOf (0 ∷ 254 ∷ 254 ∷ 300 ∷ []) ++ replicate 12 0)
+    × (drop 56 (editBuffer (fileOf A) (setTo 2 254)) ≡ replicate 12 0))
+unfolding
+    firstFrom firstBelow table positions joined sumFrom le number get indexStep indexLen fileLen primary
+    overflowSlots overflowCount overflowEntry overflowPart indexEntry indexPart header file countsOf summary
+    badEntry entryOf badSlot valueOf badIndexEntry badCounts checkParts checkHeader checkWith
+    listOf primaryPart lookupOutcome bitAt maskHas word maskOf badMask setBits setBitsOutcome
+    thresholdOutcome thresholdWords nearMaskOutcome nearMaskWords combineMapsOutcome combineMapsBuffer
+    plainOutcome editedFile editOutcome replaced editBuffer
+cases = (
+  (refl, refl, refl),
+  (refl, refl, refl),
+  (refl, refl, refl, refl),
+  (refl, refl, refl),
+  (refl, refl, refl),
+  (refl, refl),
+  (refl, refl, refl),
+  (refl, refl, refl),
+  (refl, refl, refl),
+  (refl, refl, refl, refl),
+  (refl, refl, refl, refl),
+  (refl, refl, refl),
+)
+
+-- a file of n slots, k of them in overflow
+abbrev pub LengthRow : ℕ → ℕ → ℕ → ℕ → ℕ → Type 0
+LengthRow n k step m len = (indexStep k ≡ step) × (indexLen k ≡ m) × (fileLen n k ≡ len)
+
+-- the columns are n, k, step, m and L
+pub lengths :
+    LengthRow 5000 2048 0 0 29616
+    × LengthRow 5000 2049 2 1025 46028
+    × LengthRow 5000 4096 2 2048 86960
+    × LengthRow 5000 4097 3 1366 76060
+    × LengthRow 1048576 1048576 512 2048 13664296
+    -- one overflow entry fewer can need more room
+    × (fileLen 5000 4096 ≡ fileLen 5000 4097 + 10900)
+unfolding indexStep indexLen fileLen
+lengths = ((refl, refl, refl), (refl, refl, refl), (refl, refl, refl), (refl, refl, refl), (refl, refl, refl), refl)
+
+pub examples :
+    -- edit of A, slot 1 to 255, in a buffer of 79 bytes and in one of 80
+    (editOutcome (fileOf A ++ replicate 11 7) (setTo 1 255) ≡ refuse 12 0 0)
+    × (editBuffer (fileOf A ++ replicate 11 7) (setTo 1 255) ≡ fileOf A ++ replicate 11 7)
+    × (editOutcome (fileOf A ++ replicate 12 7) (setTo 1 255) ≡ done (counts 4 3 0 0 80))
+    × (editBuffer (fileOf A ++ replicate 12 7) (setTo 1 255) ≡ fileOf (0 ∷ 255 ∷ 255 ∷ 300 ∷ []))
+    -- Bray-Curtis of (3) and (1): 0.5
+    × (brayCurtisOutcome (fileOf (3 ∷ [])) (fileOf (1 ∷ [])) ≡ done (ofBits binary64 0x3FE0000000000000))
+    -- n = 0, 64, 65: 0, 1, 2 mask words
+    × (maskLen 0 ≡ 0) × (maskLen 64 ≡ 1) × (maskLen 65 ≡ 2)
+    -- the report of A, in ASCII: slots 4, far 2, step 0, index 0, sum 809, readings 3, a line each
+    × (reportText (fileOf A)
+    ≡ 115 ∷ 108 ∷ 111 ∷ 116 ∷ 115 ∷ 32 ∷ 52 ∷ 10
+    ∷ 102 ∷ 97 ∷ 114 ∷ 32 ∷ 50 ∷ 10
+    ∷ 115 ∷ 116 ∷ 101 ∷ 112 ∷ 32 ∷ 48 ∷ 10
+    ∷ 105 ∷ 110 ∷ 100 ∷ 101 ∷ 120 ∷ 32 ∷ 48 ∷ 10
+    ∷ 115 ∷ 117 ∷ 109 ∷ 32 ∷ 56 ∷ 48 ∷ 57 ∷ 10
+    ∷ 114 ∷ 101 ∷ 97 ∷ 100 ∷ 105 ∷ 110 ∷ 103 ∷ 115 ∷ 32 ∷ 51 ∷ 10 ∷ [])
+    -- the report of no bytes at all: refused 1 map 1 place 0
+    × (reportText []
+    ≡ 114 ∷ 101 ∷ 102 ∷ 117 ∷ 115 ∷ 101 ∷ 100 ∷ 32 ∷ 49 ∷ 32
+    ∷ 109 ∷ 97 ∷ 112 ∷ 32 ∷ 49 ∷ 32
+    ∷ 112 ∷ 108 ∷ 97 ∷ 99 ∷ 101 ∷ 32 ∷ 48 ∷ 10 ∷ [])
+unfolding
+    firstFrom firstBelow table positions joined sumFrom le number get indexStep indexLen fileLen primary
+    overflowSlots overflowCount overflowEntry overflowPart indexEntry indexPart header file countsOf summary
+    badEntry entryOf badSlot valueOf badIndexEntry badCounts checkParts checkHeader checkWith
+    listOf total readings plainOutcome editedFile editOutcome replaced editBuffer
+    quotient distanceBetween brayCurtisOutcome ofBits ofInt div
+    digits decimal field line mapLines refusedLine reportText
+examples = (refl, refl, refl, refl, refl, refl, refl, refl, refl, refl)

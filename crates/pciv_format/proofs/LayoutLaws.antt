@@ -1,0 +1,152 @@
+-- Laws of the layout: the derived counts, the length of each part, and that a file depends on the distances of
+-- its slots alone.
+use mathlib.Core.Path.{_≡_, refl, sym, ap, ap₂, _∙_}
+use Prim.Native.Nat.{ℕ, suc, _+_, _-_, _*_, _/_, _≤_, _<_}
+use native.Mathlib.Nat.{add-zero, le-div-iff-mul-le, suc-mul, div-le-self}
+use native.Mathlib.Omega.{arith}
+use mathlib.Core.Bool.{Bool, true, false, cond}
+use mathlib.Core.List.{List, _++_}
+use lib.ListN.{length, getD, length-append}
+use lib.Dec.{leb, eqb}
+use borrow.Author.Tests.{le-leb, lt-leb, leb-false, leb-true, eq-eqb, ne-eqb}
+use Rattle.pciv_bytes.specs.Ranges.{ceilDiv, table, positions, joined}
+use Rattle.pciv_bytes.specs.LittleEndian.{le}
+use Rattle.pciv_bytes.proofs.RangesLaws.{length-table, table-cong}
+use Rattle.pciv_bytes.proofs.PositionsLaws.{positions-count, positions-at, positions-cong}
+use Rattle.pciv_bytes.proofs.JoinedLaws.{length-joined, joined-cong}
+use Rattle.pciv_format.specs.Layout.{maxSlots, inOverflow, primaryByte, indexStep, indexLen, fileLen, primary, overflowSlots, overflowCount, overflowEntry, overflowPart, indexEntry, indexPart, header, file, countsOf, summary}
+
+-- ---- derived counts
+
+-- up to 2,048 overflow entries
+pub indexStep-few : (k : ℕ) → k ≤ 2048 → indexStep k ≡ 0
+unfolding indexStep
+indexStep-few k few = rw (le-leb k 2048 few)
+
+-- above 2,048 overflow entries the step is k / 2,048, rounded up
+pub indexStep-many : (k : ℕ) → 2048 < k → indexStep k ≡ ceilDiv k 2048
+unfolding indexStep
+indexStep-many k many = rw (lt-leb k 2048 many)
+
+pub indexLen-zero : (k : ℕ) → indexStep k ≡ 0 → indexLen k ≡ 0
+unfolding indexLen
+indexLen-zero k e = rw (eq-eqb (indexStep k) 0 e)
+
+pub indexLen-step : (k : ℕ) → 0 < indexStep k → indexLen k ≡ ceilDiv k (indexStep k)
+unfolding indexLen
+indexLen-step k h = rw (ne-eqb (indexStep k) 0 (λ q. omega arith))
+
+-- few or many: what the step and the index length are
+pub index-cases : {B : Type 0} (k : ℕ) → (k ≤ 2048 → indexStep k ≡ 0 → indexLen k ≡ 0 → B)
+    → (2048 < k → indexStep k ≡ ceilDiv k 2048 → indexLen k ≡ ceilDiv k (indexStep k) → B) → B
+index-cases {B} k few many = go (leb k 2048) refl
+  where
+    go : (b : Bool) → leb k 2048 ≡ b → B
+    go true e =
+        let h : k ≤ 2048 = leb-true k 2048 e in
+        let s = indexStep-few k h in
+        few h s (indexLen-zero k s)
+    go false e =
+        let h : 2048 < k = leb-false k 2048 e in
+        let s = indexStep-many k h in
+        many h s (indexLen-step k (omega arith))
+
+-- every index entry points at an overflow entry
+pub index-inside : (k i : ℕ) → i < indexLen k → i * indexStep k < k
+index-inside k i h =
+    index-cases k (λ few s l. absurd (omega arith))
+    (λ many s l.
+    (let st : ℕ = indexStep k in
+    let h₂ : suc i ≤ (k + (st - 1)) / st = omega arith in
+    let h₃ : suc i * st ≤ k + (st - 1) = le-div-iff-mul-le (omega arith) .0 h₂ in
+    let h₄ : suc i * st ≡ i * st + st = suc-mul i st in
+    omega arith))
+
+pub indexStep-le : (k : ℕ) → indexStep k ≤ k
+indexStep-le k = index-cases k (λ few s l. omega arith) (λ many s l. omega arith)
+
+pub indexLen-le : (k : ℕ) → indexLen k ≤ k + indexStep k
+indexLen-le k =
+    index-cases k (λ few s l. omega arith)
+    (λ many s l. omega (arith, div-le-self (k + (indexStep k - 1)) (indexStep k)))
+
+pub fileLen-is : (n k : ℕ) → fileLen n k ≡ 40 + n + 12 * k + 16 * indexLen k
+unfolding fileLen
+fileLen-is n k = refl
+
+-- ---- lengths
+
+pub length-primary : (n : ℕ) (v : ℕ → ℕ) → length (primary n v) ≡ n
+unfolding primary
+length-primary n v = length-table (λ (i : ℕ). primaryByte (v i)) 0 n
+
+pub length-overflowEntry : (v : ℕ → ℕ) (s : ℕ) → length (overflowEntry v s) ≡ 12
+unfolding overflowEntry le
+length-overflowEntry v s = refl
+
+pub length-indexEntry : (ss : List ℕ) (step i : ℕ) → length (indexEntry ss step i) ≡ 16
+unfolding indexEntry le
+length-indexEntry ss step i = refl
+
+pub length-header : (n k : ℕ) → length (header n k) ≡ 40
+unfolding header le
+length-header n k = refl
+
+pub length-overflowPart : (n : ℕ) (v : ℕ → ℕ) → length (overflowPart n v) ≡ 12 * overflowCount n v
+unfolding overflowPart overflowCount
+length-overflowPart n v = length-joined (overflowEntry v) 12 (length-overflowEntry v) (overflowSlots n v)
+
+pub length-indexPart : (ss : List ℕ) → length (indexPart ss) ≡ 16 * indexLen (length ss)
+unfolding indexPart
+length-indexPart ss =
+    length-joined (indexEntry ss (indexStep (length ss))) 16 (length-indexEntry ss (indexStep (length ss))) _
+    ∙ ap (λ (m : ℕ). 16 * m) (length-table (λ (i : ℕ). i) 0 (indexLen (length ss)))
+
+pub length-file : (n : ℕ) (v : ℕ → ℕ) → length (file n v) ≡ fileLen n (overflowCount n v)
+unfolding file fileLen overflowCount
+length-file n v =
+    simp (length-append, length-header, length-primary, length-overflowPart, length-indexPart) (omega (arith, count))
+  where
+    count : overflowCount n v ≡ length (overflowSlots n v)
+    count = refl
+
+-- ---- the overflow slots
+
+pub overflowCount-le : (n : ℕ) (v : ℕ → ℕ) → overflowCount n v ≤ n
+unfolding overflowCount overflowSlots
+overflowCount-le n v = positions-count (λ (i : ℕ). inOverflow (v i)) 0 n
+
+-- ---- the file depends on the distances of the n slots alone
+
+module _ (n : ℕ) (v w : ℕ → ℕ) (same : (i : ℕ) → i < n → v i ≡ w i) where
+  overflowSlots-cong : overflowSlots n v ≡ overflowSlots n w
+  unfolding overflowSlots
+  overflowSlots-cong =
+      positions-cong (λ (i : ℕ). inOverflow (v i)) (λ (i : ℕ). inOverflow (w i)) 0 n (λ j h₁ h₂. ap inOverflow (same j (omega arith)))
+
+  primary-cong : primary n v ≡ primary n w
+  unfolding primary
+  primary-cong =
+      table-cong (λ (i : ℕ). primaryByte (v i)) (λ (i : ℕ). primaryByte (w i)) 0 n (λ j h. ap primaryByte (same j (omega arith)))
+
+  overflowPart-cong : overflowPart n v ≡ overflowPart n w
+  unfolding overflowPart overflowEntry overflowSlots
+  overflowPart-cong =
+      joined-cong (overflowEntry v) (overflowEntry w) (overflowSlots n v)
+      (λ j h.
+      (let s : ℕ = getD (overflowSlots n v) j 0 in
+      let inside : s < n = omega (arith, positions-at (λ (i : ℕ). inOverflow (v i)) 0 n j h .high) in
+      ap (λ (x : ℕ). le 8 s ++ le 4 x) (same s inside)))
+      ∙ ap (joined (overflowEntry w)) overflowSlots-cong
+
+  pub overflowCount-cong : overflowCount n v ≡ overflowCount n w
+  unfolding overflowCount
+  overflowCount-cong = ap length overflowSlots-cong
+
+  pub file-cong : file n v ≡ file n w
+  unfolding file
+  file-cong = rw (overflowCount-cong, primary-cong, overflowPart-cong, overflowSlots-cong)
+
+  pub summary-cong : summary n v ≡ summary n w
+  unfolding summary
+  summary-cong = ap (countsOf n) overflowCount-cong

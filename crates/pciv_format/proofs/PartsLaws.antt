@@ -1,0 +1,161 @@
+-- Laws of parts that are sound: each entry's slot and distance, each slot's entry and distance, and that the
+-- entries' slots are the slots in overflow.
+use mathlib.Core.Path.{_≡_, refl, sym, ap, _∙_}
+use Prim.Native.Nat.{ℕ, zero, suc, _+_, _-_, _≤_, _<_}
+use native.Mathlib.Nat.{le-refl, zero-add}
+use native.Mathlib.Omega.{arith}
+use native.Mathlib.Decide.{decLe}
+use mathlib.Core.Bool.{Bool, true, false, not, _&&_, _||_}
+use mathlib.Core.List.{List}
+use lib.ListN.{length, getD}
+use lib.Dec.{ltb, leb, eqb}
+use borrow.Author.Tests.{lt-ltb, le-ltb, le-leb, lt-leb, eq-eqb, ne-eqb, ltb-false, leb-true, leb-false, eqb-true, not-false}
+use Rattle.pciv_bytes.specs.Ranges.{firstBelow, table}
+use Rattle.pciv_bytes.proofs.RangesLaws.{firstBelow-at, firstBelow-has, firstBelow-lt, firstBelow-none, length-table}
+use Rattle.pciv_bytes.proofs.PositionsLaws.{Position, Rising, rises, positions-are}
+use Rattle.pciv_format.specs.Layout.{maxDistance, inOverflow, primaryByte, overflowSlots, overflowCount}
+use Rattle.pciv_format.specs.Parts.{Parts, lowestSlot, badEntry, entryOf, badSlot, valueOf, SoundParts}
+
+-- ---- tests
+
+pub or-false : (a b : Bool) → a || b ≡ false → (a ≡ false) × (b ≡ false)
+or-false true b e = let z : _≡_ {A = ℕ} 0 1 = cc in absurd (omega arith)
+or-false false b e = (refl, e)
+
+pub or-true : (a : Bool) → a || true ≡ true
+or-true true = refl
+or-true false = refl
+
+pub and-left : (a b : Bool) → a && b ≡ false → a ≡ true → b ≡ false
+and-left true b e q = e
+and-left false b e q = let z : _≡_ {A = ℕ} 0 1 = cc in absurd (omega arith)
+
+pub and-false : (a : Bool) → a && false ≡ false
+and-false true = refl
+and-false false = refl
+
+pub not-eqb : (x y : ℕ) → not (eqb x y) ≡ false → x ≡ y
+not-eqb x y e = eqb-true x y (not-false (eqb x y) e)
+
+pub eqb-not : (x y : ℕ) → x ≡ y → not (eqb x y) ≡ false
+eqb-not x y e = rw (eq-eqb x y e)
+
+pub neb-not : (x y : ℕ) → (x ≡ y → ⊥) → not (eqb x y) ≡ true
+neb-not x y e = rw (ne-eqb x y e)
+
+-- ---- the primary byte of a distance
+
+pub primaryByte-overflow : (x : ℕ) → 255 ≤ x → primaryByte x ≡ 255
+primaryByte-overflow x h = rw (le-ltb x 255 h)
+
+pub primaryByte-inline : (x : ℕ) → x < 255 → primaryByte x ≡ x
+primaryByte-inline x h = rw (lt-ltb x 255 h)
+
+-- ---- an overflow entry that is right
+
+pub record GoodEntry (P : Parts) (j : ℕ) : Type 0 where
+  pub inside : P .slot j < P .n
+  pub above : lowestSlot P j ≤ P .slot j
+  pub far : 255 ≤ P .distance j
+  pub marked : P .byte (P .slot j) ≡ 255
+
+pub goodEntry-of-test : (P : Parts) (j : ℕ) → badEntry P j ≡ false → GoodEntry P j
+unfolding badEntry
+goodEntry-of-test P j e =
+    let o₃ = or-false _ _ e in
+    let o₂ = or-false _ _ (o₃ .0) in
+    let o₁ = or-false _ _ (o₂ .0) in
+    record { inside = leb-false _ _ (o₁ .0); above = ltb-false _ _ (o₁ .1); far = ltb-false _ _ (o₂ .1); marked = not-eqb _ _ (o₃ .1) }
+
+pub badEntry-good : (P : Parts) (j : ℕ) → GoodEntry P j → badEntry P j ≡ false
+unfolding badEntry
+badEntry-good P j g =
+    rw (
+      lt-leb (P .n) (P .slot j) (g .inside),
+      le-ltb (P .slot j) (lowestSlot P j) (g .above),
+      le-ltb (P .distance j) 255 (g .far),
+      eq-eqb (P .byte (P .slot j)) 255 (g .marked),
+    )
+
+-- ---- what sound parts satisfy
+
+module _ (P : Parts) (s : SoundParts P) where
+  pub entry-good : (j : ℕ) → j < P .k → GoodEntry P j
+  entry-good j h = goodEntry-of-test P j (s .entries j h)
+
+  pub slots-rise : (j t : ℕ) → j < t → t < P .k → P .slot j < P .slot t
+  slots-rise = rises (P .slot) (P .k) (λ j h. omega (arith, entry-good (suc j) h .above))
+
+  -- the entry of entry j's slot is j
+  pub entryOf-slot : (j : ℕ) → j < P .k → entryOf P (P .slot j) ≡ j
+  unfolding entryOf
+  entryOf-slot j h =
+      firstBelow-at (λ (i : ℕ). eqb (P .slot i) (P .slot j)) (P .k) j h
+      (λ i hi. ne-eqb (P .slot i) (P .slot j) (λ q. omega (arith, slots-rise i j hi h)))
+      (eq-eqb (P .slot j) (P .slot j) refl)
+
+  -- the distance at entry j's slot
+  pub valueOf-slot : (j : ℕ) → j < P .k → valueOf P (P .slot j) ≡ P .distance j
+  unfolding valueOf
+  valueOf-slot j h = rw (entry-good j h .marked, entryOf-slot j h)
+
+  -- a slot with byte 255 has an entry
+  pub slot-entry : (i : ℕ) → i < P .n → P .byte i ≡ 255 → (j : ℕ) × (j < P .k) × (P .slot j ≡ i)
+  unfolding badSlot entryOf
+  slot-entry i h e =
+      let p : ℕ → Bool = λ j. eqb (P .slot j) i in
+      let lt : firstBelow p (P .k) < P .k = leb-false _ _ (and-left _ _ (s .slots i h) (eq-eqb _ _ e)) in
+      (firstBelow p (P .k), lt, eqb-true _ _ (firstBelow-has p (P .k) lt))
+
+  -- a slot with a byte below 255 is stored inline
+  pub valueOf-inline : (i : ℕ) → P .byte i < 255 → valueOf P i ≡ P .byte i
+  unfolding valueOf
+  valueOf-inline i h = rw (lt-ltb (P .byte i) 255 h)
+
+  module _ (bytes : (i : ℕ) → P .byte i < 256) where
+    -- what is known of slot i: inline, or in overflow with an entry j
+    pub slot-cases : {B : Type 0} (i : ℕ) → i < P .n → (P .byte i < 255 → valueOf P i ≡ P .byte i → B)
+        → ((j : ℕ) → j < P .k → P .slot j ≡ i → P .byte i ≡ 255 → valueOf P i ≡ P .distance j → 255 ≤ valueOf P i → B) → B
+    slot-cases i h inline overflow =
+        elim (decLe 255 (P .byte i)) [
+          | yes d ↦ (let e : P .byte i ≡ 255 = omega (arith, bytes i) in
+              let q = slot-entry i h e in
+              let w : valueOf P i ≡ P .distance (q .0) = ap (valueOf P) (sym (q .2)) ∙ valueOf-slot (q .0) (q .1) in
+              overflow (q .0) (q .1) (q .2) e w (omega (arith, w, entry-good (q .0) (q .1) .far)))
+          | no d ↦ inline (omega arith) (valueOf-inline i (omega arith))
+        ]
+
+    -- the primary byte is that of the distance
+    pub primaryByte-valueOf : (i : ℕ) → i < P .n → primaryByte (valueOf P i) ≡ P .byte i
+    primaryByte-valueOf i h =
+        slot-cases i h (λ small e. rw e (primaryByte-inline _ small))
+        (λ j hj at e w far. primaryByte-overflow (valueOf P i) far ∙ sym e)
+
+    pub valueOf-le : ((j : ℕ) → j < P .k → P .distance j ≤ maxDistance) → (i : ℕ) → i < P .n → valueOf P i ≤ maxDistance
+    valueOf-le each i h = slot-cases i h (λ small e. omega arith) (λ j hj at e w far. omega (arith, each j hj))
+
+    byte-of-overflow : (i : ℕ) → i < P .n → 255 ≤ valueOf P i → P .byte i ≡ 255
+    byte-of-overflow i h far = slot-cases i h (λ small e. absurd (omega arith)) (λ j hj at e w far'. e)
+
+    -- the slots in overflow are the entries' slots
+    pub overflowSlots-are : overflowSlots (P .n) (valueOf P) ≡ table (P .slot) 0 (P .k)
+    unfolding overflowSlots
+    overflowSlots-are =
+        positions-are (λ (i : ℕ). inOverflow (valueOf P i)) (P .slot) (P .n) 0 0 (P .k)
+        (record {
+          each = λ j h₁ h₂. (let hj : j < P .k = omega arith in
+              record {
+                low = omega arith;
+                high = omega (arith, entry-good j hj .inside);
+                has = le-leb 255 (valueOf P (P .slot j)) (omega (arith, valueOf-slot j hj, entry-good j hj .far));
+              });
+          rise = λ j l h₁ h₂ h₃. slots-rise j l h₂ (omega arith);
+          every = λ t h₁ h₂ q.
+              (let e : P .byte t ≡ 255 = byte-of-overflow t (omega arith) (leb-true 255 (valueOf P t) q) in
+              let r = slot-entry t (omega arith) e in
+              (r .0, omega arith, omega (arith, r .1), r .2));
+        })
+
+    pub overflowCount-is : overflowCount (P .n) (valueOf P) ≡ P .k
+    unfolding overflowCount
+    overflowCount-is = ap length overflowSlots-are ∙ length-table (P .slot) 0 (P .k)
