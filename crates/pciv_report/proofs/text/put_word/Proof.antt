@@ -7,7 +7,7 @@ use native.Mathlib.Nat.{add-zero}
 use native.Mathlib.Omega.{arith}
 use lib.ListN.{length, drop, length-set}
 use lib.Seq.{sets}
-use Rattle.pciv_report.proofs.TextLaws.{sets-rest-more, sets-rest-end}
+use Rattle.pciv_bytes.proofs.WriteLaws.{sets-copy-more, sets-copy-end}
 use Rattle.pciv_report.proofs.text.put_word.Statement.{statement}
 use Rattle.pciv_report.proofs.text.put_word.Tie as tie
 use Rattle.pciv_report.proofs.text.put_word.Reads as reads
@@ -42,7 +42,7 @@ loop-again : tie.Need-loop-again Inv-loop μ-loop
 loop-again c =
     let l = c .before .before .loop in
     let a = c .before .before .before .args in
-    (omega arith, simp length-set (l .inv .1), l .inv .2 ∙ sets-rest-more (l .out) (a .word .now) (a .at) (l .i) (omega arith))
+    (omega arith, simp length-set (l .inv .1), l .inv .2 ∙ sets-copy-more (a .word .now) (l .out) 0 (a .at + l .i) (l .i) (a .at + (l .i + 1)) (omega arith) (omega arith))
 
 add-result : tie.Need-add-result Inv-loop μ-loop
 add-result c = search needs
@@ -55,7 +55,7 @@ returns c =
     let l = c .before .loop in
     let a = c .before .before .args in
     record {
-      bytes = sym (l .inv .2 ∙ sets-rest-end (l .out) (a .word .now) (a .at) (l .i) (omega arith));
+      bytes = sym (l .inv .2 ∙ sets-copy-end (a .word .now) (l .out) (a .at + l .i) (l .i) (omega arith));
       next = omega arith;
     }
 
