@@ -2,15 +2,21 @@
 // pciv_format's specs/Report.antt; src/text.rt writes the pieces.
 mod text;
 
+ghost use mathlib.Core.Path.{_≡_};
 ghost use Prim.Native.Nat.{_≤_};
 ghost use lib.ListN.{length};
+ghost use Rattle.pciv_format.specs.Read.{itemsInto};
+ghost use Rattle.pciv_format.specs.Refusals.{numberAnswer, written};
 ghost use Rattle.pciv_format.specs.Report.{mapLines, refusedLine};
 ghost use Rattle.pciv_report.specs.Text.{Put};
 
+use pciv_format::NumberAnswer;
 use pciv_format::Refusal;
 use pciv_format::Summary;
+use pciv_format::BUFFER_TOO_SMALL;
 use text::put_field;
 use text::put_line;
+use text::put_word;
 
 // The longest report has 160 bytes.
 const TEXT_LEN: usize = 160;
@@ -38,4 +44,19 @@ fn put_refusal(out: &mut [u8], r: Refusal) -> usize
     let map = put_field(out, 0, b"refused", r.number);
     let place = put_field(out, map, b" map", r.map);
     put_line(out, place, b" place", r.place)
+}
+
+// A text to the front of the caller's buffer, and its length. Refusal: 12.
+fn deliver(text: &[u8], out: &mut [u8]) -> NumberAnswer
+    ensures answer { λ r. ⌜ r ≡ numberAnswer (itemsInto (length (now (text .entry))) (length (now (out .entry)))) ⌝ }
+    ensures buffer { λ _. ⌜ now (out .exit) ≡ written (itemsInto (length (now (text .entry))) (length (now (out .entry)))) (now (text .entry)) (now (out .entry)) ⌝ }
+{
+    if out.len() < text.len() {
+        return NumberAnswer::Refused(Refusal {
+            number: BUFFER_TOO_SMALL,
+            map: 0,
+            place: 0,
+        });
+    }
+    NumberAnswer::Number(put_word(out, 0, text))
 }
