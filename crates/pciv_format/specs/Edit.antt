@@ -2,13 +2,13 @@
 --   editedFile b              the file at the front of a buffer b, by the counts in its header
 --   plainOutcome x R e        the plain editor's answer to edit e, from the list x and a buffer of R bytes
 --   editOutcome, editBuffer   the editor's answer, and the buffer afterwards
---   MayChange x e i           byte i of the buffer may change when x is edited by e
+--   MayChange x e i           byte i of the buffer may change when x is edited by e, which is accepted
 --   plainRun, plainOutcomes   the plain editor's state after a list of edits, and its answers in order
 --   bufferOf z b₀             what the buffer holds in state z, where it was b₀ at the start
 -- The plain editor is given the starting list, R and the edits, and nothing else. Axioms: none.
 use mathlib.Core.Path.{_≡_}
 use Prim.Native.Nat.{ℕ, _+_, _-_, _*_, _≤_, _<_, max}
-use mathlib.Core.Bool.{Bool, true, false, cond}
+use mathlib.Core.Bool.{Bool, true, false}
 use mathlib.Core.List.{List, [], _∷_, _++_}
 use mathlib.Core.Logic.{_⊎_}
 use lib.ListN.{length, take, drop, set, replicate}

@@ -1,7 +1,7 @@
 -- Comparison figures of two maps (docs/FORMAT.md, "Comparison figures").
 --   quotient p q           p / q as an f64: both made floats, then divided once; 0.0 where q is 0
 --   brayCurtisOutcome      the sum of |a - b| over the sum of a + b
---   jaccardOutcome at t    slots at t or above in exactly one map, over those in either
+--   jaccardOutcome t       slots at t or above in exactly one map, over those in either
 -- Axioms: none.
 use Prim.Native.Nat.{ℕ, _+_, _-_}
 use mathlib.Core.Bool.{Bool, cond, _||_, xor}

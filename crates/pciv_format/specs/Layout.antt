@@ -9,7 +9,7 @@
 --   file n v, fileOf xs  the whole file;  summary n v, summaryOf xs  its counts
 --   Limits xs            a list that a file can hold
 -- Laws are in proofs/LayoutLaws.antt. Axioms: none.
-use Prim.Native.Nat.{ℕ, _+_, _*_, _^_, _≤_, _<_}
+use Prim.Native.Nat.{ℕ, _+_, _*_, _≤_, _<_}
 use mathlib.Core.Bool.{Bool, cond}
 use mathlib.Core.List.{List, _++_}
 use lib.ListN.{length, getD}
@@ -39,7 +39,7 @@ fileLen n k = 40 + n + 12 * k + 16 * indexLen k
 
 -- ---- the parts of a file
 
--- a distance of 255 or more is in overflow (the scope's "far")
+-- a distance of 255 or more is in overflow (the report's word for it is "far")
 abbrev pub inOverflow : ℕ → Bool
 inOverflow x = leb 255 x
 

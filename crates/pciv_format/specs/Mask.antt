@@ -6,6 +6,7 @@
 --   holds c x t         distance x compares with t as c says
 --   thresholdOutcome c, nearMaskOutcome     masks of a map
 --   combineOutcome op, complementOutcome    masks of masks;  setBitsOutcome  the number of set bits
+--   bitsRow b           the eight bytes of the eight bits of b
 --   mapOfMaskOutcome, keepMaskedOutcome ("cut"), incrementMaskedOutcome ("tally")   files from masks
 -- Each has a -Words or -Buffer beside it: what the caller's list or buffer holds afterwards. Axioms: none.
 use Prim.Native.Nat.{ℕ, zero, suc, _+_, _-_, _*_, _/_, _%_, _^_, min}
@@ -37,7 +38,7 @@ bitAt x j = x / 2 ^ j % 2
 unfoldable pub maskHas : List ℕ → ℕ → Bool
 maskHas ws i = eqb (bitAt (getD ws (i / 64) 0) (i % 64)) 1
 
--- c bits f i, f (i + 1), .., the lowest first
+-- c bits, set where p holds of i, i + 1, .., the lowest first
 unfoldable pub word : (ℕ → Bool) → ℕ → ℕ → ℕ
 word p i zero = 0
 word p i (suc c) = flag (p i) + 2 * word p (suc i) c
@@ -59,7 +60,7 @@ holds AtMost x t = leb x t
 holds Above x t = ltb t x
 holds AtLeast x t = leb t x
 
--- the mask of the slots of b with p, into a list of `room` words
+-- a mask of the slots of b into a list of `room` words
 abbrev pub selectOutcome : List ℕ → ℕ → Outcome ℕ
 selectOutcome b room = andThen (checkFile 1 b) (λ s. itemsInto (maskLen (s .n)) room)
 
@@ -115,6 +116,10 @@ unfoldable pub setBitsOutcome : ℕ → List ℕ → Outcome ℕ
 setBitsOutcome n ws = refuseMasks n (badMask n ws) (done (setBits n ws))
 
 -- ---- files from masks
+
+-- row b of the table that turns eight bits into eight bytes: place j is bit j of b
+unfoldable pub bitsRow : ℕ → List ℕ
+bitsRow b = table (bitAt b) 0 8
 
 -- a mask as a map of 0 and 1
 abbrev pub maskValue : List ℕ → ℕ → ℕ

@@ -4,7 +4,7 @@
 --   refuseIf test refusal o      the refusal where the test holds, else o
 --   refuseFirst number map bad count o
 --                                refused at the least place below count that is bad, else o
---   o andThen f                  f of what o is done with; a refusal stays
+--   andThen o f                  f of what o is done with; a refusal stays
 --   written o f d                a buffer or list d after the outcome o of writing f: f and then what stood behind
 --                                it, or d unchanged after a refusal
 --   fileAnswer, numberAnswer, distanceAnswer, figureAnswer

@@ -1,0 +1,51 @@
+-- Which refusal the header gets, case by case.
+use mathlib.Core.Path.{_≡_, refl}
+use Prim.Native.Nat.{ℕ, _≤_, _<_}
+use mathlib.Core.Bool.{Bool, true, false, not, _||_}
+use mathlib.Core.List.{List}
+use lib.ListN.{length}
+use lib.Dec.{ltb, eqb}
+use borrow.Author.Tests.{lt-ltb, le-ltb}
+use Rattle.pciv_bytes.specs.LittleEndian.{get}
+use Rattle.pciv_format.specs.Layout.{maxSlots, magic, indexStep, indexLen}
+use Rattle.pciv_format.specs.Refusals.{refuse}
+use Rattle.pciv_format.specs.Check.{nField, kField, mField, stepField, badCounts, checkHeader}
+use Rattle.pciv_format.proofs.PartsLaws.{or-true, eqb-not, neb-not}
+
+-- ---- the counts
+
+module _ (n k m step : ℕ) where
+  pub badCounts-k : n < k → badCounts n k m step ≡ true
+  unfolding badCounts
+  badCounts-k h = rw (lt-ltb n k h)
+
+  pub badCounts-step : (step ≡ indexStep k → ⊥) → badCounts n k m step ≡ true
+  unfolding badCounts
+  badCounts-step h = rw (neb-not step (indexStep k) h, or-true (ltb n k))
+
+  pub badCounts-m : (m ≡ indexLen k → ⊥) → badCounts n k m step ≡ true
+  unfolding badCounts
+  badCounts-m h = rw (neb-not m (indexLen k) h) (or-true (ltb n k || not (eqb step (indexStep k))))
+
+-- ---- the refusals
+
+module _ (mp : ℕ) (b : List ℕ) where
+  pub header-short : length b < 40 → checkHeader mp b ≡ refuse 1 mp 0
+  unfolding checkHeader
+  header-short h = rw (lt-ltb (length b) 40 h)
+
+  module _ (long : 40 ≤ length b) where
+    pub header-mark : (get 8 b 0 ≡ magic → ⊥) → checkHeader mp b ≡ refuse 2 mp 0
+    unfolding checkHeader
+    header-mark h = rw (le-ltb (length b) 40 long, neb-not (get 8 b 0) magic h)
+
+    module _ (mark : get 8 b 0 ≡ magic) where
+      pub header-slots : maxSlots < nField b → checkHeader mp b ≡ refuse 3 mp 0
+      unfolding checkHeader
+      header-slots h = rw (le-ltb (length b) 40 long, eqb-not (get 8 b 0) magic mark, lt-ltb maxSlots (nField b) h)
+
+      pub header-counts : nField b ≤ maxSlots → badCounts (nField b) (kField b) (mField b) (stepField b) ≡ true
+          → checkHeader mp b ≡ refuse 4 mp 0
+      unfolding checkHeader
+      header-counts small h =
+          rw (le-ltb (length b) 40 long, eqb-not (get 8 b 0) magic mark, le-ltb maxSlots (nField b) small, h)

@@ -1,0 +1,11 @@
+-- What the header has shown before the parts of a file are looked at: they lie within the bytes.
+use mathlib.Core.Path.{_≡_}
+use Prim.Native.Nat.{ℕ, _+_, _*_, _≤_}
+use mathlib.Core.List.{List}
+use lib.ListN.{length}
+use Rattle.pciv_format.specs.Layout.{maxSlots, indexLen}
+
+pub record PartsInside (b : List ℕ) (n k : ℕ) : Type 0 where
+  pub small : n ≤ maxSlots
+  pub few : k ≤ n
+  pub inside : 40 + n + 12 * k + 16 * indexLen k ≤ length b
