@@ -33,7 +33,7 @@ module _ (P : Parts) (right : EntriesRight P) where
       let s : ℕ = P .slot j in
       let here = range j (omega arith) (omega arith) in
       let rest = count-entries d (j + 1) (s + 1) hi (omega arith)
-        (λ t h₁ h₂. (omega (arith, slots-rise P right j t (omega arith) (omega arith)), range t (omega arith) (omega arith) .1)) in
+      (λ t h₁ h₂. (omega (arith, slots-rise P right j t (omega arith) (omega arith)), range t (omega arith) (omega arith) .1)) in
       omega (arith, count-one P lo s hi (here .0) (here .1) (entry-at P right j (omega arith) .marked))
 
   -- a byte 255 with no entry is one too many
@@ -44,10 +44,10 @@ module _ (P : Parts) (right : EntriesRight P) where
       let r : ℕ = firstBelow p (P .k) in
       let le : r ≤ P .k = firstBelow-le p (P .k) in
       let low : r ≤ sumFrom (isFull P) 0 (i - 0) =
-        count-entries r 0 0 i (omega arith)
-        (λ t h₁ h₂. (omega arith, leb-false i (P .slot t) (firstBelow-clear p (P .k) t (omega arith)))) in
+      count-entries r 0 0 i (omega arith)
+      (λ t h₁ h₂. (omega arith, leb-false i (P .slot t) (firstBelow-clear p (P .k) t (omega arith)))) in
       let high : P .k - r ≤ sumFrom (isFull P) (i + 1) (P .n - (i + 1)) =
-        count-entries (P .k - r) r (i + 1) (P .n) (omega arith) (λ t h₁ h₂. (past t h₁ (omega arith), entry-at P right t (omega arith) .inside)) in
+      count-entries (P .k - r) r (i + 1) (P .n) (omega arith) (λ t h₁ h₂. (past t h₁ (omega arith), entry-at P right t (omega arith) .inside)) in
       omega (arith, count-one P 0 i (P .n) (omega arith) h full, ap (sumFrom (isFull P) 0) (sub-zero (P .n)))
     where
       past : (t : ℕ) → firstBelow (λ (t : ℕ). leb i (P .slot t)) (P .k) ≤ t → t < P .k → i + 1 ≤ P .slot t
@@ -55,11 +55,12 @@ module _ (P : Parts) (right : EntriesRight P) where
           let p : ℕ → Bool = λ t. leb i (P .slot t) in
           let r : ℕ = firstBelow p (P .k) in
           let first : i ≤ P .slot r = leb-true i (P .slot r) (firstBelow-has p (P .k) (omega arith)) in
-          elim (decLe t r)
-          [ yes d ↦ (let q : t ≡ r = omega arith in
-              elim (decLe (P .slot t) i)
-              [ yes e ↦ absurd (none t h₂ (omega (arith, ap (P .slot) q))) | no e ↦ omega arith ])
-          | no d ↦ omega (arith, slots-rise P right r t (omega arith) h₂) ]
+          elim (decLe t r) [
+            | yes d ↦ (let q : t ≡ r = omega arith in
+                elim (decLe (P .slot t) i)
+                [ yes e ↦ absurd (none t h₂ (omega (arith, ap (P .slot) q))) | no e ↦ omega arith ])
+            | no d ↦ omega (arith, slots-rise P right r t (omega arith) h₂)
+          ]
 
   pub count-complete : sumFrom (isFull P) 0 (P .n) ≡ P .k → (i : ℕ) → i < P .n → badSlot P i ≡ false
   count-complete count i h = go (badSlot P i) refl (eqb (P .byte i) 255) refl

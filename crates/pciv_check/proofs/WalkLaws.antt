@@ -57,9 +57,9 @@ module _ (P : Parts) (right : EntriesRight P) where
   walk-take i j w h e =
       record {
         below = λ t ht.
-          elim (decLe j t)
-          [ yes d ↦ (let q : t ≡ j = omega arith in omega (arith, ap (P .slot) q)) | no d ↦ omega (arith, w .below t (omega arith)) ];
-        above = λ t h₁ h₂. omega (arith, slots-rise j t (omega arith) h₂)
+            elim (decLe j t)
+            [ yes d ↦ (let q : t ≡ j = omega arith in omega (arith, ap (P .slot) q)) | no d ↦ omega (arith, w .below t (omega arith)) ];
+        above = λ t h₁ h₂. omega (arith, slots-rise j t (omega arith) h₂);
       }
 
   -- slot i is stored inline
@@ -68,10 +68,11 @@ module _ (P : Parts) (right : EntriesRight P) where
       record {
         below = λ t ht. omega (arith, w .below t ht);
         above = λ t h₁ h₂.
-          elim (decLe (P .slot t) i)
-          [ yes d ↦ (let q : P .slot t ≡ i = omega (arith, w .above t h₁ h₂) in
-              absurd (inline (ap (P .byte) (sym q) ∙ entry-at t h₂ .marked)))
-          | no d ↦ omega arith ]
+            elim (decLe (P .slot t) i) [
+              | yes d ↦ (let q : P .slot t ≡ i = omega (arith, w .above t h₁ h₂) in
+                  absurd (inline (ap (P .byte) (sym q) ∙ entry-at t h₂ .marked)))
+              | no d ↦ omega arith
+            ];
       }
 
   -- slot i has byte 255, and the next entry is not its own
@@ -80,9 +81,11 @@ module _ (P : Parts) (right : EntriesRight P) where
     where
       none : (t : ℕ) → t < P .k → P .slot t ≡ i → ⊥
       none t h q =
-          elim (decLe j t)
-          [ yes d ↦
-            elim (decLe t j)
-            [ yes d' ↦ (let z : t ≡ j = omega arith in other (omega arith) (ap (P .slot) (sym z) ∙ q))
-            | no d' ↦ omega (arith, slots-rise j t (omega arith) h, w .above j (le-refl j) (omega arith)) ]
-          | no d ↦ omega (arith, w .below t (omega arith)) ]
+          elim (decLe j t) [
+            | yes d ↦
+                elim (decLe t j) [
+                  | yes d' ↦ (let z : t ≡ j = omega arith in other (omega arith) (ap (P .slot) (sym z) ∙ q))
+                  | no d' ↦ omega (arith, slots-rise j t (omega arith) h, w .above j (le-refl j) (omega arith))
+                ]
+            | no d ↦ omega (arith, w .below t (omega arith))
+          ]

@@ -1,12 +1,12 @@
 -- Laws of the report's text (pciv_format's specs/Report.antt).
 --   decimal-small/-large   the digits of a number below 10, and of a larger one
 --   length-..-le           how long each piece of text is at most
-use mathlib.Core.Path.{_≡_, refl, sym, ap, _∙_}
-use Prim.Native.Nat.{ℕ, zero, suc, _+_, _*_, _/_, _%_, _^_, _≤_, _<_}
+use mathlib.Core.Path.{_≡_, sym, ap, _∙_}
+use Prim.Native.Nat.{ℕ, zero, suc, _+_, _/_, _%_, _^_, _≤_, _<_}
 use native.Mathlib.Nat.{pow-suc}
 use native.Mathlib.Decide.{decLt}
 use native.Mathlib.Omega.{arith}
-use mathlib.Core.Bool.{Bool, true, false, cond}
+use mathlib.Core.Bool.{cond}
 use mathlib.Core.List.{List, [], _∷_, _++_, append-assoc}
 use lib.ListN.{length, length-append}
 use lib.Dec.{ltb}
@@ -39,9 +39,9 @@ length-digits-le (suc f) x =
     elim (decLt x 10) [
       | yes small ↦ rw (digits-small f x small) (omega arith)
       | no large ↦ (
-        let h : 10 ≤ x = omega arith in
-        rw (digits-large f x h, length-append) (omega (arith, length-digits-le f (x / 10)))
-      )
+          let h : 10 ≤ x = omega arith in
+          rw (digits-large f x h, length-append) (omega (arith, length-digits-le f (x / 10)))
+          )
     ]
 
 pub decimal-small : (x : ℕ) → x < 10 → decimal x ≡ (48 + x % 10) ∷ []

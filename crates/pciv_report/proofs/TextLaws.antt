@@ -15,7 +15,10 @@ module _ {d e : List ℕ} {p q : ℕ} {a : List ℕ} where
   pub put-then : {f b : List ℕ} {r : ℕ} → Put d p a e q → Put e q b f r → Put d p (a ++ b) f r
   put-then {b = b} x y =
       record {
-        bytes = y .bytes ∙ ap₂ (λ (l : List ℕ) (n : ℕ). sets l n b) (x .bytes) (x .next) ∙ sym (sets-append a b d p);
+        bytes =
+            y .bytes
+            ∙ ap₂ (λ (l : List ℕ) (n : ℕ). sets l n b) (x .bytes) (x .next)
+            ∙ sym (sets-append a b d p);
         next = simp length-append (omega (arith, x .next, y .next));
       }
 
@@ -24,6 +27,6 @@ module _ {d e : List ℕ} {p q : ℕ} {a : List ℕ} where
 
 module _ {d e : List ℕ} {q : ℕ} {a : List ℕ} where
   pub put-front : Put d 0 a e q → length a ≤ length d → take q e ≡ a
-  put-front x fits = 
+  put-front x fits =
       let n : q ≡ length a = omega (arith, x .next) in
       ap₂ take n (x .bytes ∙ sets-front a d fits) ∙ take-append-seam a (drop (length a) d)

@@ -31,12 +31,12 @@ pub fn put_decimal(out: &mut [u8], at: usize, x: usize) -> usize
     requires { ⌜ at + length (decimal x) ≤ length (now out) ⌝ }
     ensures { λ r. ⌜ Put (now (out .entry)) at (decimal x) (now (out .exit)) r ⌝ }
 {
-    let digit = (48 + x % 10) as u8;
+    let digit = b'0' + (x % 10) as u8;
     if x < 10 {
         put_byte(out, at, digit)
     } else {
-        let last = put_decimal(out, at, x / 10);
-        put_byte(out, last, digit)
+        let at = put_decimal(out, at, x / 10);
+        put_byte(out, at, digit)
     }
 }
 
@@ -46,17 +46,18 @@ pub fn put_field(out: &mut [u8], at: usize, word: &[u8], x: usize) -> usize
     ensures text { λ r. ⌜ Put (now (out .entry)) at (field (now (word .entry)) x) (now (out .exit)) r ⌝ }
     ensures most { λ r. ⌜ r ≤ at + length (now (word .entry)) + 21 ⌝ }
 {
-    let space = put_word(out, at, word);
-    let number = put_byte(out, space, b' ');
-    put_decimal(out, number, x)
+    let at = put_word(out, at, word);
+    let at = put_byte(out, at, b' ');
+    put_decimal(out, at, x)
 }
 
 // Such a field as a line.
 pub fn put_line(out: &mut [u8], at: usize, word: &[u8], x: usize) -> usize
     requires { ⌜ at + length (now word) + 22 ≤ length (now out) ⌝ }
-    ensures text { λ r. ⌜ Put (now (out .entry)) at (line (field (now (word .entry)) x)) (now (out .exit)) r ⌝ }
+    ensures text { λ r.
+        ⌜ Put (now (out .entry)) at (line (field (now (word .entry)) x)) (now (out .exit)) r ⌝ }
     ensures most { λ r. ⌜ r ≤ at + length (now (word .entry)) + 22 ⌝ }
 {
-    let end = put_field(out, at, word, x);
-    put_byte(out, end, b'\n')
+    let at = put_field(out, at, word, x);
+    put_byte(out, at, b'\n')
 }

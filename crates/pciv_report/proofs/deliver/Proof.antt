@@ -3,15 +3,11 @@ use borrow.Author.Needs.{needs}
 use borrow.Author.Tests.{lt-ltb, le-ltb}
 use mathlib.Core.Path.{_≡_, ap, _∙_}
 use native.Mathlib.Omega.{arith}
-use Prim.Native.Nat.{ℕ}
 use lib.ListN.{length}
 use Rattle.pciv_bytes.proofs.WriteLaws.{sets-front}
 use Rattle.pciv_format.specs.declared.NumberAnswer.the-variants as InNumber
 use Rattle.pciv_report.proofs.deliver.Statement.{statement}
 use Rattle.pciv_report.proofs.deliver.Tie as tie
-use Rattle.pciv_report.proofs.deliver.Reads as reads
-use Rattle.pciv_report.proofs.deliver.Lts as lts
-use Rattle.pciv_report.proofs.text.put_word.Reads as put-word-reads
 
 returns : tie.Need-returns
 returns c =
@@ -31,7 +27,8 @@ returns-2 c =
     let a = before .before .before .before .args in
     let room = le-ltb _ _ (before .if1 .left) in
     let len : c .before .before .put-word .result ≡ length (a .text .now) = omega (arith, put .next) in
-    (simp room (ap InNumber.Number len), simp room (put .bytes ∙ sets-front (a .text .now) (a .out .now) (before .if1 .left)))
+    let front = sets-front (a .text .now) (a .out .now) (before .if1 .left) in
+    (simp room (ap InNumber.Number len), simp room (put .bytes ∙ front))
 
 pub deliver-spec : {M : Type 1} → statement M
 deliver-spec = tie.close (tie.spec returns put-word-requires same-length returns-2)

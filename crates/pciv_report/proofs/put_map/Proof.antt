@@ -4,9 +4,6 @@ use Rattle.pciv_format.specs.Report.{mapLines}
 use Rattle.pciv_report.proofs.TextLaws.{put-then}
 use Rattle.pciv_report.proofs.put_map.Statement.{statement}
 use Rattle.pciv_report.proofs.put_map.Tie as tie
-use Rattle.pciv_report.proofs.put_map.Reads as reads
-use Rattle.pciv_report.proofs.put_map.Lts as lts
-use Rattle.pciv_report.proofs.text.put_line.Reads as put-line-reads
 
 slice-aggregate-put-line : tie.Need-slice-aggregate-put-line
 slice-aggregate-put-line c = search needs
@@ -56,12 +53,13 @@ returns c =
     let third = fourth .before .before .before .before .before in
     let second = third .before .before .before .before .before in
     let first = second .before .before .before .before .before in
-    (put-then (first .put-line .ensures .0)
+    let all =
+    put-then (first .put-line .ensures .0)
     (put-then (second .put-line2 .ensures .0)
     (put-then (third .put-line3 .ensures .0)
     (put-then (fourth .put-line4 .ensures .0)
-    (put-then (fifth .put-line5 .ensures .0) (sixth .put-line6 .ensures .0))))),
-      search needs)
+    (put-then (fifth .put-line5 .ensures .0) (sixth .put-line6 .ensures .0))))) in
+    (all, search needs)
 
 pub put-map-spec : {M : Type 1} → statement M
 put-map-spec =

@@ -4,10 +4,6 @@ use Rattle.pciv_report.proofs.ReportLaws.{refusedLine-parts}
 use Rattle.pciv_report.proofs.TextLaws.{put-then}
 use Rattle.pciv_report.proofs.put_refusal.Statement.{statement}
 use Rattle.pciv_report.proofs.put_refusal.Tie as tie
-use Rattle.pciv_report.proofs.put_refusal.Reads as reads
-use Rattle.pciv_report.proofs.put_refusal.Lts as lts
-use Rattle.pciv_report.proofs.text.put_field.Reads as put-field-reads
-use Rattle.pciv_report.proofs.text.put_line.Reads as put-line-reads
 
 slice-aggregate-put-field : tie.Need-slice-aggregate-put-field
 slice-aggregate-put-field c = search needs
@@ -36,9 +32,8 @@ returns c =
     let second = third .before .before .before .before .before in
     let first = second .before .before .before .before .before in
     let start = first .before .before .before .before in
-    (rw (refusedLine-parts (start .args .r))
-    (put-then (first .put-field .ensures .0) (put-then (second .put-field2 .ensures .0) (third .put-line .ensures .0))),
-      search needs)
+    let all = put-then (first .put-field .ensures .0) (put-then (second .put-field2 .ensures .0) (third .put-line .ensures .0)) in
+    (rw (refusedLine-parts (start .args .r)) all, search needs)
 
 pub put-refusal-spec : {M : Type 1} → statement M
 put-refusal-spec =

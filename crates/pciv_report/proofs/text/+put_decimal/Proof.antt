@@ -1,12 +1,11 @@
 -- Proves pciv_report::text::put_decimal, which calls itself. Falls: the number x.
 use borrow.Author.Needs.{needs}
-use mathlib.Core.Path.{_≡_, sym, ap}
-use Prim.Native.Nat.{ℕ, _+_, _/_, _<_, _≤_}
+use mathlib.Core.Path.{ap}
+use Prim.Native.Nat.{ℕ, _<_}
 use native.Mathlib.Omega.{arith}
-use lib.ListN.{length, length-append}
+use lib.ListN.{length}
 use borrow.Fn.Kinds.{In}
 use borrow.Fn.PlainCycle.{Measures, is, falls, and}
-use Rattle.pciv_format.specs.Report.{decimal}
 use Rattle.pciv_report.proofs.ReportLaws.{decimal-small, decimal-large, length-decimal-large}
 use Rattle.pciv_report.proofs.TextLaws.{put-then, put-length}
 use Rattle.pciv_report.proofs.text.put_decimal.Reads as reads
@@ -47,7 +46,8 @@ put-decimal-requires t c κs =
 put-byte-requires-2 : (t : ℕ) → lts.Need-put-byte-requires-2 (callees t) (given t) reads.Post
 put-byte-requires-2 t c κs =
     let x = c .before .before .before .before .before .before .before .args .x in
-    omega (arith, length-decimal-large x (omega arith) (omega arith), put-length (c .before .before .before .put-decimal .ensures))
+    let kept = put-length (c .before .before .before .put-decimal .ensures) in
+    omega (arith, length-decimal-large x (omega arith) (omega arith))
 
 same-length : (t : ℕ) → lts.Need-same-length (callees t) (given t) reads.Post
 same-length t c = search needs
@@ -62,10 +62,20 @@ same-length-2 t c = search needs
 
 returns-2 : (t : ℕ) → lts.Need-returns-2 (callees t) (given t) reads.Post
 returns-2 t c =
-    let x = c .before .before .before .before .before .before .before .before .before .before .args .x in
-    rw (decimal-large x (omega arith) (omega arith))
-    (put-then (c .before .before .before .before .before .before .put-decimal .ensures) (c .before .before .put-byte2 .ensures))
+    let last = c .before .before in
+    let first = last .before .before .before .before in
+    let x = first .before .before .before .before .args .x in
+    rw (decimal-large x (omega arith) (omega arith)) (put-then (first .put-decimal .ensures) (last .put-byte2 .ensures))
 
 pub +put-decimal-spec : {M : Type 1} → statement M
 +put-decimal-spec =
-    close μ λ t. lts.spec (callees t) (given t) reads.Post (add-digit t) (cast-digit t) (put-byte-requires t) (put-decimal-requires t) (put-byte-requires-2 t) (same-length t) (returns t) (same-length-2 t) (returns-2 t)
+    close μ λ t. lts.spec (callees t) (given t) reads.Post
+    (cast-digit t)
+    (add-digit t)
+    (put-byte-requires t)
+    (put-decimal-requires t)
+    (put-byte-requires-2 t)
+    (same-length t)
+    (returns t)
+    (same-length-2 t)
+    (returns-2 t)

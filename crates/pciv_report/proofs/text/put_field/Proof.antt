@@ -6,11 +6,6 @@ use Rattle.pciv_report.proofs.ReportLaws.{length-decimal-le}
 use Rattle.pciv_report.proofs.TextLaws.{put-then}
 use Rattle.pciv_report.proofs.text.put_field.Statement.{statement}
 use Rattle.pciv_report.proofs.text.put_field.Tie as tie
-use Rattle.pciv_report.proofs.text.put_field.Reads as reads
-use Rattle.pciv_report.proofs.text.put_field.Lts as lts
-use Rattle.pciv_report.proofs.text.put_byte.Reads as put-byte-reads
-use Rattle.pciv_report.proofs.text.put_decimal.Reads as put-decimal-reads
-use Rattle.pciv_report.proofs.text.put_word.Reads as put-word-reads
 
 put-word-requires : tie.Need-put-word-requires
 put-word-requires c κs = search needs
@@ -32,9 +27,10 @@ returns c =
     let third = c .before .before in
     let second = third .before .before .before .before in
     let first = second .before .before .before .before in
-    let start = first .before .before .before .before in
-    (put-then (first .put-word .ensures) (put-then (second .put-byte .ensures) (third .put-decimal .ensures)),
-      omega (arith, length-decimal-le (start .args .x), third .put-decimal .ensures .next))
+    let start = first .before .before .before .before in (
+      put-then (first .put-word .ensures) (put-then (second .put-byte .ensures) (third .put-decimal .ensures)),
+      omega (arith, length-decimal-le (start .args .x), third .put-decimal .ensures .next),
+    )
 
 pub put-field-spec : {M : Type 1} → statement M
 put-field-spec =

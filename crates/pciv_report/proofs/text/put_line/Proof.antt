@@ -4,10 +4,6 @@ use Rattle.pciv_format.specs.Report.{line}
 use Rattle.pciv_report.proofs.TextLaws.{put-then}
 use Rattle.pciv_report.proofs.text.put_line.Statement.{statement}
 use Rattle.pciv_report.proofs.text.put_line.Tie as tie
-use Rattle.pciv_report.proofs.text.put_line.Reads as reads
-use Rattle.pciv_report.proofs.text.put_line.Lts as lts
-use Rattle.pciv_report.proofs.text.put_byte.Reads as put-byte-reads
-use Rattle.pciv_report.proofs.text.put_field.Reads as put-field-reads
 
 put-field-requires : tie.Need-put-field-requires
 put-field-requires c κs = search needs

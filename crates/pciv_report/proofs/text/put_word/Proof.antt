@@ -10,8 +10,6 @@ use lib.Seq.{sets}
 use Rattle.pciv_bytes.proofs.WriteLaws.{sets-copy-more, sets-copy-end}
 use Rattle.pciv_report.proofs.text.put_word.Statement.{statement}
 use Rattle.pciv_report.proofs.text.put_word.Tie as tie
-use Rattle.pciv_report.proofs.text.put_word.Reads as reads
-use Rattle.pciv_report.proofs.text.put_word.Lts as lts
 
 abbrev Inv-loop : tie.InvT-loop
 Inv-loop out₀ at word i₀ out i =
@@ -42,7 +40,9 @@ loop-again : tie.Need-loop-again Inv-loop μ-loop
 loop-again c =
     let l = c .before .before .loop in
     let a = c .before .before .before .args in
-    (omega arith, simp length-set (l .inv .1), l .inv .2 ∙ sets-copy-more (a .word .now) (l .out) 0 (a .at + l .i) (l .i) (a .at + (l .i + 1)) (omega arith) (omega arith))
+    let here = a .at + l .i in
+    let more = sets-copy-more (a .word .now) (l .out) 0 here (l .i) (a .at + (l .i + 1)) (omega arith) (omega arith) in
+    (omega arith, simp length-set (l .inv .1), l .inv .2 ∙ more)
 
 add-result : tie.Need-add-result Inv-loop μ-loop
 add-result c = search needs
@@ -54,11 +54,25 @@ returns : tie.Need-returns Inv-loop μ-loop
 returns c =
     let l = c .before .loop in
     let a = c .before .before .args in
+    let end = sets-copy-end (a .word .now) (l .out) (a .at + l .i) (l .i) (omega arith) in
     record {
-      bytes = sym (l .inv .2 ∙ sets-copy-end (a .word .now) (l .out) (a .at + l .i) (l .i) (omega arith));
+      bytes = sym (l .inv .2 ∙ end);
       next = omega arith;
     }
 
 pub put-word-spec : {M : Type 1} → statement M
 put-word-spec =
-    tie.close (tie.spec Inv-loop μ-loop loop-holds shared-slice-read-out add-out slice-write-out add-i loop-less loop-again add-result same-length returns)
+    tie.close
+    (tie.spec
+    Inv-loop
+    μ-loop
+    loop-holds
+    shared-slice-read-out
+    add-out
+    slice-write-out
+    add-i
+    loop-less
+    loop-again
+    add-result
+    same-length
+    returns)
