@@ -120,7 +120,12 @@ get-top (suc w) b at h =
     let e : suc w + 1 ≡ suc (w + 1) = omega arith in
     let f : at + suc w ≡ suc at + w = omega arith in
     rw (e, f, pow-suc 256 w, ← mul-assoc (getD b (suc at + w) 0) (256 ^ w) 256)
-    (omega (arith, get-suc (w + 1) b at (omega arith), get-suc w b at (omega arith), get-top w b (suc at) (omega arith)))
+    (omega (
+      arith,
+      get-suc (w + 1) b at (omega arith),
+      get-suc w b at (omega arith),
+      get-top w b (suc at) (omega arith),
+    ))
 
 -- put in place by a shift, in a word of 64 bits
 pub get-more : (w : ℕ) (b : List ℕ) (at : ℕ) → Bytes b → at + w < length b → w < 8

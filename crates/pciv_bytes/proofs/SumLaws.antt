@@ -1,13 +1,14 @@
 -- Laws of `sumFrom`. A sum from i up to `to` is written `sumFrom f i (to - i)`.
-use mathlib.Core.Path.{_≡_, refl, sym, ap, ap₂, _∙_}
+-- The invariant of a loop that adds up, a term or a block a turn, is `Added`.
+use mathlib.Core.Path.{_≡_, refl, ap, ap₂, _∙_}
 use mathlib.Core.Bool.{Bool, true, false}
 use mathlib.Core.List.{List}
-use lib.Dec.{eqb}
-use mir.Val.{boolByte}
 use Prim.Native.Nat.{ℕ, zero, suc, _+_, _-_, _*_, _≤_, _<_}
 use native.Mathlib.Nat.{zero-add, add-zero}
 use native.Mathlib.Numerals.{add-one}
 use native.Mathlib.Omega.{arith}
+use lib.Dec.{eqb}
+use mir.Val.{boolByte}
 use Rattle.pciv_bytes.specs.Ranges.{flag, sumFrom}
 use Rattle.pciv_bytes.specs.LittleEndian.{Bytes}
 use Rattle.pciv_bytes.specs.Counts.{byteAt, byteIs}
@@ -86,20 +87,17 @@ pub record Added (f : ℕ → ℕ) (to whole i sum : ℕ) : Type 0 where
   pub inside : i ≤ to
   pub rest : sum + sumFrom f i (to - i) ≡ whole
 
-module _ (f : ℕ → ℕ) (to : ℕ) where
-  pub added-none : (from : ℕ) → from ≤ to → Added f to (sumFrom f from (to - from)) from 0
-  added-none from h = record { inside = h; rest = zero-add (sumFrom f from (to - from)) }
+pub added-none : (f : ℕ → ℕ) (from to : ℕ) → from ≤ to → Added f to (sumFrom f from (to - from)) from 0
+added-none f from to h = record { inside = h; rest = zero-add (sumFrom f from (to - from)) }
 
-  -- the terms up to s
-  pub added-part : (whole i s sum : ℕ) → Added f to whole i sum → i ≤ s → s ≤ to
-      → Added f to whole s (sum + sumFrom f i (s - i))
-  added-part whole i s sum a h₁ h₂ =
-      record { inside = h₂; rest = omega (arith, a .rest, sumFrom-split f i s to h₁ h₂) }
+module _ {f : ℕ → ℕ} {to whole i sum : ℕ} (a : Added f to whole i sum) where
+  -- with the terms up to s
+  pub added-part : (s : ℕ) → i ≤ s → s ≤ to → Added f to whole s (sum + sumFrom f i (s - i))
+  added-part s h₁ h₂ = record { inside = h₂; rest = omega (arith, a .rest, sumFrom-split f i s to h₁ h₂) }
 
-  -- one term
-  pub added-one : (whole i sum : ℕ) → Added f to whole i sum → i < to → Added f to whole (i + 1) (sum + f i)
-  added-one whole i sum a h =
-      record { inside = omega arith; rest = omega (arith, a .rest, sumFrom-more f i to h) }
+  -- with one term
+  pub added-one : i < to → Added f to whole (i + 1) (sum + f i)
+  added-one h = record { inside = omega arith; rest = omega (arith, a .rest, sumFrom-more f i to h) }
 
-  pub added-all : (whole i sum : ℕ) → Added f to whole i sum → to ≤ i → sum ≡ whole
-  added-all whole i sum a h = omega (arith, a .rest, sumFrom-none f i to h)
+  pub added-all : to ≤ i → sum ≡ whole
+  added-all h = omega (arith, a .rest, sumFrom-none f i to h)

@@ -1,13 +1,14 @@
 -- Laws of `sets`, which writes a list over another from a place on, and of lists written one element a turn.
 -- A loop's invariant is the work that remains: writing all from the start equals writing the rest from here.
-use mathlib.Core.Path.{_≡_, refl, sym, ap, ap₂, _∙_}
-use Prim.Native.Nat.{ℕ, zero, suc, _+_, _-_, _≤_, _<_}
+use mathlib.Core.Path.{_≡_, refl, ap, _∙_}
+use Prim.Native.Nat.{ℕ, suc, _+_, _-_, _/_, _%_, _≤_, _<_}
 use native.Mathlib.Nat.{add-zero, zero-add, sub-zero}
 use native.Mathlib.Numerals.{add-one}
 use native.Mathlib.Omega.{arith}
 use mathlib.Core.List.{List, [], _∷_, _++_}
-use lib.ListN.{length, getD, take, drop, set, drop-of-length-le}
+use lib.ListN.{length, getD, take, drop, set, replicate, drop-of-length-le}
 use lib.Seq.{sets, sets-eq, take-set-le, drop-cons}
+use Rattle.pciv_bytes.specs.LittleEndian.{le}
 use Rattle.pciv_bytes.specs.Ranges.{table}
 use Rattle.pciv_bytes.proofs.RangesLaws.{table-rest, table-done}
 
@@ -43,7 +44,7 @@ module _ {A : Type 0} where
   pub sets-table-end : (f : ℕ → A) (at n i : ℕ) (d : List A) → n ≤ i → sets d (at + i) (table f i (n - i)) ≡ d
   sets-table-end f at n i d h = ap (sets d (at + i)) (table-done f n i h)
 
-  -- ---- a copy of s
+  -- ---- a copy of s; i elements are written, and j is the place of the next
 
   pub sets-copy-more : (s d : List A) (z : A) (j i next : ℕ) → i < length s → next ≡ j + 1
       → sets d j (drop i s) ≡ sets (set d j (getD s i z)) next (drop (i + 1) s)
@@ -52,3 +53,29 @@ module _ {A : Type 0} where
 
   pub sets-copy-end : (s d : List A) (j i : ℕ) → length s ≤ i → sets d j (drop i s) ≡ d
   sets-copy-end s d j i h = ap (sets d j) (drop-of-length-le s h)
+
+  -- ---- the same element x, up to `to`
+
+  pub sets-same-more : (x : A) (to i : ℕ) (d : List A) → i < to
+      → sets d i (replicate (to - i) x) ≡ sets (set d i x) (i + 1) (replicate (to - (i + 1)) x)
+  sets-same-more x to i d h = let e : to - i ≡ suc (to - (i + 1)) = omega arith in rw (e, add-one i)
+
+  pub sets-same-end : (x : A) (to i : ℕ) (d : List A) → to ≤ i → sets d i (replicate (to - i) x) ≡ d
+  sets-same-end x to i d h = let e : to - i ≡ 0 = omega arith in rw e
+
+-- ---- a number of w bytes; y is what is left of it after i of them
+
+pub sets-le-start : (d : List ℕ) (at w x : ℕ) → sets d at (le w x) ≡ sets d (at + 0) (le (w - 0) x)
+sets-le-start d at w x = rw (add-zero, sub-zero)
+
+pub sets-le-more : (d : List ℕ) (at w y i : ℕ) → i < w
+    → sets d (at + i) (le (w - i) y) ≡ sets (set d (at + i) (y % 256)) (at + (i + 1)) (le (w - (i + 1)) (y / 256))
+unfolding le
+sets-le-more d at w y i h =
+    let e : w - i ≡ suc (w - (i + 1)) = omega arith in
+    let n : at + (i + 1) ≡ suc (at + i) = omega arith in
+    rw (e, n)
+
+pub sets-le-end : (d : List ℕ) (at w y i : ℕ) → w ≤ i → sets d (at + i) (le (w - i) y) ≡ d
+unfolding le
+sets-le-end d at w y i h = let e : w - i ≡ 0 = omega arith in rw e

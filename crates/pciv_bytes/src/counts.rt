@@ -15,6 +15,7 @@ enum Term {
 // The bytes that are counted at once: at most 255, so that a byte can hold their count.
 const BLOCK: usize = 192;
 
+// How many of the bytes from `from` up to `to` are x.
 fn count_part(a: &[u8], from: usize, to: usize, x: u8) -> u8
     requires { ⌜ Part (now a) from to ⌝ }
     ensures { λ r. ⌜ r ≡ sumFrom (byteIs (now (a .entry)) x) from (to - from) ⌝ }
@@ -28,6 +29,7 @@ fn count_part(a: &[u8], from: usize, to: usize, x: u8) -> u8
     sum
 }
 
+// The sum of the bytes from `from` up to `to`.
 fn sum_part(a: &[u8], from: usize, to: usize) -> u16
     requires { ⌜ Part (now a) from to ⌝ }
     ensures { λ r. ⌜ r ≡ sumFrom (byteAt (now (a .entry))) from (to - from) ⌝ }
@@ -41,6 +43,7 @@ fn sum_part(a: &[u8], from: usize, to: usize) -> u16
     sum
 }
 
+// Either of the two. A constant `of` leaves no test in the compiled loop.
 fn add_part(of: Term, a: &[u8], from: usize, to: usize) -> usize
     requires { ⌜ Part (now a) from to ⌝ }
     ensures { λ r. ⌜ r ≡ sumFrom (termAt of (now (a .entry))) from (to - from) ⌝ }
@@ -51,6 +54,7 @@ fn add_part(of: Term, a: &[u8], from: usize, to: usize) -> usize
     }
 }
 
+// The same over all bytes: whole blocks, and then what is left.
 fn add_up(of: Term, a: &[u8]) -> usize
     requires { ⌜ sumFrom (termAt of (now a)) 0 (length (now a)) < 2 ^ 64 ⌝ }
     ensures { λ r. ⌜ r ≡ sumFrom (termAt of (now (a .entry))) 0 (length (now (a .entry))) ⌝ }

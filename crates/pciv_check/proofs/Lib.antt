@@ -1,3 +1,5 @@
 pub mod WalkLaws
 pub mod CountLaws
-pub mod HeaderLaws
+pub mod RefusalLaws
+pub mod EntryLaws
+pub mod IndexLaws

@@ -1,4 +1,5 @@
--- Proves copies::widen. Invariant: writing all of a from 0 on is writing the rest of a from i on. Falls: length a - i.
+-- Proves copies::widen. Invariant: writing all of a from 0 on is writing the rest of a from i on.
+-- Falls: length a - i.
 use Prim.Native.Nat.{_+_, _-_, _≤_}
 use native.Mathlib.Omega.{arith}
 use mathlib.Core.Path.{_≡_, refl, sym, _∙_}
@@ -38,17 +39,19 @@ loop-less c = search needs
 
 loop-again : tie.Need-loop-again Inv-loop μ-loop
 loop-again c =
-    let d = c .before .before in
-    let more = sets-copy-more (d .before .args .a .now) (d .loop .out) 0 (d .loop .i) (d .loop .i) (d .loop .i + 1) (omega arith) refl in
-    (search needs, simp length-set (d .loop .inv .1), d .loop .inv .2 ∙ more)
+    let l = c .before .before .loop in
+    let a = c .before .before .before .args in
+    let more = sets-copy-more (a .a .now) (l .out) 0 (l .i) (l .i) (l .i + 1) (omega arith) refl in
+    (search needs, simp length-set (l .inv .1), l .inv .2 ∙ more)
 
 same-length : tie.Need-same-length Inv-loop μ-loop
 same-length c = search needs
 
 returns : tie.Need-returns Inv-loop μ-loop
 returns c =
-    let d = c .before in
-    sym (d .loop .inv .2 ∙ sets-copy-end (d .before .args .a .now) (d .loop .out) (d .loop .i) (d .loop .i) (omega arith))
+    let l = c .before .loop in
+    let a = c .before .before .args in
+    sym (l .inv .2 ∙ sets-copy-end (a .a .now) (l .out) (l .i) (l .i) (omega arith))
 
 pub widen-spec : {M : Type 1} → statement M
 widen-spec =

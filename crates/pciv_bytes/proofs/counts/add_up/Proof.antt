@@ -1,6 +1,6 @@
 -- Proves counts::add_up. Invariant: sum is that of the bytes up to i. Falls: n - i.
 -- No addition overflows, since each gives at most the whole sum, which fits.
-use Prim.Native.Nat.{ℕ, _+_, _-_}
+use Prim.Native.Nat.{ℕ, _-_}
 use native.Mathlib.Nat.{sub-zero}
 use native.Mathlib.Omega.{arith}
 use lib.ListN.{length}
@@ -20,7 +20,7 @@ abbrev μ-loop : tie.MeasureT-loop
 loop-holds : tie.Need-loop-holds Inv-loop μ-loop
 loop-holds c =
     let a = c .before .args in
-    rw sub-zero at (added-none (termAt (a .of) (a .a .now)) (length (a .a .now)) 0 (omega arith))
+    rw sub-zero at (added-none (termAt (a .of) (a .a .now)) 0 (length (a .a .now)) (omega arith))
 
 sub-loop : tie.Need-sub-loop Inv-loop μ-loop
 sub-loop c = search needs
@@ -33,10 +33,8 @@ add-part-requires c κs = search needs
 
 loop-again : tie.Need-loop-again Inv-loop μ-loop
 loop-again c =
-    let d = c .before .before in
-    let a = d .before .before .args in
-    rw (c .add-part .ensures)
-    (added-part (termAt (a .of) (a .a .now)) (length (a .a .now)) _ (d .loop .i) (d .loop .i + 192) (d .loop .sum) (d .loop .inv) (omega arith) (omega arith))
+    let l = c .before .before .loop in
+    rw (c .add-part .ensures) (added-part (l .inv) _ (omega arith) (omega arith))
 
 add-sum : tie.Need-add-sum Inv-loop μ-loop
 add-sum c = omega (arith, loop-again c .rest)
@@ -53,11 +51,9 @@ add-part-requires-2 c κs = search needs
 returns : tie.Need-returns Inv-loop μ-loop
 returns c =
     let d = c .before .before in
-    let a = d .before .before .args in
-    let n : ℕ = length (a .a .now) in
-    let f = termAt (a .of) (a .a .now) in
-    rw (c .add-part2 .ensures)
-    (added-all f n _ n _ (added-part f n _ (d .loop .i) n (d .loop .sum) (d .loop .inv) (omega arith) (omega arith)) (omega arith))
+    let n : ℕ = length (d .before .before .args .a .now) in
+    let last = added-part (d .loop .inv) n (omega arith) (omega arith) in
+    rw (c .add-part2 .ensures) (added-all last (omega arith))
 
 add-result : tie.Need-add-result Inv-loop μ-loop
 add-result c = omega (arith, returns c)

@@ -28,9 +28,7 @@ loop-again : tie.Need-loop-again Inv-loop μ-loop
 loop-again c =
     let d = c .before .before in
     let a = d .before .args in
-    let f = byteIs (a .a .now) (a .x) in
-    rw (boolByte-flag (eqb (byteAt (a .a .now) (d .loop .i)) (a .x)))
-    (added-one f (a .to) _ (d .loop .i) (d .loop .sum) (d .loop .inv) (omega arith))
+    rw (boolByte-flag (eqb (byteAt (a .a .now) (d .loop .i)) (a .x))) (added-one (d .loop .inv) (omega arith))
 
 add-sum : tie.Need-add-sum Inv-loop μ-loop
 add-sum c =
@@ -45,8 +43,8 @@ loop-less c = search needs
 
 returns : tie.Need-returns Inv-loop μ-loop
 returns c =
-    let d = c .before in
-    added-all _ _ _ (d .loop .i) (d .loop .sum) (d .loop .inv) (omega arith)
+    let l = c .before .loop in
+    added-all (l .inv) (omega arith)
 
 pub count-part-spec : {M : Type 1} → statement M
 count-part-spec =

@@ -2,6 +2,7 @@
 use native.Mathlib.Omega.{arith}
 use lib.ListN.{length}
 use borrow.Author.Needs.{needs}
+use Rattle.pciv_bytes.specs.LittleEndian.{Bytes}
 use Rattle.pciv_bytes.proofs.SumLaws.{sumFrom-byteAt-le}
 use Rattle.pciv_bytes.proofs.counts.sum_bytes.Statement.{statement}
 use Rattle.pciv_bytes.proofs.counts.sum_bytes.Tie as tie
@@ -9,7 +10,8 @@ use Rattle.pciv_bytes.proofs.counts.sum_bytes.Tie as tie
 add-up-requires : tie.Need-add-up-requires
 add-up-requires c κs =
     let a = c .before .args in
-    let most = sumFrom-byteAt-le (a .a .now) (λ j. c .shared-slice-known .given j .fits) 0 (length (a .a .now)) in
+    let bytes : Bytes (a .a .now) = λ j. c .shared-slice-known .given j .fits in
+    let most = sumFrom-byteAt-le (a .a .now) bytes 0 (length (a .a .now)) in
     omega arith
 
 returns : tie.Need-returns

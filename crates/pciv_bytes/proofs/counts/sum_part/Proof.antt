@@ -2,6 +2,7 @@
 use Prim.Native.Nat.{_-_}
 use native.Mathlib.Omega.{arith}
 use borrow.Author.Needs.{needs}
+use Rattle.pciv_bytes.specs.LittleEndian.{Bytes}
 use Rattle.pciv_bytes.specs.Ranges.{sumFrom}
 use Rattle.pciv_bytes.specs.Counts.{byteAt}
 use Rattle.pciv_bytes.proofs.SumLaws.{sumFrom-byteAt-le, Added, added-none, added-one, added-all}
@@ -25,14 +26,14 @@ cast-sum c = omega (arith, c .shared-slice-known .given (c .before .before .loop
 
 loop-again : tie.Need-loop-again Inv-loop μ-loop
 loop-again c =
-    let d = c .before .before in
-    let a = d .before .args in
-    added-one (byteAt (a .a .now)) (a .to) _ (d .loop .i) (d .loop .sum) (d .loop .inv) (omega arith)
+    let l = c .before .before .loop in
+    added-one (l .inv) (omega arith)
 
 add-sum : tie.Need-add-sum Inv-loop μ-loop
 add-sum c =
     let a = c .before .before .before .args in
-    let most = sumFrom-byteAt-le (a .a .now) (λ j. c .shared-slice-known .given j .fits) (a .from) (a .to - a .from) in
+    let bytes : Bytes (a .a .now) = λ j. c .shared-slice-known .given j .fits in
+    let most = sumFrom-byteAt-le (a .a .now) bytes (a .from) (a .to - a .from) in
     omega (arith, loop-again c .rest)
 
 add-i : tie.Need-add-i Inv-loop μ-loop
@@ -43,8 +44,8 @@ loop-less c = search needs
 
 returns : tie.Need-returns Inv-loop μ-loop
 returns c =
-    let d = c .before in
-    added-all _ _ _ (d .loop .i) (d .loop .sum) (d .loop .inv) (omega arith)
+    let l = c .before .loop in
+    added-all (l .inv) (omega arith)
 
 pub sum-part-spec : {M : Type 1} → statement M
 sum-part-spec =

@@ -3,7 +3,7 @@ use Prim.Native.Nat.{_+_, _-_, _≤_}
 use native.Mathlib.Omega.{arith}
 use mathlib.Core.Path.{_≡_, sym, _∙_}
 use borrow.Author.Needs.{needs}
-use Rattle.pciv_bytes.specs.LittleEndian.{get}
+use Rattle.pciv_bytes.specs.LittleEndian.{get, Bytes}
 use Rattle.pciv_bytes.proofs.LittleEndianLaws.{get-zero, get-more}
 use Rattle.pciv_bytes.proofs.little_endian.get_le.Statement.{statement}
 use Rattle.pciv_bytes.proofs.little_endian.get_le.Tie as tie
@@ -44,7 +44,8 @@ loop-again : tie.Need-loop-again Inv-loop μ-loop
 loop-again c =
     let d = c .before .before in
     let a = d .before .args in
-    let more = get-more (d .loop .i) (a .b .now) (a .at) (λ j. c .shared-slice-known .given j .fits) (omega arith) (omega arith) in
+    let bytes : Bytes (a .b .now) = λ j. c .shared-slice-known .given j .fits in
+    let more = get-more (d .loop .i) (a .b .now) (a .at) bytes (omega arith) (omega arith) in
     (search needs, rw (d .loop .inv .1) more)
 
 returns : tie.Need-returns Inv-loop μ-loop

@@ -1,0 +1,102 @@
+-- Which refusal a file gets, case by case.
+use mathlib.Core.Path.{_≡_, refl, sym, ap, _∙_}
+use Prim.Native.Nat.{ℕ, _+_, _*_, _≤_, _<_}
+use native.Mathlib.Omega.{arith}
+use mathlib.Core.Bool.{Bool, true, false, not, _||_}
+use mathlib.Core.List.{List}
+use lib.ListN.{length}
+use lib.Dec.{ltb, eqb}
+use borrow.Author.Tests.{lt-ltb, le-ltb}
+use Rattle.pciv_bytes.specs.LittleEndian.{get}
+use Rattle.pciv_bytes.specs.Ranges.{firstBelow}
+use Rattle.pciv_format.specs.Layout.{maxSlots, magic, indexStep, indexLen, countsOf}
+use Rattle.pciv_format.specs.Refusals.{done, refuse}
+use Rattle.pciv_format.specs.Parts.{badEntry, badSlot}
+use Rattle.pciv_format.specs.Check.{nField, kField, mField, stepField, fileParts, badIndexEntry, badCounts, checkHeader, checkParts}
+use Rattle.pciv_format.specs.declared.Summary.{Summary}
+use Rattle.pciv_format.proofs.PartsLaws.{or-true, eqb-not, neb-not}
+use Rattle.pciv_format.proofs.RefusalsLaws.{refuseFirst-none, refuseFirst-some}
+use Rattle.pciv_format.proofs.LayoutLaws.{fileLen-is}
+use Rattle.pciv_format.proofs.CheckLaws.{done-checkHeader}
+use Rattle.pciv_check.specs.Inside.{PartsInside}
+
+-- ---- the counts
+
+module _ (n k m step : ℕ) where
+  pub badCounts-k : n < k → badCounts n k m step ≡ true
+  unfolding badCounts
+  badCounts-k h = rw (lt-ltb n k h)
+
+  pub badCounts-step : (step ≡ indexStep k → ⊥) → badCounts n k m step ≡ true
+  unfolding badCounts
+  badCounts-step h = rw (neb-not step (indexStep k) h, or-true (ltb n k))
+
+  pub badCounts-m : (m ≡ indexLen k → ⊥) → badCounts n k m step ≡ true
+  unfolding badCounts
+  badCounts-m h = rw (neb-not m (indexLen k) h) (or-true (ltb n k || not (eqb step (indexStep k))))
+
+-- ---- the header
+
+module _ (mp : ℕ) (b : List ℕ) where
+  pub header-short : length b < 40 → checkHeader mp b ≡ refuse 1 mp 0
+  unfolding checkHeader
+  header-short h = rw (lt-ltb (length b) 40 h)
+
+  module _ (long : 40 ≤ length b) where
+    pub header-mark : (get 8 b 0 ≡ magic → ⊥) → checkHeader mp b ≡ refuse 2 mp 0
+    unfolding checkHeader
+    header-mark h = rw (le-ltb (length b) 40 long, neb-not (get 8 b 0) magic h)
+
+    module _ (mark : get 8 b 0 ≡ magic) where
+      pub header-slots : maxSlots < nField b → checkHeader mp b ≡ refuse 3 mp 0
+      unfolding checkHeader
+      header-slots h = rw (le-ltb (length b) 40 long, eqb-not (get 8 b 0) magic mark, lt-ltb maxSlots (nField b) h)
+
+      pub header-counts : nField b ≤ maxSlots → badCounts (nField b) (kField b) (mField b) (stepField b) ≡ true
+          → checkHeader mp b ≡ refuse 4 mp 0
+      unfolding checkHeader
+      header-counts small h =
+          rw (le-ltb (length b) 40 long, eqb-not (get 8 b 0) magic mark, le-ltb maxSlots (nField b) small, h)
+
+  -- a header that states its file's counts, before bytes enough
+  pub header-inside : (s : Summary) → checkHeader mp b ≡ done s → s .len ≤ length b → PartsInside b (s .n) (s .k)
+  unfolding countsOf
+  header-inside s e fits =
+      let d = done-checkHeader mp b s e in
+      let h = d .0 in
+      rw (d .1)
+      (record {
+        small = h .small;
+        few = h .few;
+        inside = omega (arith, ap (λ (z : Summary). z .len) (d .1), fileLen-is (nField b) (kField b));
+      })
+
+-- ---- the parts
+
+module _ (mp : ℕ) (b : List ℕ) (n k place : ℕ) where
+  pub parts-entry : place ≡ firstBelow (badEntry (fileParts b n k)) k → place < k → checkParts mp b n k ≡ refuse 6 mp place
+  unfolding checkParts
+  parts-entry e h = refuseFirst-some 6 mp (badEntry (fileParts b n k)) k place _ e h
+
+  module _ (entries : (j : ℕ) → j < k → badEntry (fileParts b n k) j ≡ false) where
+    pub parts-slot : place ≡ firstBelow (badSlot (fileParts b n k)) n → place < n → checkParts mp b n k ≡ refuse 7 mp place
+    unfolding checkParts
+    parts-slot e h =
+        refuseFirst-none 6 mp (badEntry (fileParts b n k)) k _ entries
+        ∙ refuseFirst-some 7 mp (badSlot (fileParts b n k)) n place _ e h
+
+    pub parts-index : ((i : ℕ) → i < n → badSlot (fileParts b n k) i ≡ false)
+        → place ≡ firstBelow (badIndexEntry b n k) (indexLen k) → place < indexLen k → checkParts mp b n k ≡ refuse 8 mp place
+    unfolding checkParts
+    parts-index slots e h =
+        refuseFirst-none 6 mp (badEntry (fileParts b n k)) k _ entries
+        ∙ refuseFirst-none 7 mp (badSlot (fileParts b n k)) n _ slots
+        ∙ refuseFirst-some 8 mp (badIndexEntry b n k) (indexLen k) place _ e h
+
+    pub parts-done : ((i : ℕ) → i < n → badSlot (fileParts b n k) i ≡ false)
+        → ((i : ℕ) → i < indexLen k → badIndexEntry b n k i ≡ false) → checkParts mp b n k ≡ done (countsOf n k)
+    unfolding checkParts
+    parts-done slots index =
+        refuseFirst-none 6 mp (badEntry (fileParts b n k)) k _ entries
+        ∙ refuseFirst-none 7 mp (badSlot (fileParts b n k)) n _ slots
+        ∙ refuseFirst-none 8 mp (badIndexEntry b n k) (indexLen k) _ index

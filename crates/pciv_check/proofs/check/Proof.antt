@@ -1,0 +1,70 @@
+-- Proves pciv_check::check: the header, the length, then the parts.
+use mathlib.Core.Path.{_≡_, refl, sym, ap, _∙_}
+use Prim.Native.Nat.{ℕ, _≤_}
+use native.Mathlib.Omega.{arith}
+use lib.ListN.{length}
+use Rattle.pciv_format.specs.Refusals.{done, refused, fileAnswer}
+use Rattle.pciv_format.specs.Check.{checkHeader, checkWith}
+use Rattle.pciv_format.proofs.PartsLaws.{eqb-not, neb-not}
+use Rattle.pciv_format.proofs.RefusalsLaws.{fileAnswer-done, fileAnswer-refused}
+use Rattle.pciv_check.proofs.RefusalLaws.{header-inside}
+use borrow.Author.Needs.{needs}
+use Rattle.pciv_check.proofs.check.Statement.{statement}
+use Rattle.pciv_check.proofs.check.Tie as tie
+
+-- the header's counts
+header-done : (c : tie.After-counts2)
+    → (let a = c .before .before .before .before .args in checkHeader (a .map) (a .file .now) ≡ done (c .counts2 .given .0 .0))
+header-done c = fileAnswer-done _ _ (sym (c .counts2 .given .1) ∙ c .before .before .check-header .ensures)
+
+check-header-requires : tie.Need-check-header-requires
+check-header-requires c κs = search needs
+
+enum-known-counts : tie.Need-enum-known-counts
+enum-known-counts c = search needs
+
+enum-known-counts-2 : tie.Need-enum-known-counts-2
+enum-known-counts-2 c = search needs
+
+refused-requires : tie.Need-refused-requires
+refused-requires c κs = search needs
+
+returns : tie.Need-returns
+unfolding checkWith
+returns c =
+    let t = c .before .before in
+    rw (header-done (t .before), neb-not _ _ (c .before .if1 .taken)) (c .refused .ensures)
+
+check-parts-requires : tie.Need-check-parts-requires
+check-parts-requires c κs =
+    let t = c .before .before in
+    let a = t .before .before .before .before .args in
+    header-inside (a .map) (a .file .now) _ (header-done (t)) (omega (arith, c .if1 .left))
+
+returns-2 : tie.Need-returns-2
+unfolding checkWith
+returns-2 c =
+    let k = c .before in
+    let h = k .before .before in
+    let a = h .before .before .args in
+    let e = fileAnswer-refused (checkHeader (a .map) (a .file .now)) (k .counts .given .0 .0) (sym (k .counts .given .1) ∙ h .check-header .ensures) in
+    rw e
+
+returns-3 : tie.Need-returns-3
+unfolding checkWith
+returns-3 c =
+    let t = c .before .before .before in
+    rw (header-done t, eqb-not _ _ (c .before .if1 .left)) (c .check-parts .ensures)
+
+pub check-spec : {M : Type 1} → statement M
+check-spec =
+    tie.close
+    (tie.spec
+    check-header-requires
+    enum-known-counts
+    enum-known-counts-2
+    refused-requires
+    returns
+    check-parts-requires
+    returns-2
+    returns-3)

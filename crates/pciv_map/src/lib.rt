@@ -1,0 +1,2 @@
+// Reading a checked map.
+pub mod lookup;
