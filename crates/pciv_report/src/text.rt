@@ -5,8 +5,9 @@ ghost use Prim.Native.Nat.{_+_, _≤_, _<_};
 ghost use lib.ListN.{length};
 ghost use Rattle.pciv_format.specs.Report.{decimal, field, line};
 ghost use Rattle.pciv_report.specs.Text.{Put};
+use pciv_bytes::copies::copy_bytes;
 
-pub fn put_byte(out: &mut [u8], at: usize, b: u8) -> usize
+pub(crate) fn put_byte(out: &mut [u8], at: usize, b: u8) -> usize
     requires { ⌜ at < length (now out) ⌝ }
     ensures { λ r. ⌜ Put (now (out .entry)) at (b ∷ []) (now (out .exit)) r ⌝ }
 {
@@ -14,20 +15,16 @@ pub fn put_byte(out: &mut [u8], at: usize, b: u8) -> usize
     at + 1
 }
 
-pub fn put_word(out: &mut [u8], at: usize, word: &[u8]) -> usize
+pub(crate) fn put_word(out: &mut [u8], at: usize, word: &[u8]) -> usize
     requires { ⌜ at + length (now word) ≤ length (now out) ⌝ }
     ensures { λ r. ⌜ Put (now (out .entry)) at (now (word .entry)) (now (out .exit)) r ⌝ }
 {
-    let mut i = 0;
-    while i < word.len() {
-        out[at + i] = word[i];
-        i += 1;
-    }
-    at + i
+    copy_bytes(word, out, at);
+    at + word.len()
 }
 
 // The digits of x, the highest first.
-pub fn put_decimal(out: &mut [u8], at: usize, x: usize) -> usize
+pub(crate) fn put_decimal(out: &mut [u8], at: usize, x: usize) -> usize
     requires { ⌜ at + length (decimal x) ≤ length (now out) ⌝ }
     ensures { λ r. ⌜ Put (now (out .entry)) at (decimal x) (now (out .exit)) r ⌝ }
 {
@@ -41,7 +38,7 @@ pub fn put_decimal(out: &mut [u8], at: usize, x: usize) -> usize
 }
 
 // A word, a space and a number, which has at most 20 digits.
-pub fn put_field(out: &mut [u8], at: usize, word: &[u8], x: usize) -> usize
+pub(crate) fn put_field(out: &mut [u8], at: usize, word: &[u8], x: usize) -> usize
     requires { ⌜ at + length (now word) + 21 ≤ length (now out) ⌝ }
     ensures text { λ r. ⌜ Put (now (out .entry)) at (field (now (word .entry)) x) (now (out .exit)) r ⌝ }
     ensures most { λ r. ⌜ r ≤ at + length (now (word .entry)) + 21 ⌝ }
@@ -52,7 +49,7 @@ pub fn put_field(out: &mut [u8], at: usize, word: &[u8], x: usize) -> usize
 }
 
 // Such a field as a line.
-pub fn put_line(out: &mut [u8], at: usize, word: &[u8], x: usize) -> usize
+pub(crate) fn put_line(out: &mut [u8], at: usize, word: &[u8], x: usize) -> usize
     requires { ⌜ at + length (now word) + 22 ≤ length (now out) ⌝ }
     ensures text { λ r.
         ⌜ Put (now (out .entry)) at (line (field (now (word .entry)) x)) (now (out .exit)) r ⌝ }
