@@ -1,1 +1,4 @@
 pub mod LookupLaws
+pub mod EntryLaws
+pub mod PatchLaws
+pub mod MapLaws

@@ -1,2 +1,5 @@
-// Reading a checked map.
+// Routines on a map whose file was checked: each asks for `CheckedMap`, or for the primary array alone.
+mod entries;
 pub mod lookup;
+pub mod scan;
+pub mod totals;

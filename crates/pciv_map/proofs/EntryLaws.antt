@@ -1,0 +1,126 @@
+-- Laws of sound parts along their overflow entries: between two entries all slots are inline, so the entries
+-- alone tell how the distances differ from the primary bytes.
+--   excess P j         what entry j has above the byte 255
+--   gap-inline         a slot past entry j - 1 and before entry j is inline
+--   sum-entries        the sum of all distances is that of the bytes and of the excesses; sum-entries-of for any f
+--   readings-bytes     as many distances as bytes are not 0
+-- Axioms: none.
+use mathlib.Core.Path.{_≡_, refl, sym, ap, _∙_}
+use Prim.Native.Nat.{ℕ, zero, suc, _+_, _-_, _≤_, _<_}
+use native.Mathlib.Nat.{zero-add, sub-zero}
+use native.Mathlib.Numerals.{add-one}
+use native.Mathlib.Omega.{arith}
+use native.Mathlib.Decide.{decLe}
+use mathlib.Core.Bool.{Bool, true, false, not}
+use mathlib.Core.List.{List}
+use lib.ListN.{length}
+use lib.Dec.{eqb}
+use Rattle.pciv_bytes.specs.Ranges.{flag, sumFrom}
+use Rattle.pciv_bytes.specs.Counts.{byteAt, byteIs}
+use Rattle.pciv_bytes.proofs.SumLaws.{sumFrom-none, sumFrom-more, sumFrom-split, sumFrom-cong, sumFrom-rest}
+use Rattle.pciv_format.specs.Parts.{Parts, lowestSlot, valueOf, SoundParts}
+use Rattle.pciv_format.proofs.PartsLaws.{entry-good, slots-rise, valueOf-slot, valueOf-inline, slot-cases, neb-not}
+
+abbrev pub excess : Parts → ℕ → ℕ
+excess P j = P .distance j - 255
+
+module _ (P : Parts) (s : SoundParts P) (bytes : (i : ℕ) → P .byte i < 256) where
+  slots-le : (j t : ℕ) → j ≤ t → t < P .k → P .slot j ≤ P .slot t
+  slots-le j t h inside =
+      elim (decLe t j) [
+        | yes d ↦ (let e : j ≡ t = omega arith in omega (arith, ap (P .slot) e))
+        | no d ↦ omega (arith, slots-rise P s j t (omega arith) inside)
+      ]
+
+  slot-below : (j t : ℕ) → t < j → j ≤ P .k → P .slot t < lowestSlot P j
+  slot-below zero t h inside = absurd (omega arith)
+  slot-below (suc j) t h inside = omega (arith, slots-le t j (omega arith) (omega arith))
+
+  -- ---- between two entries
+
+  pub gap-inline : (j i : ℕ) → j ≤ P .k → lowestSlot P j ≤ i → (j < P .k → i < P .slot j) → i < P .n
+      → P .byte i < 255
+  gap-inline j i few low high inside =
+      slot-cases P s bytes i inside (λ small e. small)
+      (λ t ht at e w far.
+      elim (decLe j t) [
+        | yes d ↦ absurd (omega (arith, high (omega arith), slots-le j t d ht))
+        | no d ↦ absurd (omega (arith, slot-below j t (omega arith) few))
+      ])
+
+  pub gap-value : (j i : ℕ) → j ≤ P .k → lowestSlot P j ≤ i → (j < P .k → i < P .slot j) → i < P .n
+      → valueOf P i ≡ P .byte i
+  gap-value j i few low high inside = valueOf-inline P s i (gap-inline j i few low high inside)
+
+  -- ---- sums
+
+  -- f of every distance, where f of an entry's distance is f of the byte 255 and g of the entry
+  module _ (f g : ℕ → ℕ) (each : (j : ℕ) → j < P .k → f (P .distance j) ≡ f 255 + g j) where
+    gap-sum : (j to : ℕ) → j ≤ P .k → (j < P .k → to ≤ P .slot j) → to ≤ P .n
+        → let low : ℕ = lowestSlot P j in
+        sumFrom (λ (i : ℕ). f (valueOf P i)) low (to - low) ≡ sumFrom (λ (i : ℕ). f (P .byte i)) low (to - low)
+    gap-sum j to few before inside =
+        let low : ℕ = lowestSlot P j in
+        sumFrom-cong (λ (i : ℕ). f (valueOf P i)) (λ (i : ℕ). f (P .byte i)) low (to - low)
+        (λ i h₁ h₂. ap f (gap-value j i few h₁ (λ more. omega (arith, before more)) (omega arith)))
+
+    -- from entry j on, d entries
+    sum-rest : (d j : ℕ) → j + d ≡ P .k
+        → let low : ℕ = lowestSlot P j in
+        sumFrom (λ (i : ℕ). f (valueOf P i)) low (P .n - low)
+        ≡ sumFrom (λ (i : ℕ). f (P .byte i)) low (P .n - low) + sumFrom g j (P .k - j)
+    sum-rest zero j e =
+        omega (arith, gap-sum j (P .n) (omega arith) (λ more. absurd (omega arith)) (omega arith), sumFrom-none g j (P .k) (omega arith))
+    sum-rest (suc d) j e =
+        let v : ℕ → ℕ = λ i. f (valueOf P i) in
+        let b : ℕ → ℕ = λ i. f (P .byte i) in
+        let low : ℕ = lowestSlot P j in
+        let at : ℕ = P .slot j in
+        let here : j < P .k = omega arith in
+        let good = entry-good P s j here in
+        let inside : at < P .n = good .inside in
+        let above : low ≤ at = good .above in
+        omega (
+          arith,
+          sumFrom-split v low at (P .n) above (omega arith),
+          sumFrom-split b low at (P .n) above (omega arith),
+          gap-sum j at (omega arith) (λ more. omega arith) (omega arith),
+          sumFrom-more v at (P .n) inside,
+          sumFrom-more b at (P .n) inside,
+          sumFrom-more g j (P .k) here,
+          ap f (valueOf-slot P s j here),
+          ap f (good .marked),
+          each j here,
+          rw (← add-one j) at (sum-rest d (suc j) (omega arith)),
+        )
+
+    pub sum-entries-of : sumFrom (λ (i : ℕ). f (valueOf P i)) 0 (P .n)
+        ≡ sumFrom (λ (i : ℕ). f (P .byte i)) 0 (P .n) + sumFrom g 0 (P .k)
+    sum-entries-of = rw (sub-zero (P .n), sub-zero (P .k)) at (sum-rest (P .k) 0 (zero-add (P .k)))
+
+  pub sum-entries : sumFrom (valueOf P) 0 (P .n)
+      ≡ sumFrom (P .byte) 0 (P .n) + sumFrom (excess P) 0 (P .k)
+  sum-entries =
+      sum-entries-of (λ (x : ℕ). x) (excess P) (λ j h. omega (arith, entry-good P s j h .far))
+
+  -- a byte 255 is a reading already
+  pub readings-bytes : sumFrom (λ (i : ℕ). flag (not (eqb (valueOf P i) 0))) 0 (P .n)
+      ≡ sumFrom (λ (i : ℕ). flag (not (eqb (P .byte i) 0))) 0 (P .n)
+  readings-bytes =
+      let reading : ℕ → ℕ = λ x. flag (not (eqb x 0)) in
+      sumFrom-cong (λ (i : ℕ). reading (valueOf P i)) (λ (i : ℕ). reading (P .byte i)) 0 (P .n)
+      (λ i h₁ h₂. slot-cases P s bytes i (omega arith) (λ small e. ap reading e)
+      (λ j hj at e w far.
+      ap flag (neb-not (valueOf P i) 0 (λ q. omega arith) ∙ sym (neb-not (P .byte i) 0 (λ q. omega arith)))))
+
+-- ---- of bytes alone
+
+flag-not : (b : Bool) → flag (not b) + flag b ≡ 1
+flag-not true = refl
+flag-not false = refl
+
+-- the bytes that are not 0 and those that are
+pub readings-rest : (xs : List ℕ)
+    → sumFrom (λ (i : ℕ). flag (not (eqb (byteAt xs i) 0))) 0 (length xs) + sumFrom (byteIs xs 0) 0 (length xs) ≡ length xs
+readings-rest xs =
+    sumFrom-rest (λ (i : ℕ). flag (not (eqb (byteAt xs i) 0))) (byteIs xs 0) (λ i. flag-not (eqb (byteAt xs i) 0)) 0 (length xs)

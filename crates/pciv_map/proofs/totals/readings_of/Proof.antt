@@ -1,0 +1,18 @@
+-- Proves totals::readings_of: the bytes that are 0 and those that are not are all bytes.
+use native.Mathlib.Omega.{arith}
+use borrow.Author.Needs.{needs}
+use Rattle.pciv_map.proofs.EntryLaws.{readings-rest}
+use Rattle.pciv_map.proofs.totals.readings_of.Statement.{statement}
+use Rattle.pciv_map.proofs.totals.readings_of.Tie as tie
+
+count-byte-requires : tie.Need-count-byte-requires
+count-byte-requires c κs = search needs
+
+sub-result : tie.Need-sub-result
+sub-result c = omega (arith, readings-rest (c .before .before .args .bytes .now))
+
+returns : tie.Need-returns
+returns c = omega (arith, readings-rest (c .before .before .args .bytes .now))
+
+pub readings-of-spec : {M : Type 1} → statement M
+readings-of-spec = tie.close (tie.spec count-byte-requires sub-result returns)

@@ -1,0 +1,45 @@
+// Totals of a checked map: the sum of all distances, and how many are not 0.
+// Both take the primary bytes for distances; of those in overflow the sum then lacks what exceeds 255, which
+// the entries tell, while for the count a byte 255 is as good as its distance.
+ghost use mathlib.Core.Path.{_≡_};
+ghost use Prim.Native.Nat.{ℕ, _-_};
+ghost use mathlib.Core.Bool.{not};
+ghost use lib.ListN.{length, getD};
+ghost use lib.Dec.{eqb};
+ghost use Rattle.pciv_bytes.specs.Ranges.{flag, sumFrom};
+ghost use Rattle.pciv_format.specs.Parts.{valueOf};
+ghost use Rattle.pciv_format.specs.Check.{fileParts, CheckedMap};
+use crate::entries::entry_distance;
+use pciv_bytes::counts::count_byte;
+use pciv_bytes::counts::sum_bytes;
+use pciv_format::HEADER_LEN;
+use pciv_format::SENTINEL;
+
+// What the distances in overflow have above the byte 255, all together.
+fn excess_of(file: &[u8], n: usize, k: usize) -> usize
+    requires { ⌜ CheckedMap (now file) n k ⌝ }
+    ensures { λ r. ⌜ r ≡ sumFrom (λ (j : ℕ). fileParts (now (file .entry)) n k .distance j - 255) 0 k ⌝ }
+{
+    let mut sum: usize = 0;
+    let mut j = 0;
+    while j < k {
+        sum += (entry_distance(file, n, j) - SENTINEL as u32) as usize;
+        j += 1;
+    }
+    sum
+}
+
+pub fn sum_of(file: &[u8], n: usize, k: usize) -> usize
+    requires { ⌜ CheckedMap (now file) n k ⌝ }
+    ensures { λ r. ⌜ r ≡ sumFrom (valueOf (fileParts (now (file .entry)) n k)) 0 n ⌝ }
+{
+    let end = HEADER_LEN + n;
+    sum_bytes(&file[HEADER_LEN..end]) + excess_of(file, n, k)
+}
+
+// How many of a map's primary bytes are not 0, which is how many of its distances are.
+pub fn readings_of(bytes: &[u8]) -> usize
+    ensures { λ r. ⌜ r ≡ sumFrom (λ (i : ℕ). flag (not (eqb (getD (now (bytes .entry)) i 0) 0))) 0 (length (now (bytes .entry))) ⌝ }
+{
+    bytes.len() - count_byte(bytes, 0)
+}

@@ -1,0 +1,175 @@
+// Reading a map (docs/FORMAT.md, "Reading"): its primary array, one slot, a list of slots, all slots, totals.
+// Every routine checks the file first and refuses as the check does, with map 1; then come 9 and 12.
+// A refused call changes no byte, and what follows a result in the caller's list stays as it was.
+ghost use mathlib.Core.Path.{_≡_};
+ghost use mathlib.Core.List.{map};
+ghost use Prim.Native.Nat.{ℕ, _≤_, _<_};
+ghost use lib.ListN.{length, getD};
+ghost use lib.Seq.{sets};
+ghost use lib.Dec.{leb};
+ghost use Rattle.pciv_bytes.specs.Ranges.{firstBelow};
+ghost use Rattle.pciv_format.specs.Layout.{at};
+ghost use Rattle.pciv_format.specs.Refusals.{refuse, numberAnswer, distanceAnswer};
+ghost use Rattle.pciv_format.specs.Parts.{valueOf};
+ghost use Rattle.pciv_format.specs.Check.{fileParts, CheckedMap};
+ghost use Rattle.pciv_format.specs.Read.{primaryPart, lookupOutcome, lookupListOutcome, lookupListBuffer, scanOutcome, scanBuffer, sumOutcome, readingsOutcome};
+
+use pciv_check::check;
+use pciv_format::BUFFER_TOO_SMALL;
+use pciv_format::DistanceAnswer;
+use pciv_format::FileAnswer;
+use pciv_format::HEADER_LEN;
+use pciv_format::NumberAnswer;
+use pciv_format::Refusal;
+use pciv_format::SLOT_OUT_OF_RANGE;
+use pciv_map::lookup::distance_at;
+use pciv_map::scan::scan_into;
+use pciv_map::totals::readings_of;
+use pciv_map::totals::sum_of;
+
+// A refusal that concerns no map, as an answer.
+fn refused(number: usize, place: usize) -> NumberAnswer
+    ensures { λ r. ⌜ r ≡ numberAnswer (refuse number 0 place) ⌝ }
+{
+    NumberAnswer::Refused(Refusal { number, map: 0, place })
+}
+
+// The map's own primary bytes, a part of the caller's file; a part of length 0 where the check refuses the file.
+pub fn primary(file: &[u8]) -> &[u8]
+    ensures part { λ r. ⌜ now r ≡ primaryPart (now (file .entry)) ⌝ }
+{
+    let checked = check(file, 1);
+    match checked {
+        FileAnswer::Refused(_) => &file[..0],
+        FileAnswer::Done(s) => {
+            let n = s.n;
+            let end = HEADER_LEN + n;
+            &file[HEADER_LEN..end]
+        }
+    }
+}
+
+// The distance at a slot. Refusals: 1 to 8, then 9.
+pub fn lookup(file: &[u8], slot: usize) -> DistanceAnswer
+    ensures answer { λ r. ⌜ r ≡ distanceAnswer (lookupOutcome (now (file .entry)) slot) ⌝ }
+{
+    let checked = check(file, 1);
+    match checked {
+        FileAnswer::Refused(r) => DistanceAnswer::Refused(r),
+        FileAnswer::Done(s) => {
+            let n = s.n;
+            let k = s.k;
+            if n <= slot {
+                return DistanceAnswer::Refused(Refusal {
+                    number: SLOT_OUT_OF_RANGE,
+                    map: 0,
+                    place: 0,
+                });
+            }
+            DistanceAnswer::Distance(distance_at(file, n, k, slot))
+        }
+    }
+}
+
+// The least position in the list of a slot that is n or more, or the list's length.
+fn first_outside(slots: &[usize], n: usize) -> usize
+    ensures { λ r. ⌜ r ≡ firstBelow (λ (i : ℕ). leb n (getD (now (slots .entry)) i 0)) (length (now (slots .entry))) ⌝ }
+{
+    let mut i = 0;
+    while i < slots.len() {
+        if n <= slots[i] {
+            return i;
+        }
+        i += 1;
+    }
+    i
+}
+
+// The distances at the slots of a list, which are all below n.
+fn distances_into(file: &[u8], n: usize, k: usize, slots: &[usize], out: &mut [u32])
+    requires { ⌜ CheckedMap (now file) n k ⌝ }
+    requires { ⌜ ((i : ℕ) → i < length (now slots) → getD (now slots) i 0 < n) ⌝ }
+    requires { ⌜ length (now slots) ≤ length (now out) ⌝ }
+    ensures { λ _. ⌜ now (out .exit) ≡ sets (now (out .entry)) 0 (map (valueOf (fileParts (now (file .entry)) n k)) (now (slots .entry))) ⌝ }
+{
+    let mut i = 0;
+    while i < slots.len() {
+        out[i] = distance_at(file, n, k, slots[i]);
+        i += 1;
+    }
+}
+
+// The distances at a list of slots, to the front of the caller's list; answers how many.
+// Refusals: 1 to 8, then 9 with the least position in the list, then 12.
+pub fn lookup_list(file: &[u8], slots: &[usize], out: &mut [u32]) -> NumberAnswer
+    ensures answer { λ r. ⌜ r ≡ numberAnswer (lookupListOutcome (now (file .entry)) (now (slots .entry)) (length (now (out .entry)))) ⌝ }
+    ensures buffer { λ _. ⌜ now (out .exit) ≡ lookupListBuffer (now (file .entry)) (now (slots .entry)) (now (out .entry)) ⌝ }
+{
+    let checked = check(file, 1);
+    match checked {
+        FileAnswer::Refused(r) => NumberAnswer::Refused(r),
+        FileAnswer::Done(s) => {
+            let n = s.n;
+            let k = s.k;
+            let outside = first_outside(slots, n);
+            if outside < slots.len() {
+                return refused(SLOT_OUT_OF_RANGE, outside);
+            }
+            if out.len() < slots.len() {
+                return refused(BUFFER_TOO_SMALL, 0);
+            }
+            distances_into(file, n, k, slots, out);
+            NumberAnswer::Number(slots.len())
+        }
+    }
+}
+
+// All distances, to the front of the caller's list; answers how many. Refusals: 1 to 8, then 12.
+pub fn scan(file: &[u8], out: &mut [u32]) -> NumberAnswer
+    ensures answer { λ r. ⌜ r ≡ numberAnswer (scanOutcome (now (file .entry)) (length (now (out .entry)))) ⌝ }
+    ensures buffer { λ _. ⌜ now (out .exit) ≡ scanBuffer (now (file .entry)) (now (out .entry)) ⌝ }
+{
+    let checked = check(file, 1);
+    match checked {
+        FileAnswer::Refused(r) => NumberAnswer::Refused(r),
+        FileAnswer::Done(s) => {
+            let n = s.n;
+            let k = s.k;
+            if out.len() < n {
+                return refused(BUFFER_TOO_SMALL, 0);
+            }
+            scan_into(file, n, k, out);
+            NumberAnswer::Number(n)
+        }
+    }
+}
+
+// The sum of all distances. Refusals: 1 to 8.
+pub fn sum(file: &[u8]) -> NumberAnswer
+    ensures answer { λ r. ⌜ r ≡ numberAnswer (sumOutcome (now (file .entry))) ⌝ }
+{
+    let checked = check(file, 1);
+    match checked {
+        FileAnswer::Refused(r) => NumberAnswer::Refused(r),
+        FileAnswer::Done(s) => {
+            let n = s.n;
+            let k = s.k;
+            NumberAnswer::Number(sum_of(file, n, k))
+        }
+    }
+}
+
+// The number of readings, distances that are not 0. Refusals: 1 to 8.
+pub fn readings(file: &[u8]) -> NumberAnswer
+    ensures answer { λ r. ⌜ r ≡ numberAnswer (readingsOutcome (now (file .entry))) ⌝ }
+{
+    let checked = check(file, 1);
+    match checked {
+        FileAnswer::Refused(r) => NumberAnswer::Refused(r),
+        FileAnswer::Done(s) => {
+            let n = s.n;
+            let end = HEADER_LEN + n;
+            NumberAnswer::Number(readings_of(&file[HEADER_LEN..end]))
+        }
+    }
+}
