@@ -1,8 +1,9 @@
 -- Laws of sound parts along their overflow entries: between two entries all slots are inline, so the entries
 -- alone tell how the distances differ from the primary bytes.
 --   excess P j         what entry j has above the byte 255
+--   reading x          1 for a reading, a distance or byte that is not 0
 --   gap-inline         a slot past entry j - 1 and before entry j is inline
---   sum-entries        the sum of all distances is that of the bytes and of the excesses; sum-entries-of for any f
+--   sum-entries        the sum of all distances: that of the bytes and of the excesses; sum-entries-of for any f
 --   readings-bytes     as many distances as bytes are not 0
 -- Axioms: none.
 use mathlib.Core.Path.{_≡_, refl, sym, ap, _∙_}
@@ -23,6 +24,9 @@ use Rattle.pciv_format.proofs.PartsLaws.{entry-good, slots-rise, valueOf-slot, 
 
 abbrev pub excess : Parts → ℕ → ℕ
 excess P j = P .distance j - 255
+
+abbrev pub reading : ℕ → ℕ
+reading x = flag (not (eqb x 0))
 
 module _ (P : Parts) (s : SoundParts P) (bytes : (i : ℕ) → P .byte i < 256) where
   slots-le : (j t : ℕ) → j ≤ t → t < P .k → P .slot j ≤ P .slot t
@@ -70,7 +74,8 @@ module _ (P : Parts) (s : SoundParts P) (bytes : (i : ℕ) → P .byte i < 256) 
         sumFrom (λ (i : ℕ). f (valueOf P i)) low (P .n - low)
         ≡ sumFrom (λ (i : ℕ). f (P .byte i)) low (P .n - low) + sumFrom g j (P .k - j)
     sum-rest zero j e =
-        omega (arith, gap-sum j (P .n) (omega arith) (λ more. absurd (omega arith)) (omega arith), sumFrom-none g j (P .k) (omega arith))
+        let inline = gap-sum j (P .n) (omega arith) (λ more. absurd (omega arith)) (omega arith) in
+        omega (arith, sumFrom-none g j (P .k) (omega arith))
     sum-rest (suc d) j e =
         let v : ℕ → ℕ = λ i. f (valueOf P i) in
         let b : ℕ → ℕ = λ i. f (P .byte i) in
@@ -104,10 +109,9 @@ module _ (P : Parts) (s : SoundParts P) (bytes : (i : ℕ) → P .byte i < 256) 
       sum-entries-of (λ (x : ℕ). x) (excess P) (λ j h. omega (arith, entry-good P s j h .far))
 
   -- a byte 255 is a reading already
-  pub readings-bytes : sumFrom (λ (i : ℕ). flag (not (eqb (valueOf P i) 0))) 0 (P .n)
-      ≡ sumFrom (λ (i : ℕ). flag (not (eqb (P .byte i) 0))) 0 (P .n)
+  pub readings-bytes : sumFrom (λ (i : ℕ). reading (valueOf P i)) 0 (P .n)
+      ≡ sumFrom (λ (i : ℕ). reading (P .byte i)) 0 (P .n)
   readings-bytes =
-      let reading : ℕ → ℕ = λ x. flag (not (eqb x 0)) in
       sumFrom-cong (λ (i : ℕ). reading (valueOf P i)) (λ (i : ℕ). reading (P .byte i)) 0 (P .n)
       (λ i h₁ h₂. slot-cases P s bytes i (omega arith) (λ small e. ap reading e)
       (λ j hj at e w far.
@@ -121,6 +125,7 @@ flag-not false = refl
 
 -- the bytes that are not 0 and those that are
 pub readings-rest : (xs : List ℕ)
-    → sumFrom (λ (i : ℕ). flag (not (eqb (byteAt xs i) 0))) 0 (length xs) + sumFrom (byteIs xs 0) 0 (length xs) ≡ length xs
+    → sumFrom (λ (i : ℕ). reading (byteAt xs i)) 0 (length xs) + sumFrom (byteIs xs 0) 0 (length xs) ≡ length xs
 readings-rest xs =
-    sumFrom-rest (λ (i : ℕ). flag (not (eqb (byteAt xs i) 0))) (byteIs xs 0) (λ i. flag-not (eqb (byteAt xs i) 0)) 0 (length xs)
+    sumFrom-rest (λ (i : ℕ). reading (byteAt xs i)) (byteIs xs 0)
+    (λ i. flag-not (eqb (byteAt xs i) 0)) 0 (length xs)

@@ -1,16 +1,15 @@
 -- Laws of a checked map: where its primary bytes and overflow entries stand, and what they add up to.
--- The primary part, as it is lent to other routines, is `take n (drop 40 b)`.
+--   primaryOf b n    the primary bytes, as the part of b that is lent to other routines
+--   sum-primary      what the primary bytes and the entries add up to; readings-primary likewise for readings
 -- Axioms: none.
 use mathlib.Core.Path.{_≡_, sym, ap, _∙_}
 use Prim.Native.Nat.{ℕ, _+_, _*_, _^_, _≤_, _<_}
 use native.Mathlib.Nat.{zero-add}
 use native.Mathlib.Omega.{arith}
-use mathlib.Core.Bool.{not}
 use mathlib.Core.List.{List}
 use lib.ListN.{length, take, drop, length-drop}
 use lib.Seq.{sets, ext-getD, length-take-le, getD-take, getD-drop}
-use lib.Dec.{eqb}
-use Rattle.pciv_bytes.specs.Ranges.{flag, table, sumFrom}
+use Rattle.pciv_bytes.specs.Ranges.{table, sumFrom}
 use Rattle.pciv_bytes.specs.LittleEndian.{Bytes}
 use Rattle.pciv_bytes.specs.Counts.{byteAt}
 use Rattle.pciv_bytes.proofs.RangesLaws.{length-table, getD-table}
@@ -19,8 +18,11 @@ use Rattle.pciv_bytes.proofs.LittleEndianLaws.{get-lt}
 use Rattle.pciv_format.specs.Parts.{valueOf}
 use Rattle.pciv_format.specs.Check.{fileParts, CheckedMap}
 use Rattle.pciv_format.proofs.LayoutLaws.{fileLen-is}
-use Rattle.pciv_map.proofs.EntryLaws.{excess, sum-entries, readings-bytes}
+use Rattle.pciv_map.proofs.EntryLaws.{excess, reading, sum-entries, readings-bytes}
 use Rattle.pciv_map.proofs.PatchLaws.{over, over-sets, patched-start}
+
+abbrev pub primaryOf : List ℕ → ℕ → List ℕ
+primaryOf b n = take n (drop 40 b)
 
 module _ (b : List ℕ) (n k : ℕ) (c : CheckedMap b n k) where
   pub entry-inside : (j : ℕ) → j < k → 40 + n + 12 * j + 12 ≤ length b
@@ -31,13 +33,13 @@ module _ (b : List ℕ) (n k : ℕ) (c : CheckedMap b n k) where
   pub primary-inside : 40 + n ≤ length b
   primary-inside = omega (arith, c .fits, fileLen-is n k)
 
-  pub primary-length : length (take n (drop 40 b)) ≡ n
+  pub primary-length : length (primaryOf b n) ≡ n
   primary-length = length-take-le n (drop 40 b) (simp length-drop (omega (arith, primary-inside)))
 
-  primary-at : (i : ℕ) → i < n → byteAt (take n (drop 40 b)) i ≡ fileParts b n k .byte i
+  primary-at : (i : ℕ) → i < n → byteAt (primaryOf b n) i ≡ fileParts b n k .byte i
   primary-at i h = getD-take n (drop 40 b) i 0 h ∙ getD-drop 40 b i 0
 
-  primary-table : take n (drop 40 b) ≡ table (fileParts b n k .byte) 0 n
+  primary-table : primaryOf b n ≡ table (fileParts b n k .byte) 0 n
   primary-table =
       let byte : ℕ → ℕ = fileParts b n k .byte in
       ext-getD 0 _ _ (primary-length ∙ sym (length-table byte 0 n))
@@ -46,31 +48,33 @@ module _ (b : List ℕ) (n k : ℕ) (c : CheckedMap b n k) where
       primary-at i inside ∙ sym (getD-table byte 0 0 n i inside ∙ ap byte (zero-add i))))
 
   -- f of every primary byte
-  primary-sum : (f : ℕ → ℕ) → sumFrom (λ (i : ℕ). f (byteAt (take n (drop 40 b)) i)) 0 (length (take n (drop 40 b)))
+  primary-sum : (f : ℕ → ℕ) → sumFrom (λ (i : ℕ). f (byteAt (primaryOf b n) i)) 0 (length (primaryOf b n))
       ≡ sumFrom (λ (i : ℕ). f (fileParts b n k .byte i)) 0 n
   primary-sum f =
       rw primary-length
-      (sumFrom-cong (λ (i : ℕ). f (byteAt (take n (drop 40 b)) i)) (λ (i : ℕ). f (fileParts b n k .byte i)) 0 n
+      (sumFrom-cong (λ (i : ℕ). f (byteAt (primaryOf b n) i)) (λ (i : ℕ). f (fileParts b n k .byte i)) 0 n
       (λ i h₁ h₂. ap f (primary-at i (omega arith))))
 
   -- ---- where b is bytes
 
   module _ (bytes : Bytes b) where
     -- the primary bytes at the front of a list, patched by no entry yet
-    pub primary-over : (d : List ℕ) → n ≤ length d → sets d 0 (take n (drop 40 b)) ≡ over (fileParts b n k) 0 d
+    pub primary-over : (d : List ℕ) → n ≤ length d → sets d 0 (primaryOf b n) ≡ over (fileParts b n k) 0 d
     primary-over d long =
         ap (sets d 0) (primary-table ∙ sym (patched-start (fileParts b n k) (c .parts) (λ i. bytes (40 + i))))
         ∙ over-sets (fileParts b n k) 0 d long
 
-    pub sum-primary : sumFrom (byteAt (take n (drop 40 b))) 0 (length (take n (drop 40 b))) + sumFrom (excess (fileParts b n k)) 0 k
+    pub sum-primary : sumFrom (byteAt (primaryOf b n)) 0 (length (primaryOf b n))
+        + sumFrom (excess (fileParts b n k)) 0 k
         ≡ sumFrom (valueOf (fileParts b n k)) 0 n
     sum-primary =
-        omega (arith, primary-sum (λ (x : ℕ). x), sum-entries (fileParts b n k) (c .parts) (λ i. bytes (40 + i)))
+        let all = sum-entries (fileParts b n k) (c .parts) (λ i. bytes (40 + i)) in
+        omega (arith, primary-sum (λ (x : ℕ). x))
 
-    pub readings-primary : sumFrom (λ (i : ℕ). flag (not (eqb (byteAt (take n (drop 40 b)) i) 0))) 0 (length (take n (drop 40 b)))
-        ≡ sumFrom (λ (i : ℕ). flag (not (eqb (valueOf (fileParts b n k) i) 0))) 0 n
+    pub readings-primary : sumFrom (λ (i : ℕ). reading (byteAt (primaryOf b n) i)) 0 (length (primaryOf b n))
+        ≡ sumFrom (λ (i : ℕ). reading (valueOf (fileParts b n k) i)) 0 n
     readings-primary =
-        primary-sum (λ (x : ℕ). flag (not (eqb x 0)))
+        primary-sum reading
         ∙ sym (readings-bytes (fileParts b n k) (c .parts) (λ i. bytes (40 + i)))
 
     -- at most 2 ^ 20 distances, each below 2 ^ 32

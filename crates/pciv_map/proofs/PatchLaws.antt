@@ -49,11 +49,13 @@ over P j d = patched P j ++ drop (P .n) d
 
 pub over-sets : (P : Parts) (j : ℕ) (d : List ℕ) → P .n ≤ length d → sets d 0 (patched P j) ≡ over P j d
 over-sets P j d long =
-    sets-front (patched P j) d (rw length-patched long) ∙ ap (λ (m : ℕ). patched P j ++ drop m d) (length-patched P j)
+    sets-front (patched P j) d (rw length-patched long)
+    ∙ ap (λ (m : ℕ). patched P j ++ drop m d) (length-patched P j)
 
 -- only the rest of the list counts
 pub over-again : (P : Parts) (j t : ℕ) (d : List ℕ) → over P j (over P t d) ≡ over P j d
-over-again P j t d = ap (λ (l : List ℕ). patched P j ++ l) (drop-at (patched P t) (drop (P .n) d) (P .n) (length-patched P t))
+over-again P j t d =
+    ap (λ (l : List ℕ). patched P j ++ l) (drop-at (patched P t) (drop (P .n) d) (P .n) (length-patched P t))
 
 module _ (P : Parts) (s : SoundParts P) (bytes : (i : ℕ) → P .byte i < 256) where
   pub patched-start : patched P 0 ≡ table (P .byte) 0 (P .n)
@@ -67,7 +69,8 @@ module _ (P : Parts) (s : SoundParts P) (bytes : (i : ℕ) → P .byte i < 256) 
       after : (i : ℕ) → i < P .n → patchedAt P (P .k) i ≡ valueOf P i
       after i inside =
           elim (decLe (lowestSlot P (P .k)) i) [
-            | yes d ↦ patchedAt-above P (P .k) i d ∙ sym (gap-value P s bytes (P .k) i (omega arith) d (λ more. absurd (omega arith)) inside)
+            | yes d ↦ patchedAt-above P (P .k) i d
+                ∙ sym (gap-value P s bytes (P .k) i (omega arith) d (λ more. absurd (omega arith)) inside)
             | no d ↦ patchedAt-below P (P .k) i (omega arith)
           ]
 
@@ -114,7 +117,8 @@ module _ (P : Parts) (s : SoundParts P) (bytes : (i : ℕ) → P .byte i < 256) 
 
   -- ---- patching at the front of a list
 
-  pub over-more : (j : ℕ) (d : List ℕ) → j < P .k → set (over P j d) (P .slot j) (P .distance j) ≡ over P (j + 1) d
+  pub over-more : (j : ℕ) (d : List ℕ) → j < P .k
+      → set (over P j d) (P .slot j) (P .distance j) ≡ over P (j + 1) d
   over-more j d here =
       let inside : P .slot j < length (patched P j) = rw length-patched (entry-good P s j here .inside) in
       set-append-left (patched P j) (drop (P .n) d) (P .slot j) (P .distance j) inside

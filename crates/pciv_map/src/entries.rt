@@ -1,4 +1,5 @@
-// One overflow entry of a file with n slots (docs/FORMAT.md, "Layout"): its slot, 8 bytes, and the distance there, 4 bytes.
+// One overflow entry of a file with n slots: its slot, 8 bytes, then the distance there, 4 bytes
+// (docs/FORMAT.md, "Layout").
 ghost use mathlib.Core.Path.{_≡_};
 ghost use Prim.Native.Nat.{_+_, _*_, _≤_};
 ghost use lib.ListN.{length};

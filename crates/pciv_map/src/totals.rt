@@ -29,6 +29,7 @@ fn excess_of(file: &[u8], n: usize, k: usize) -> usize
     sum
 }
 
+// The sum of all distances, in one pass over the primary bytes and one over the entries.
 pub fn sum_of(file: &[u8], n: usize, k: usize) -> usize
     requires { ⌜ CheckedMap (now file) n k ⌝ }
     ensures { λ r. ⌜ r ≡ sumFrom (valueOf (fileParts (now (file .entry)) n k)) 0 n ⌝ }

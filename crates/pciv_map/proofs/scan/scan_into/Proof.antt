@@ -16,7 +16,8 @@ use Rattle.pciv_map.proofs.scan.scan_into.Statement.{statement}
 use Rattle.pciv_map.proofs.scan.scan_into.Tie as tie
 
 abbrev Inv-loop : tie.InvT-loop
-Inv-loop file n k out₀ end j₀ out j = (j ≤ k) × (length out ≡ length out₀) × (out ≡ over (fileParts file n k) j out₀)
+Inv-loop file n k out₀ end j₀ out j =
+    (j ≤ k) × (length out ≡ length out₀) × (out ≡ over (fileParts file n k) j out₀)
 
 abbrev μ-loop : tie.MeasureT-loop
 μ-loop file n k out₀ end j₀ out j = k - j
@@ -43,7 +44,7 @@ widen-requires c κs =
     let a = s .args in
     rw (add-sub-cancel-left 40 (a .n), primary-length (a .file .now) (a .n) (a .k) (s .pre .0)) (s .pre .1)
 
--- what is known of a place after the call, at the function's entry
+-- after the call: the function's entry, the parts of the file, and that the file is bytes
 abbrev entry : tie.After-widen Inv-loop μ-loop → tie.Start Inv-loop μ-loop
 entry c = c .before .before .before .before .before
 
@@ -66,8 +67,9 @@ widened c =
 loop-holds : tie.Need-loop-holds Inv-loop μ-loop
 loop-holds c =
     let w = c .before .before in
+    let P = parts w in
     let front = widened w in
-    (omega arith, refl, front ∙ sym (ap (over (parts w) 0) front ∙ over-again (parts w) 0 0 (entry w .args .out .now)))
+    (omega arith, refl, front ∙ sym (ap (over P 0) front ∙ over-again P 0 0 (entry w .args .out .now)))
 
 entry-slot-requires : tie.Need-entry-slot-requires Inv-loop μ-loop
 entry-slot-requires c κs =

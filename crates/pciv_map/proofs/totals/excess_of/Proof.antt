@@ -50,17 +50,14 @@ cast-sum-2 : tie.Need-cast-sum-2 Inv-loop μ-loop
 cast-sum-2 c = search needs
 
 loop-again : tie.Need-loop-again Inv-loop μ-loop
-loop-again c =
-    let d = c .before .before in
-    let s = d .before .before in
-    rw (c .entry-distance .ensures)
-    (added-one (d .loop .inv) (omega arith))
+loop-again c = rw (c .entry-distance .ensures) (added-one (c .before .before .loop .inv) (omega arith))
 
 add-sum : tie.Need-add-sum Inv-loop μ-loop
 add-sum c =
     let known = c .before .before .before in
     let s = known .before in
-    omega (arith, loop-again c .rest, excess-lt (s .args .file .now) (s .args .n) (s .args .k) (s .pre) (bytes known))
+    let fits = excess-lt (s .args .file .now) (s .args .n) (s .args .k) (s .pre) (bytes known) in
+    omega (arith, loop-again c .rest)
 
 add-j : tie.Need-add-j Inv-loop μ-loop
 add-j c = search needs
@@ -69,9 +66,7 @@ loop-less : tie.Need-loop-less Inv-loop μ-loop
 loop-less c = search needs
 
 returns : tie.Need-returns Inv-loop μ-loop
-returns c =
-    let d = c .before in
-    added-all (d .loop .inv) (omega arith)
+returns c = added-all (c .before .loop .inv) (omega arith)
 
 pub excess-of-spec : {M : Type 1} → statement M
 excess-of-spec =

@@ -45,7 +45,8 @@ add-result : tie.Need-add-result
 add-result c =
     let known = c .before .before .before in
     let s = known .before in
-    omega (arith, returns c, sum-lt (s .args .file .now) (s .args .n) (s .args .k) (s .pre) (bytes known))
+    let fits = sum-lt (s .args .file .now) (s .args .n) (s .args .k) (s .pre) (bytes known) in
+    omega (arith, returns c)
 
 pub sum-of-spec : {M : Type 1} → statement M
 sum-of-spec =

@@ -1,0 +1,62 @@
+-- Proves pciv_read::lookup.
+use mathlib.Core.Path.{_≡_, refl, sym, ap, _∙_}
+use Prim.Native.Nat.{ℕ, _+_, _-_, _≤_, _<_}
+use native.Mathlib.Omega.{arith}
+use Rattle.pciv_format.specs.Refusals.{done, refused, distanceAnswer}
+use Rattle.pciv_format.specs.Check.{checkFile}
+use Rattle.pciv_format.proofs.RefusalsLaws.{fileAnswer-done, fileAnswer-refused}
+use Rattle.pciv_read.proofs.ReadLaws.{checked, lookup-refused, lookup-outside, lookup-inside}
+use borrow.Author.Needs.{needs}
+use Rattle.pciv_read.proofs.lookup.Statement.{statement}
+use Rattle.pciv_read.proofs.lookup.Tie as tie
+
+-- what the check has shown: why the file is refused, or its counts
+is-refused : (c : tie.After-checked) → checkFile 1 (c .before .before .before .before .args .file .now) ≡ refused (c .checked .given .0 .0)
+is-refused c = fileAnswer-refused _ _ (sym (c .checked .given .1) ∙ c .before .before .check .ensures)
+
+is-map : (c : tie.After-checked2) → checkFile 1 (c .before .before .before .before .args .file .now) ≡ done (c .checked2 .given .0 .0)
+is-map c = fileAnswer-done _ _ (sym (c .checked2 .given .1) ∙ c .before .before .check .ensures)
+
+check-requires : tie.Need-check-requires
+check-requires c κs = search needs
+
+enum-known-checked : tie.Need-enum-known-checked
+enum-known-checked c = search needs
+
+enum-known-checked-2 : tie.Need-enum-known-checked-2
+enum-known-checked-2 c = search needs
+
+returns : tie.Need-returns
+returns c =
+    let k = c .before .before in
+    let a = k .before .before .before .before .args in
+    ap distanceAnswer (sym (lookup-outside (a .file .now) _ (is-map k) (a .slot) (c .if1 .taken)))
+
+distance-at-requires : tie.Need-distance-at-requires
+distance-at-requires c κs =
+    let k = c .before .before in
+    (checked _ _ (is-map k), c .if1 .left)
+
+returns-2 : tie.Need-returns-2
+returns-2 c =
+    let a = c .before .before .before .before .before .args in
+    ap distanceAnswer (sym (lookup-refused (a .file .now) _ (is-refused (c .before)) (a .slot)))
+
+returns-3 : tie.Need-returns-3
+returns-3 c =
+    let k = c .before .before .before in
+    let a = k .before .before .before .before .args in
+    ap (λ (x : ℕ). distanceAnswer (done x)) (c .distance-at .ensures)
+    ∙ ap distanceAnswer (sym (lookup-inside (a .file .now) _ (is-map k) (a .slot) (c .before .if1 .left)))
+
+pub lookup-spec : {M : Type 1} → statement M
+lookup-spec =
+    tie.close
+    (tie.spec
+    check-requires
+    enum-known-checked
+    enum-known-checked-2
+    returns
+    distance-at-requires
+    returns-2
+    returns-3)

@@ -1,0 +1,164 @@
+/*
+ * pciv.h - reading PCIV depth maps
+ *
+ * A PCIV file stores a map: a list of 0 to 1,048,576 distances in whole centimetres, 32 bits each,
+ * one for each slot. docs/FORMAT.md describes the layout, the rules and the terms used here.
+ *
+ * Conventions of every call:
+ *
+ *   - A slice is a pointer and its number of elements. Pointers must be non-null, aligned for their
+ *     type and valid for that many elements, also when the number is 0.
+ *   - The buffers of one call must not overlap.
+ *   - The call answers a number of enum pciv_refusal_number, PCIV_OK when done.
+ *   - *refusal is always written: all zero when done, else the same number, the map at fault and
+ *     the place.
+ *   - Results are written only when the call is done. After a refusal every other byte of the
+ *     caller is unchanged. What follows a result in a longer buffer is unchanged too.
+ *   - A call checks the whole file it is given, which must be exactly as long as its header says.
+ *     A fault of the file is refused before a fault of the call.
+ *   - Nothing is allocated or kept between calls; calls may run in parallel.
+ *
+ * For x86-64 only (System V calling convention): size_t has 64 bits.
+ */
+#ifndef PCIV_H
+#define PCIV_H
+
+#if !defined(__x86_64__) || defined(__ILP32__)
+#error "pciv is built for x86-64 with 64-bit pointers only"
+#endif
+
+#include <stddef.h>
+#include <stdint.h>
+
+#ifdef __cplusplus
+extern "C" {
+#endif
+
+/* ---- Refusals --------------------------------------------------------------------------------
+ *
+ * Numbers 1 to 8 are faults of a file and have map 1 (2 for the second file of a call). All others
+ * have map 0. The place is 0 unless stated. Where several apply, the first file's 1 to 8 come first
+ * in rising order, then the second file's, then 10, 13, 9, 11, 12.
+ */
+enum pciv_refusal_number {
+    PCIV_OK = 0,                     /* done */
+    PCIV_TRUNCATED_HEADER = 1,       /* the file has fewer than 40 bytes */
+    PCIV_BAD_MAGIC = 2,              /* the first eight bytes are not "PCIV" and four zeros */
+    PCIV_TOO_MANY_SLOTS = 3,         /* n is above 1,048,576 */
+    PCIV_BAD_COUNTS = 4,             /* k is above n, or step or m is not the one that k gives */
+    PCIV_BAD_LENGTH = 5,             /* the file is not as long as n, k and m say */
+    PCIV_BAD_OVERFLOW_ENTRY = 6,     /* an overflow entry's slot is n or more or not above the one
+                                        before, its distance is below 255, or the primary byte of
+                                        its slot is not 255; place: the least such entry */
+    PCIV_MISSING_OVERFLOW_ENTRY = 7, /* a primary byte 255 has no overflow entry; place: the least
+                                        such slot */
+    PCIV_BAD_INDEX_ENTRY = 8,        /* an entry of the sparse index is wrong; place: the least such
+                                        index entry */
+    PCIV_SLOT_OUT_OF_RANGE = 9,      /* a slot asked for is n or more; place: for a list of slots
+                                        the least position in it, else 0 */
+    PCIV_SIZE_MISMATCH = 10,         /* two maps differ in n */
+    PCIV_DISTANCE_OVERFLOW = 11,     /* a resulting distance is above 4,294,967,295; place: the
+                                        least such slot */
+    PCIV_BUFFER_TOO_SMALL = 12,      /* the result does not fit into the caller's buffer, or the
+                                        report program's input is longer than 65,536 bytes */
+    PCIV_BAD_MASK = 13               /* a mask has another number of words than n needs, or a bit
+                                        set past n */
+};
+
+/* Why a call was refused; all zero when it was done. */
+typedef struct {
+    uint64_t number; /* of enum pciv_refusal_number */
+    uint64_t map;    /* the file at fault, counted from 1; 0 for a fault of the call */
+    uint64_t place;
+} pciv_refusal;
+
+/* ---- Check ------------------------------------------------------------------------------------ */
+
+/* What the header of a sound file says, and the length of the file. */
+typedef struct {
+    uint64_t n;    /* number of slots */
+    uint64_t k;    /* number of overflow entries */
+    uint64_t m;    /* number of index entries */
+    uint64_t step; /* step of the sparse index, 0 without one */
+    uint64_t len;  /* bytes of the file: 40 + n + 12k + 16m */
+} pciv_summary;
+
+/* Checks a whole file. Refusals 1 to 8.
+   When done *summary holds the summary; after a refusal it is unchanged. */
+uint64_t pciv_check(const uint8_t *file, size_t file_len, pciv_summary *summary,
+                    pciv_refusal *refusal);
+
+/* ---- Primary array ---------------------------------------------------------------------------- */
+
+/* A part of memory that belongs to the caller. */
+typedef struct {
+    const uint8_t *bytes;
+    size_t len;
+} pciv_part;
+
+/* Where in a file its primary array is. No refusals: pciv_check tells why a file is refused.
+   Afterwards span[0] is the offset of its first byte, 40, and span[1] its length, n; both are 0
+   where pciv_check refuses the file. Answers span[1]. */
+uint64_t pciv_primary_span(const uint8_t *file, size_t file_len, uint64_t span[2]);
+
+/* The primary array as a part of the caller's file: one byte for each slot, the distance below 255
+   and 255 for a distance in overflow. Its length is 0 where pciv_check refuses the file. */
+static inline pciv_part pciv_primary(const uint8_t *file, size_t file_len)
+{
+    uint64_t span[2];
+    pciv_part part;
+    part.len = (size_t)pciv_primary_span(file, file_len, span);
+    part.bytes = file + span[0];
+    return part;
+}
+
+/* ---- Distances -------------------------------------------------------------------------------- */
+
+/* The distance at one slot. Refusals 1 to 8, then 9.
+   When done *distance holds it; after a refusal it is unchanged. */
+uint64_t pciv_lookup(const uint8_t *file, size_t file_len, uint64_t slot, uint32_t *distance,
+                     pciv_refusal *refusal);
+
+/* The distances at a list of slots, in the list's order; slots may repeat.
+   Refusals 1 to 8, then 9 with the least position in the list as place, then 12 where
+   distances_len is below slots_len.
+   When done the first slots_len elements of distances hold them and *count is slots_len. After a
+   refusal distances and *count are unchanged. */
+uint64_t pciv_lookup_list(const uint8_t *file, size_t file_len, const uint64_t *slots,
+                          size_t slots_len, uint32_t *distances, size_t distances_len,
+                          uint64_t *count, pciv_refusal *refusal);
+
+/* All distances, in order of their slots. Refusals 1 to 8, then 12 where distances_len is below n.
+   When done the first n elements of distances hold them and *count is n. After a refusal distances
+   and *count are unchanged. */
+uint64_t pciv_scan(const uint8_t *file, size_t file_len, uint32_t *distances, size_t distances_len,
+                   uint64_t *count, pciv_refusal *refusal);
+
+/* ---- Totals ----------------------------------------------------------------------------------- */
+
+/* The sum of all distances. Refusals 1 to 8.
+   When done *sum holds it; after a refusal it is unchanged. */
+uint64_t pciv_sum(const uint8_t *file, size_t file_len, uint64_t *sum, pciv_refusal *refusal);
+
+/* The number of readings: slots whose distance is not 0. Refusals 1 to 8.
+   When done *count holds it; after a refusal it is unchanged. */
+uint64_t pciv_readings(const uint8_t *file, size_t file_len, uint64_t *count,
+                       pciv_refusal *refusal);
+
+/* ---- Report ----------------------------------------------------------------------------------- */
+
+/* The text that the report program prints for an input, without a final 0 byte: the six lines
+   slots, far, step, index, sum and readings, or one line such as "refused 6 map 1 place 3" where
+   pciv_check refuses the input. An input of more than 65,536 bytes gives the line
+   "refused 12 map 0 place 0". Every line ends in a newline; 96 bytes hold any text.
+   The call itself is refused only with 12, where text_len is too small.
+   When done the text is at the front of text and *count is its length. After a refusal text and
+   *count are unchanged. */
+uint64_t pciv_report(const uint8_t *input, size_t input_len, uint8_t *text, size_t text_len,
+                     uint64_t *count, pciv_refusal *refusal);
+
+#ifdef __cplusplus
+}
+#endif
+
+#endif

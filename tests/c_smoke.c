@@ -1,0 +1,198 @@
+/* Calls every function of pciv.h on a map built by hand and on refused input. If it fails, the
+   library, the header or the way they are linked is wrong for C programs. */
+#include "pciv.h"
+
+#include <stdio.h>
+#include <stdlib.h>
+#include <string.h>
+
+/* Unlike assert, also checks in release builds. */
+#define EXPECT(condition)                                                                  \
+    do {                                                                                   \
+        if (!(condition)) {                                                                \
+            fprintf(stderr, "c_smoke: %s:%d: %s\n", __FILE__, __LINE__, #condition);       \
+            exit(1);                                                                       \
+        }                                                                                  \
+    } while (0)
+
+#define MAP_LEN 68
+#define N 4
+#define DIRTY 0xA5
+
+static const char REPORT[] = "slots 4\nfar 2\nstep 0\nindex 0\nsum 809\nreadings 3\n";
+
+/* The file of the distances 0, 254, 255, 300. */
+static void build_map(uint8_t file[MAP_LEN])
+{
+    static const uint8_t parts[] = {
+        0, 254, 255, 255,                            /* primary array */
+        2, 0, 0, 0, 0, 0, 0, 0, 0xFF, 0x00, 0, 0,    /* slot 2: 255 */
+        3, 0, 0, 0, 0, 0, 0, 0, 0x2C, 0x01, 0, 0     /* slot 3: 300 */
+    };
+    memset(file, 0, MAP_LEN);
+    memcpy(file, "PCIV", 4);
+    file[8] = N;
+    file[16] = 2;
+    memcpy(file + 40, parts, sizeof parts);
+}
+
+static int is_dirty(const void *memory, size_t len)
+{
+    const uint8_t *bytes = (const uint8_t *)memory;
+    for (size_t i = 0; i < len; i++)
+        if (bytes[i] != DIRTY)
+            return 0;
+    return 1;
+}
+
+static int is_refusal(const pciv_refusal *refusal, uint64_t number, uint64_t map, uint64_t place)
+{
+    return refusal->number == number && refusal->map == map && refusal->place == place;
+}
+
+static void test_check(const uint8_t *file)
+{
+    pciv_summary summary;
+    pciv_refusal refusal;
+    memset(&summary, DIRTY, sizeof summary);
+    memset(&refusal, DIRTY, sizeof refusal);
+    EXPECT(pciv_check(file, MAP_LEN - 1, &summary, &refusal) == PCIV_BAD_LENGTH);
+    EXPECT(is_refusal(&refusal, PCIV_BAD_LENGTH, 1, 0));
+    EXPECT(is_dirty(&summary, sizeof summary));
+    EXPECT(pciv_check(file, MAP_LEN, &summary, &refusal) == PCIV_OK);
+    EXPECT(is_refusal(&refusal, PCIV_OK, 0, 0));
+    EXPECT(summary.n == N && summary.k == 2 && summary.m == 0);
+    EXPECT(summary.step == 0 && summary.len == MAP_LEN);
+}
+
+static void test_primary(const uint8_t *file)
+{
+    uint64_t span[2];
+    pciv_part part;
+    EXPECT(pciv_primary_span(file, MAP_LEN, span) == N && span[0] == 40 && span[1] == N);
+    EXPECT(pciv_primary_span(file, 39, span) == 0 && span[0] == 0 && span[1] == 0);
+    part = pciv_primary(file, MAP_LEN);
+    EXPECT(part.bytes == file + 40 && part.len == N);
+    part = pciv_primary(file, 39);
+    EXPECT(part.len == 0);
+}
+
+static void test_lookup(const uint8_t *file)
+{
+    uint32_t distance;
+    pciv_refusal refusal;
+    memset(&distance, DIRTY, sizeof distance);
+    EXPECT(pciv_lookup(file, MAP_LEN, N, &distance, &refusal) == PCIV_SLOT_OUT_OF_RANGE);
+    EXPECT(is_refusal(&refusal, PCIV_SLOT_OUT_OF_RANGE, 0, 0));
+    EXPECT(is_dirty(&distance, sizeof distance));
+    EXPECT(pciv_lookup(file, MAP_LEN, 3, &distance, &refusal) == PCIV_OK && distance == 300);
+    EXPECT(is_refusal(&refusal, PCIV_OK, 0, 0));
+}
+
+static void test_lookup_list(const uint8_t *file)
+{
+    static const uint64_t slots[] = {3, 1, 3};
+    static const uint64_t beyond[] = {3, N, 3};
+    uint32_t distances[4];
+    uint64_t count;
+    pciv_refusal refusal;
+    memset(distances, DIRTY, sizeof distances);
+    memset(&count, DIRTY, sizeof count);
+    EXPECT(pciv_lookup_list(file, MAP_LEN, beyond, 3, distances, 2, &count, &refusal) ==
+           PCIV_SLOT_OUT_OF_RANGE);
+    EXPECT(is_refusal(&refusal, PCIV_SLOT_OUT_OF_RANGE, 0, 1));
+    EXPECT(pciv_lookup_list(file, MAP_LEN, slots, 3, distances, 2, &count, &refusal) ==
+           PCIV_BUFFER_TOO_SMALL);
+    EXPECT(is_refusal(&refusal, PCIV_BUFFER_TOO_SMALL, 0, 0));
+    EXPECT(is_dirty(distances, sizeof distances) && is_dirty(&count, sizeof count));
+    EXPECT(pciv_lookup_list(file, MAP_LEN, slots, 3, distances, 4, &count, &refusal) == PCIV_OK);
+    EXPECT(is_refusal(&refusal, PCIV_OK, 0, 0) && count == 3);
+    EXPECT(distances[0] == 300 && distances[1] == 254 && distances[2] == 300);
+    EXPECT(is_dirty(&distances[3], sizeof distances[3]));
+}
+
+static void test_scan(const uint8_t *file)
+{
+    uint32_t distances[N + 1];
+    uint64_t count;
+    pciv_refusal refusal;
+    memset(distances, DIRTY, sizeof distances);
+    memset(&count, DIRTY, sizeof count);
+    EXPECT(pciv_scan(file, MAP_LEN, distances, N - 1, &count, &refusal) == PCIV_BUFFER_TOO_SMALL);
+    EXPECT(is_refusal(&refusal, PCIV_BUFFER_TOO_SMALL, 0, 0));
+    EXPECT(is_dirty(distances, sizeof distances) && is_dirty(&count, sizeof count));
+    EXPECT(pciv_scan(file, MAP_LEN, distances, N + 1, &count, &refusal) == PCIV_OK);
+    EXPECT(is_refusal(&refusal, PCIV_OK, 0, 0) && count == N);
+    EXPECT(distances[0] == 0 && distances[1] == 254 && distances[2] == 255);
+    EXPECT(distances[3] == 300 && is_dirty(&distances[N], sizeof distances[N]));
+}
+
+static void test_totals(const uint8_t *file)
+{
+    uint64_t sum, readings;
+    pciv_refusal refusal;
+    memset(&sum, DIRTY, sizeof sum);
+    memset(&readings, DIRTY, sizeof readings);
+    EXPECT(pciv_sum(file, 39, &sum, &refusal) == PCIV_TRUNCATED_HEADER);
+    EXPECT(is_refusal(&refusal, PCIV_TRUNCATED_HEADER, 1, 0) && is_dirty(&sum, sizeof sum));
+    EXPECT(pciv_readings(file, 39, &readings, &refusal) == PCIV_TRUNCATED_HEADER);
+    EXPECT(is_refusal(&refusal, PCIV_TRUNCATED_HEADER, 1, 0));
+    EXPECT(is_dirty(&readings, sizeof readings));
+    EXPECT(pciv_sum(file, MAP_LEN, &sum, &refusal) == PCIV_OK && sum == 809);
+    EXPECT(is_refusal(&refusal, PCIV_OK, 0, 0));
+    EXPECT(pciv_readings(file, MAP_LEN, &readings, &refusal) == PCIV_OK && readings == 3);
+    EXPECT(is_refusal(&refusal, PCIV_OK, 0, 0));
+}
+
+static void test_report(const uint8_t *file)
+{
+    const size_t len = strlen(REPORT);
+    uint8_t text[96];
+    uint64_t count;
+    pciv_refusal refusal;
+    memset(text, DIRTY, sizeof text);
+    memset(&count, DIRTY, sizeof count);
+    EXPECT(pciv_report(file, MAP_LEN, text, len - 1, &count, &refusal) == PCIV_BUFFER_TOO_SMALL);
+    EXPECT(is_refusal(&refusal, PCIV_BUFFER_TOO_SMALL, 0, 0));
+    EXPECT(is_dirty(text, sizeof text) && is_dirty(&count, sizeof count));
+    EXPECT(pciv_report(file, MAP_LEN, text, sizeof text, &count, &refusal) == PCIV_OK);
+    EXPECT(is_refusal(&refusal, PCIV_OK, 0, 0) && count == len);
+    EXPECT(memcmp(text, REPORT, len) == 0 && is_dirty(text + len, sizeof text - len));
+    EXPECT(pciv_report(file, 0, text, sizeof text, &count, &refusal) == PCIV_OK);
+    EXPECT(count == 24 && memcmp(text, "refused 1 map 1 place 0\n", 24) == 0);
+}
+
+/* The refusal of the map with one byte changed. */
+static void test_damage(const uint8_t *map, size_t at, uint8_t byte, uint64_t number, uint64_t place)
+{
+    uint8_t file[MAP_LEN];
+    pciv_summary summary;
+    pciv_refusal refusal;
+    memcpy(file, map, MAP_LEN);
+    file[at] = byte;
+    EXPECT(pciv_check(file, MAP_LEN, &summary, &refusal) == number);
+    EXPECT(is_refusal(&refusal, number, 1, place));
+}
+
+int main(void)
+{
+    uint8_t file[MAP_LEN];
+    uint8_t original[MAP_LEN];
+    build_map(file);
+    build_map(original);
+    test_check(file);
+    test_primary(file);
+    test_lookup(file);
+    test_lookup_list(file);
+    test_scan(file);
+    test_totals(file);
+    test_report(file);
+    test_damage(file, 0, 'p', PCIV_BAD_MAGIC, 0);
+    test_damage(file, 15, 1, PCIV_TOO_MANY_SLOTS, 0);
+    test_damage(file, 16, N + 1, PCIV_BAD_COUNTS, 0);
+    test_damage(file, 56, 2, PCIV_BAD_OVERFLOW_ENTRY, 1);
+    test_damage(file, 41, 255, PCIV_MISSING_OVERFLOW_ENTRY, 1);
+    EXPECT(memcmp(file, original, MAP_LEN) == 0);
+    puts("c_smoke: ok");
+    return 0;
+}

@@ -1,0 +1,63 @@
+//! Collects the verdicts of a run.
+
+use std::fmt::{Debug, Display};
+
+/// How many differences are printed before the run is given up.
+const MAX_DIFFERENCES: u64 = 10;
+
+#[derive(Default)]
+pub struct Judge {
+    /// Where the current case comes from, for the account of a difference.
+    pub case: String,
+    pub calls: u64,
+    pub differences: u64,
+    /// How often the reference refused, by number.
+    pub refusals: [u64; 14],
+}
+
+impl Judge {
+    /// Compares what a call left behind.
+    pub fn same<T: PartialEq + Debug>(&mut self, call: &dyn Display, expected: T, actual: T) {
+        if expected != actual {
+            self.difference(call, &expected, &actual);
+        }
+    }
+
+    /// Compares two buffers and tells the first place where they differ.
+    pub fn same_buffer<T: PartialEq + Debug>(
+        &mut self,
+        call: &dyn Display,
+        expected: &[T],
+        actual: &[T],
+    ) {
+        if expected == actual {
+            return;
+        }
+        let mut pairs = expected.iter().zip(actual);
+        match pairs.position(|(expected, actual)| expected != actual) {
+            Some(at) => self.difference(
+                &format_args!("{call}, element {at}"),
+                &expected[at],
+                &actual[at],
+            ),
+            None => self.difference(
+                &format_args!("{call}, number of elements"),
+                &expected.len(),
+                &actual.len(),
+            ),
+        }
+    }
+
+    fn difference(&mut self, call: &dyn Display, expected: &dyn Debug, actual: &dyn Debug) {
+        self.differences += 1;
+        println!("difference in {}", self.case);
+        println!("  call:     {call}");
+        println!("  expected: {expected:?}");
+        println!("  actual:   {actual:?}");
+    }
+
+    /// Whether enough has been seen.
+    pub fn gives_up(&self) -> bool {
+        self.differences >= MAX_DIFFERENCES
+    }
+}

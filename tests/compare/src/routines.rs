@@ -1,0 +1,121 @@
+//! The calls made for one file.
+
+use crate::judge::Judge;
+use crate::trial::Trial;
+use compare::rng::Rng;
+use reference::Summary;
+
+/// Files start anywhere up to here in their memory, so at any alignment.
+const MAX_SHIFT: usize = 16;
+
+/// Compares every routine on a file.
+pub fn compare_file(judge: &mut Judge, rng: &mut Rng, file: &[u8]) {
+    let mut trial = Trial::new(judge, file, rng.below(MAX_SHIFT));
+    trial.check();
+    trial.primary();
+    trial.sum();
+    trial.readings();
+    for capacity in capacities(rng, reference::report_text(file).len()) {
+        trial.report(capacity);
+    }
+    match reference::check(file) {
+        Ok(summary) => sound_file(&mut trial, rng, &summary),
+        Err(_) => refused_file(&mut trial, rng),
+    }
+}
+
+/// Compares the reference with the list that a file was made of.
+pub fn compare_list(judge: &mut Judge, file: &[u8], distances: &[u32]) {
+    let decoded = reference::decode(file).unwrap_or_default();
+    judge.same_buffer(&"the reference's list", distances, &decoded);
+}
+
+fn sound_file(trial: &mut Trial, rng: &mut Rng, summary: &Summary) {
+    for capacity in capacities(rng, summary.n as usize) {
+        trial.scan(capacity);
+    }
+    let inside = telling_slots(rng, trial.original(), summary);
+    let beyond = [summary.n, summary.n + 1, 1 << 32, 1 << 63, u64::MAX];
+    for &slot in inside.iter().chain(&beyond) {
+        trial.lookup(slot);
+    }
+    lookup_lists(trial, rng, &inside, &beyond);
+}
+
+/// Calls whose own faults must not come before those of the file.
+fn refused_file(trial: &mut Trial, rng: &mut Rng) {
+    trial.scan(0);
+    trial.scan(trial.original().len());
+    trial.lookup(0);
+    trial.lookup(u64::MAX);
+    trial.lookup_list(&[0, u64::MAX, rng.word()], rng.below(5));
+}
+
+/// Capacities for a result of `len` elements: exact, generous, one short, none.
+fn capacities(rng: &mut Rng, len: usize) -> Vec<usize> {
+    let mut capacities = vec![len, len + 1 + rng.below(20)];
+    if len > 0 {
+        capacities.extend([len - 1, 0]);
+    }
+    capacities
+}
+
+/// Slots below n where a lookup may go wrong: both ends, random ones, and those about telling
+/// overflow entries.
+fn telling_slots(rng: &mut Rng, file: &[u8], summary: &Summary) -> Vec<u64> {
+    let n = summary.n as usize;
+    if n == 0 {
+        return Vec::new();
+    }
+    let mut slots = vec![0, summary.n - 1];
+    slots.extend((0..6).map(|_| rng.below(n) as u64));
+    for entry in telling_entries(rng, summary) {
+        let slot = overflow_slot(file, n, entry);
+        slots.extend([slot.wrapping_sub(1), slot, slot + 1]);
+    }
+    slots.retain(|&slot| slot < summary.n);
+    slots
+}
+
+/// Overflow entries at both ends, a random one, and those about the second and the last index
+/// entry.
+fn telling_entries(rng: &mut Rng, summary: &Summary) -> Vec<usize> {
+    let k = summary.k as usize;
+    if k == 0 {
+        return Vec::new();
+    }
+    let step = summary.step as usize;
+    let last_indexed = (k - 1) / step.max(1) * step;
+    let mut entries = vec![0, k - 1, rng.below(k)];
+    for indexed in [step, last_indexed] {
+        entries.extend([indexed.wrapping_sub(1), indexed, indexed + 1]);
+    }
+    entries.retain(|&entry| entry < k);
+    entries.sort_unstable();
+    entries.dedup();
+    entries
+}
+
+fn overflow_slot(file: &[u8], n: usize, entry: usize) -> u64 {
+    let at = reference::HEADER_LEN + n + 12 * entry;
+    u64::from_le_bytes(file[at..at + 8].try_into().expect("eight bytes"))
+}
+
+/// Lists of slots inside the map, and the same with slots beyond it at several positions.
+fn lookup_lists(trial: &mut Trial, rng: &mut Rng, inside: &[u64], beyond: &[u64]) {
+    let mut list = inside.to_vec();
+    list.extend((0..inside.len()).map(|_| rng.pick(inside)));
+    for capacity in capacities(rng, list.len()) {
+        trial.lookup_list(&list, capacity);
+        trial.lookup_list(&[], capacity);
+    }
+    for position in [0, list.len() / 2, list.len()] {
+        let mut refused = list.clone();
+        refused.insert(position, rng.pick(beyond));
+        trial.lookup_list(&refused, refused.len());
+        refused.push(rng.pick(beyond));
+        for capacity in capacities(rng, refused.len()) {
+            trial.lookup_list(&refused, capacity);
+        }
+    }
+}

@@ -1,0 +1,73 @@
+//! Independent implementation of the PCIV format, written from `docs/FORMAT.md` alone.
+//!
+//! It shares no code with the verified library. The comparison holds the library to its answers,
+//! and the bench takes it as the straightforward program to measure against.
+//!
+//! A file stores a list of distances: one byte for each slot in the *primary array*, the distance
+//! itself below 255 and the sentinel 255 otherwise; an *overflow entry* (slot, distance) for each
+//! sentinel; and a *sparse index* over the overflow entries when there are many.
+
+pub mod examples;
+mod layout;
+mod map;
+mod report;
+mod write;
+
+pub use layout::{file_len, index_len, index_step, HEADER_LEN, MAX_SLOTS, SENTINEL};
+pub use map::{check, decode, lookup, lookup_list, primary, readings, scan, sum, Map};
+pub use report::{report, report_text, MAX_INPUT};
+pub use write::encode;
+
+/// What a sound file's header says, and the file's length.
+#[derive(Clone, Copy, Debug, PartialEq, Eq)]
+pub struct Summary {
+    /// Number of slots.
+    pub n: u64,
+    /// Number of overflow entries.
+    pub k: u64,
+    /// Number of index entries.
+    pub m: u64,
+    /// Step of the sparse index, 0 without one.
+    pub step: u64,
+    /// Length of the file in bytes.
+    pub len: u64,
+}
+
+/// Why a call was refused: the rule's number, the map at fault and the place.
+#[derive(Clone, Copy, Debug, PartialEq, Eq)]
+pub struct Refusal {
+    /// Number of the rule, 1 to 13.
+    pub number: u64,
+    /// 1 for a fault of the file, 0 for a fault of the call.
+    pub map: u64,
+    /// The place that the rule names, 0 where it names none.
+    pub place: u64,
+}
+
+impl Refusal {
+    /// A refusal of the file.
+    fn of_file(number: u64, place: u64) -> Refusal {
+        Refusal {
+            number,
+            map: 1,
+            place,
+        }
+    }
+
+    /// A refusal of the call.
+    fn of_call(number: u64, place: u64) -> Refusal {
+        Refusal {
+            number,
+            map: 0,
+            place,
+        }
+    }
+}
+
+/// Fails with refusal 12 unless a result of `len` elements fits into `capacity`.
+fn require_capacity(len: usize, capacity: usize) -> Result<(), Refusal> {
+    if capacity < len {
+        return Err(Refusal::of_call(12, 0));
+    }
+    Ok(())
+}

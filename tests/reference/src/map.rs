@@ -1,0 +1,235 @@
+//! A checked file and the questions asked of it.
+
+use crate::layout::{
+    file_len, index_len, index_position, index_slot, index_step, le64, overflow_distance,
+    overflow_slot, IndexBytes, OverflowBytes, HEADER_LEN, INDEX_ENTRY_LEN, MAGIC, MAX_SLOTS,
+    OVERFLOW_ENTRY_LEN, SENTINEL,
+};
+use crate::{require_capacity, Refusal, Summary};
+
+/// The parts of a file that passed every rule.
+#[derive(Clone, Copy, Debug)]
+pub struct Map<'a> {
+    summary: Summary,
+    primary: &'a [u8],
+    overflow: &'a [OverflowBytes],
+    index: &'a [IndexBytes],
+}
+
+impl<'a> Map<'a> {
+    /// Checks a whole file: refusals 1 to 8, in this order.
+    pub fn open(file: &'a [u8]) -> Result<Map<'a>, Refusal> {
+        let summary = read_header(file)?;
+        if file.len() as u64 != summary.len {
+            return Err(Refusal::of_file(5, 0));
+        }
+        let map = Map::split(file, summary);
+        map.check_overflow()?;
+        map.check_sentinels()?;
+        map.check_index()?;
+        Ok(map)
+    }
+
+    /// Cuts a file of the right length into its parts.
+    fn split(file: &'a [u8], summary: Summary) -> Map<'a> {
+        let (primary, rest) = file[HEADER_LEN..].split_at(summary.n as usize);
+        let (overflow, index) = rest.split_at(OVERFLOW_ENTRY_LEN * summary.k as usize);
+        Map {
+            summary,
+            primary,
+            overflow: overflow.as_chunks().0,
+            index: index.as_chunks::<INDEX_ENTRY_LEN>().0,
+        }
+    }
+
+    /// Refusal 6: each overflow entry has a slot below n and above the one before, a distance of
+    /// at least 255, and the sentinel in the primary array.
+    fn check_overflow(&self) -> Result<(), Refusal> {
+        let mut least_slot = 0;
+        for (place, entry) in (0u64..).zip(self.overflow) {
+            let slot = overflow_slot(entry);
+            let sound = (least_slot..self.summary.n).contains(&slot)
+                && overflow_distance(entry) >= u32::from(SENTINEL)
+                && self.primary[slot as usize] == SENTINEL;
+            if !sound {
+                return Err(Refusal::of_file(6, place));
+            }
+            least_slot = slot + 1;
+        }
+        Ok(())
+    }
+
+    /// Refusal 7: each sentinel has an overflow entry. The entries have passed refusal 6.
+    fn check_sentinels(&self) -> Result<(), Refusal> {
+        let mut entries = self.overflow.iter().peekable();
+        for (slot, &byte) in (0u64..).zip(self.primary) {
+            let missing = byte == SENTINEL
+                && entries
+                    .next_if(|entry| overflow_slot(entry) == slot)
+                    .is_none();
+            if missing {
+                return Err(Refusal::of_file(7, slot));
+            }
+        }
+        Ok(())
+    }
+
+    /// Refusal 8: index entry i is the slot of overflow entry i × step, then i × step.
+    fn check_index(&self) -> Result<(), Refusal> {
+        // Without an index there is nothing to compare, whatever the step of the walk.
+        let step = self.summary.step.max(1) as usize;
+        let indexed = (0u64..).zip(self.overflow).step_by(step);
+        for (place, (entry, (position, indexed))) in (0u64..).zip(self.index.iter().zip(indexed)) {
+            if index_slot(entry) != overflow_slot(indexed) || index_position(entry) != position {
+                return Err(Refusal::of_file(8, place));
+            }
+        }
+        Ok(())
+    }
+
+    /// The header's counts and the file's length.
+    pub fn summary(&self) -> Summary {
+        self.summary
+    }
+
+    /// The primary array.
+    pub fn primary(&self) -> &'a [u8] {
+        self.primary
+    }
+
+    /// All distances in order of their slots: a merge of the primary array and the overflow
+    /// entries.
+    pub fn distances(&self) -> impl Iterator<Item = u32> + 'a {
+        let mut entries = self.overflow.iter();
+        self.primary.iter().map(move |&byte| match byte {
+            SENTINEL => overflow_distance(entries.next().expect("an entry for each sentinel")),
+            inline => u32::from(inline),
+        })
+    }
+
+    /// The sum of all distances.
+    pub fn sum(&self) -> u64 {
+        self.distances().map(u64::from).sum()
+    }
+
+    /// The number of readings, the distances that are not 0.
+    pub fn readings(&self) -> u64 {
+        self.distances().filter(|&distance| distance != 0).count() as u64
+    }
+
+    /// The distance at a slot below n.
+    fn distance(&self, slot: u64) -> u32 {
+        match self.primary[slot as usize] {
+            SENTINEL => self.overflow_distance(slot),
+            inline => u32::from(inline),
+        }
+    }
+
+    /// The distance at a slot in overflow.
+    fn overflow_distance(&self, slot: u64) -> u32 {
+        let block = self.overflow_block(slot);
+        let at = block
+            .binary_search_by_key(&slot, overflow_slot)
+            .expect("an entry for each sentinel");
+        overflow_distance(&block[at])
+    }
+
+    /// The overflow entries among which that of `slot` is: from the last index entry at or before
+    /// the slot to the next one, or all without an index.
+    fn overflow_block(&self, slot: u64) -> &'a [OverflowBytes] {
+        let reached = self
+            .index
+            .partition_point(|entry| index_slot(entry) <= slot);
+        let start = match reached {
+            0 => 0,
+            _ => index_position(&self.index[reached - 1]) as usize,
+        };
+        let end = match self.index.get(reached) {
+            Some(next) => index_position(next) as usize,
+            None => self.overflow.len(),
+        };
+        &self.overflow[start..end]
+    }
+}
+
+/// Reads the header: refusals 1 to 4, and the length that the file must have.
+fn read_header(file: &[u8]) -> Result<Summary, Refusal> {
+    let header = file.get(..HEADER_LEN).ok_or(Refusal::of_file(1, 0))?;
+    let field = |at: usize| le64(&header[at..at + 8]);
+    let (n, k, m, step) = (field(8), field(16), field(24), field(32));
+    if header[..8] != MAGIC {
+        return Err(Refusal::of_file(2, 0));
+    }
+    if n > MAX_SLOTS {
+        return Err(Refusal::of_file(3, 0));
+    }
+    if k > n || step != index_step(k) || m != index_len(k) {
+        return Err(Refusal::of_file(4, 0));
+    }
+    Ok(Summary {
+        n,
+        k,
+        m,
+        step,
+        len: file_len(n, k),
+    })
+}
+
+/// The summary of a file.
+pub fn check(file: &[u8]) -> Result<Summary, Refusal> {
+    Map::open(file).map(|map| map.summary)
+}
+
+/// The primary array of a file, empty where check refuses the file.
+pub fn primary(file: &[u8]) -> &[u8] {
+    Map::open(file).map_or(&[], |map| map.primary)
+}
+
+/// The list of distances that a file stores.
+pub fn decode(file: &[u8]) -> Result<Vec<u32>, Refusal> {
+    Map::open(file).map(|map| map.distances().collect())
+}
+
+/// The distance at one slot. Refusals 1 to 8, then 9.
+pub fn lookup(file: &[u8], slot: u64) -> Result<u32, Refusal> {
+    let map = Map::open(file)?;
+    if slot >= map.summary.n {
+        return Err(Refusal::of_call(9, 0));
+    }
+    Ok(map.distance(slot))
+}
+
+/// The distances at the slots of a list, to the front of `distances`. Refusals 1 to 8, then 9
+/// with the least position in the list, then 12. Answers how many there are.
+pub fn lookup_list(file: &[u8], slots: &[u64], distances: &mut [u32]) -> Result<u64, Refusal> {
+    let map = Map::open(file)?;
+    if let Some(position) = slots.iter().position(|&slot| slot >= map.summary.n) {
+        return Err(Refusal::of_call(9, position as u64));
+    }
+    require_capacity(slots.len(), distances.len())?;
+    for (distance, &slot) in distances.iter_mut().zip(slots) {
+        *distance = map.distance(slot);
+    }
+    Ok(slots.len() as u64)
+}
+
+/// All distances, to the front of `distances`. Refusals 1 to 8, then 12. Answers how many there
+/// are.
+pub fn scan(file: &[u8], distances: &mut [u32]) -> Result<u64, Refusal> {
+    let map = Map::open(file)?;
+    require_capacity(map.primary.len(), distances.len())?;
+    for (out, distance) in distances.iter_mut().zip(map.distances()) {
+        *out = distance;
+    }
+    Ok(map.summary.n)
+}
+
+/// The sum of all distances. Refusals 1 to 8.
+pub fn sum(file: &[u8]) -> Result<u64, Refusal> {
+    Map::open(file).map(|map| map.sum())
+}
+
+/// The number of readings. Refusals 1 to 8.
+pub fn readings(file: &[u8]) -> Result<u64, Refusal> {
+    Map::open(file).map(|map| map.readings())
+}
