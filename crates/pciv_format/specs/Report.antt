@@ -2,7 +2,7 @@
 --   decimal x       the digits of x
 --   reportText b    what is printed for the input b
 --   reportOutcome, reportBuffer    that text into a caller's buffer
--- Axioms: none.
+-- Laws are in the proofs/ReportLaws.antt of pciv_report. Axioms: none.
 use Prim.Native.Nat.{ℕ, zero, suc, _+_, _/_, _%_}
 use mathlib.Core.Bool.{cond}
 use mathlib.Core.List.{List, [], _∷_, _++_}

@@ -1,6 +1,9 @@
 -- Laws of the report's text (pciv_format's specs/Report.antt).
 --   decimal-small/-large   the digits of a number below 10, and of a larger one
---   length-..-le           how long each piece of text is at most
+--   length-decimal-le      no number has more than 20 digits
+--   refusedLine-parts      the line of a refusal as three pieces
+--   reportText-long/-refused/-done   the text, by cases
+--   reportOutcome-le       what was written fits the buffer
 use mathlib.Core.Path.{_≡_, sym, ap, _∙_}
 use Prim.Native.Nat.{ℕ, zero, suc, _+_, _/_, _%_, _^_, _≤_, _<_}
 use native.Mathlib.Nat.{pow-suc}
@@ -10,9 +13,16 @@ use mathlib.Core.Bool.{cond}
 use mathlib.Core.List.{List, [], _∷_, _++_, append-assoc}
 use lib.ListN.{length, length-append}
 use lib.Dec.{ltb}
-use borrow.Author.Tests.{lt-ltb, le-ltb}
-use Rattle.pciv_format.specs.Report.{digits, decimal, field, line, refusedWord, mapWord, placeWord, refusedLine}
+use borrow.Author.Tests.{lt-ltb, le-ltb, ltb-false}
+use Rattle.pciv_format.specs.Refusals.{done, refused, numberAnswer}
+use Rattle.pciv_format.specs.Check.{checkFile}
+use Rattle.pciv_format.specs.Read.{sumOutcome, readingsOutcome}
+use Rattle.pciv_format.specs.Report.{digits, decimal, field, line, refusedWord, mapWord, placeWord}
+use Rattle.pciv_format.specs.Report.{mapLines, refusedLine, reportText, reportOutcome}
+use Rattle.pciv_format.specs.declared.Summary.{Summary}
 use Rattle.pciv_format.specs.declared.Refusal.{Refusal}
+use Rattle.pciv_format.proofs.RefusalsLaws.{refuseIf-done}
+use Rattle.pciv_report.specs.Text.{numberOf}
 
 -- ---- decimal
 
@@ -77,3 +87,31 @@ refusedLine-parts r =
     let second = field (32 ∷ mapWord) (r .map) in
     let third = field (32 ∷ placeWord) (r .place) in
     line-append first (second ++ third) ∙ ap (λ (l : List ℕ). first ++ l) (line-append second third)
+
+-- ---- the text, by cases
+
+module _ (b : List ℕ) where
+  pub reportText-long : 65536 < length b → reportText b ≡ refusedLine (record { number = 12; map = 0; place = 0 })
+  unfolding reportText
+  reportText-long long = rw (lt-ltb 65536 (length b) long)
+
+  pub reportText-refused : (r : Refusal) → length b ≤ 65536 → checkFile 1 b ≡ refused r → reportText b ≡ refusedLine r
+  unfolding reportText
+  reportText-refused r short bad = rw (le-ltb 65536 (length b) short, bad)
+
+  -- a file that is accepted has its totals
+  pub reportText-done : (s : Summary) → length b ≤ 65536 → checkFile 1 b ≡ done s
+      → reportText b ≡ mapLines s (numberOf (numberAnswer (sumOutcome b))) (numberOf (numberAnswer (readingsOutcome b)))
+  unfolding reportText sumOutcome readingsOutcome
+  reportText-done s short good = rw (le-ltb 65536 (length b) short, good)
+
+-- ---- the buffer
+
+-- what was written fits the buffer
+pub reportOutcome-le : (b : List ℕ) (room x : ℕ) → reportOutcome b room ≡ done x → x ≤ room
+unfolding reportOutcome
+reportOutcome-le b room x e =
+    let c = length (reportText b) in
+    let fits = refuseIf-done (ltb room c) _ (done c) x e in
+    let same : c ≡ x = cc (fits .1) in
+    omega (arith, ltb-false room c (fits .0))
