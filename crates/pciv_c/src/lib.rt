@@ -5,6 +5,7 @@ ghost use mathlib.Core.Path.{_≡_};
 ghost use lib.ListN.{length};
 ghost use Rattle.pciv_format.specs.Check.{checkFile};
 ghost use Rattle.pciv_format.specs.Read.{lookupOutcome, lookupListOutcome, lookupListBuffer, scanOutcome, scanBuffer, sumOutcome, readingsOutcome};
+ghost use Rattle.pciv_format.specs.Report.{reportOutcome, reportBuffer};
 ghost use Rattle.pciv_c.specs.Cells.{ToldNumber, ToldFile, spanCells, spanLength, fileOutcome, numberOutcome, distanceOutcome};
 use pciv_check::check;
 use pciv_format::DistanceAnswer;
@@ -16,6 +17,7 @@ use pciv_read::lookup_list;
 use pciv_read::readings;
 use pciv_read::scan;
 use pciv_read::sum;
+use pciv_report::report;
 
 // ---- answers, told to C
 
@@ -153,4 +155,19 @@ pub extern "C" fn pciv_readings(file: &[u8], count: &mut usize, refusal: &mut [u
     ensures told { λ r. ⌜ ToldNumber (readingsOutcome (now (file .entry))) r (now (count .entry)) (now (count .exit)) (now (refusal .exit)) ⌝ }
 {
     tell_number(readings(file), count, refusal)
+}
+
+// ---- the report
+
+#[no_mangle]
+pub extern "C" fn pciv_report(
+    input: &[u8],
+    text: &mut [u8],
+    count: &mut usize,
+    refusal: &mut [usize; 3],
+) -> usize
+    ensures told { λ r. ⌜ ToldNumber (reportOutcome (now (input .entry)) (length (now (text .entry)))) r (now (count .entry)) (now (count .exit)) (now (refusal .exit)) ⌝ }
+    ensures buffer { λ _. ⌜ now (text .exit) ≡ reportBuffer (now (input .entry)) (now (text .entry)) ⌝ }
+{
+    tell_number(report(input, text), count, refusal)
 }
