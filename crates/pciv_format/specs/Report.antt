@@ -2,7 +2,7 @@
 --   decimal x       the digits of x
 --   reportText b    what is printed for the input b
 --   reportOutcome, reportBuffer    that text into a caller's buffer
--- Axioms: none.
+-- Laws are in the proofs/ReportLaws.antt of pciv_report. Axioms: none.
 use Prim.Native.Nat.{ℕ, zero, suc, _+_, _/_, _%_}
 use mathlib.Core.Bool.{cond}
 use mathlib.Core.List.{List, [], _∷_, _++_}
@@ -59,21 +59,22 @@ mapWord = 109 ∷ 97 ∷ 112 ∷ []
 abbrev pub placeWord : List ℕ
 placeWord = 112 ∷ 108 ∷ 97 ∷ 99 ∷ 101 ∷ []
 
--- the report of a map with counts s and list xs: six lines
-unfoldable pub mapLines : Summary → List ℕ → List ℕ
-mapLines s xs =
+-- the report of a map with the counts s: six lines
+unfoldable pub mapLines : Summary → ℕ → ℕ → List ℕ
+mapLines s sum count =
     line (field slotsWord (s .n))
     ++ (line (field farWord (s .k))
     ++ (line (field stepWord (s .step))
-    ++ (line (field indexWord (s .m)) ++ (line (field sumWord (total xs)) ++ line (field readingsWord (readings xs))))))
+    ++ (line (field indexWord (s .m)) ++ (line (field sumWord sum) ++ line (field readingsWord count)))))
 
 -- `refused 6 map 1 place 3`
 unfoldable pub refusedLine : Refusal → List ℕ
 refusedLine r =
     line (field refusedWord (r .number) ++ (32 ∷ (field mapWord (r .map) ++ (32 ∷ field placeWord (r .place)))))
 
+-- what is printed after the check of a file whose list is xs
 abbrev pub textOf : Outcome Summary → List ℕ → List ℕ
-textOf (done s) xs = mapLines s xs
+textOf (done s) xs = mapLines s (total xs) (readings xs)
 textOf (refused r) xs = refusedLine r
 
 -- input of more than 65,536 bytes is refused before any other test

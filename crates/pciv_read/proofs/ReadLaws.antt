@@ -114,7 +114,7 @@ module _ (b : List ℕ) (s : Summary) (e : checkFile 1 b ≡ done s) where
       list-buffer out h =
           let f : ℕ → ℕ = valueOf (fileParts b (s .n) (s .k)) in
           let same : map (at (listOf b)) slots ≡ map f slots =
-            map-cong (at (listOf b)) f slots (λ i hi. at-slot (getD slots i 0) (list-inside i hi)) in
+          map-cong (at (listOf b)) f slots (λ i hi. at-slot (getD slots i 0) (list-inside i hi)) in
           rw (list-done (length out) h, same) (sets-front (map f slots) out (rw length-map h))
 
   -- all slots

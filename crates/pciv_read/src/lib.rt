@@ -13,7 +13,6 @@ ghost use Rattle.pciv_format.specs.Refusals.{refuse, numberAnswer, distanceAnsw
 ghost use Rattle.pciv_format.specs.Parts.{valueOf};
 ghost use Rattle.pciv_format.specs.Check.{fileParts, CheckedMap};
 ghost use Rattle.pciv_format.specs.Read.{primaryPart, lookupOutcome, lookupListOutcome, lookupListBuffer, scanOutcome, scanBuffer, sumOutcome, readingsOutcome};
-
 use pciv_check::check;
 use pciv_format::BUFFER_TOO_SMALL;
 use pciv_format::DistanceAnswer;
@@ -31,7 +30,11 @@ use pciv_map::totals::sum_of;
 fn refused(number: usize, place: usize) -> NumberAnswer
     ensures { λ r. ⌜ r ≡ numberAnswer (refuse number 0 place) ⌝ }
 {
-    NumberAnswer::Refused(Refusal { number, map: 0, place })
+    NumberAnswer::Refused(Refusal {
+        number,
+        map: 0,
+        place,
+    })
 }
 
 // The map's own primary bytes, a part of the caller's file; a part of length 0 where the check refuses the file.

@@ -55,12 +55,13 @@ loop-again c =
     let l = d .loop in
     let f : ℕ → ℕ = valueOf (fileParts (a .file .now) (a .n) (a .k)) in
     let xs = a .slots .now in
-    let next : ℕ → List ℕ = λ x. sets (set (l .out) (l .i) x) (l .i + 1) (drop (l .i + 1) (map f xs)) in
-    (omega arith,
-    simp length-set (l .inv .1),
-    l .inv .2
-    ∙ sets-copy-more (map f xs) (l .out) (f 0) (l .i) (l .i) (l .i + 1) (rw length-map (omega arith)) refl
-    ∙ ap next (List·getD-map f xs (l .i) 0 ∙ sym (c .distance-at .ensures)))
+    let next : ℕ → List ℕ = λ x. sets (set (l .out) (l .i) x) (l .i + 1) (drop (l .i + 1) (map f xs)) in (
+      omega arith,
+      simp length-set (l .inv .1),
+      l .inv .2
+          ∙ sets-copy-more (map f xs) (l .out) (f 0) (l .i) (l .i) (l .i + 1) (rw length-map (omega arith)) refl
+          ∙ ap next (List·getD-map f xs (l .i) 0 ∙ sym (c .distance-at .ensures)),
+    )
 
 same-length : tie.Need-same-length Inv-loop μ-loop
 same-length c = search needs

@@ -87,9 +87,10 @@ returns-4 c =
     let t = x .before .before .before in
     let k = t .before .before .before in
     let a = k .before .before .before .before .before .before .args in
-    let fits = x .before .before .if2 .left in
-    (ap numberAnswer (sym (list-done (a .file .now) _ (is-map k) (a .slots .now) (all-inside t) (length (a .out .now)) fits)),
-    x .distances-into .ensures ∙ list-buffer (a .file .now) _ (is-map k) (a .slots .now) (all-inside t) (a .out .now) fits)
+    let fits = x .before .before .if2 .left in (
+      ap numberAnswer (sym (list-done (a .file .now) _ (is-map k) (a .slots .now) (all-inside t) (length (a .out .now)) fits)),
+      x .distances-into .ensures ∙ list-buffer (a .file .now) _ (is-map k) (a .slots .now) (all-inside t) (a .out .now) fits,
+    )
 
 pub lookup-list-spec : {M : Type 1} → statement M
 lookup-list-spec =

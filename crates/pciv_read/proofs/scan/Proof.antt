@@ -60,9 +60,10 @@ returns-3 c =
     let x = c .before .before in
     let k = x .before .before .before .before in
     let a = k .before .before .before .before .before .args in
-    let fits = x .before .before .if1 .left in
-    (ap numberAnswer (sym (scan-done (a .file .now) _ (is-map k) (length (a .out .now)) fits)),
-    x .scan-into .ensures ∙ scan-buffer (a .file .now) _ (is-map k) (a .out .now) fits)
+    let fits = x .before .before .if1 .left in (
+      ap numberAnswer (sym (scan-done (a .file .now) _ (is-map k) (length (a .out .now)) fits)),
+      x .scan-into .ensures ∙ scan-buffer (a .file .now) _ (is-map k) (a .out .now) fits,
+    )
 
 pub scan-spec : {M : Type 1} → statement M
 scan-spec =

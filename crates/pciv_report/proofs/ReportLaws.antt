@@ -1,0 +1,117 @@
+-- Laws of the report's text (pciv_format's specs/Report.antt).
+--   decimal-small/-large   the digits of a number below 10, and of a larger one
+--   length-decimal-le      no number has more than 20 digits
+--   refusedLine-parts      the line of a refusal as three pieces
+--   reportText-long/-refused/-done   the text, by cases
+--   reportOutcome-le       what was written fits the buffer
+use mathlib.Core.Path.{_≡_, sym, ap, _∙_}
+use Prim.Native.Nat.{ℕ, zero, suc, _+_, _/_, _%_, _^_, _≤_, _<_}
+use native.Mathlib.Nat.{pow-suc}
+use native.Mathlib.Decide.{decLt}
+use native.Mathlib.Omega.{arith}
+use mathlib.Core.Bool.{cond}
+use mathlib.Core.List.{List, [], _∷_, _++_, append-assoc}
+use lib.ListN.{length, length-append}
+use lib.Dec.{ltb}
+use borrow.Author.Tests.{lt-ltb, le-ltb, ltb-false}
+use Rattle.pciv_format.specs.Refusals.{done, refused, numberAnswer}
+use Rattle.pciv_format.specs.Check.{checkFile}
+use Rattle.pciv_format.specs.Read.{sumOutcome, readingsOutcome}
+use Rattle.pciv_format.specs.Report.{digits, decimal, field, line, refusedWord, mapWord, placeWord}
+use Rattle.pciv_format.specs.Report.{mapLines, refusedLine, reportText, reportOutcome}
+use Rattle.pciv_format.specs.declared.Summary.{Summary}
+use Rattle.pciv_format.specs.declared.Refusal.{Refusal}
+use Rattle.pciv_format.proofs.RefusalsLaws.{refuseIf-done}
+use Rattle.pciv_report.specs.Text.{numberOf}
+
+-- ---- decimal
+
+digits-small : (f x : ℕ) → x < 10 → digits (suc f) x ≡ (48 + x % 10) ∷ []
+unfolding digits
+digits-small f x small = rw (lt-ltb x 10 small)
+
+digits-large : (f x : ℕ) → 10 ≤ x → digits (suc f) x ≡ digits f (x / 10) ++ ((48 + x % 10) ∷ [])
+unfolding digits
+digits-large f x large = rw (le-ltb x 10 large)
+
+-- a number below 10 ^ (f + 1) has no digits past f + 1
+digits-more : (f x : ℕ) → x < 10 ^ suc f → digits (suc (suc f)) x ≡ digits (suc f) x
+unfolding digits
+digits-more zero x fits = digits-small 1 x (omega arith) ∙ sym (digits-small 0 x (omega arith))
+digits-more (suc f) x fits =
+    ap (λ (l : List ℕ). cond (ltb x 10) [] l ++ ((48 + x % 10) ∷ []))
+    (digits-more f (x / 10) (omega (arith, pow-suc 10 (suc f))))
+
+length-digits-le : (f x : ℕ) → length (digits f x) ≤ f
+unfolding digits
+length-digits-le zero x = omega arith
+length-digits-le (suc f) x =
+    elim (decLt x 10) [
+      | yes small ↦ rw (digits-small f x small) (omega arith)
+      | no large ↦ (
+          let h : 10 ≤ x = omega arith in
+          rw (digits-large f x h, length-append) (omega (arith, length-digits-le f (x / 10)))
+          )
+    ]
+
+pub decimal-small : (x : ℕ) → x < 10 → decimal x ≡ (48 + x % 10) ∷ []
+unfolding decimal
+decimal-small x small = digits-small 19 x small
+
+pub decimal-large : (x : ℕ) → 10 ≤ x → x < 2 ^ 64 → decimal x ≡ decimal (x / 10) ++ ((48 + x % 10) ∷ [])
+unfolding decimal
+decimal-large x large fits =
+    digits-large 19 x large
+    ∙ ap (λ (l : List ℕ). l ++ ((48 + x % 10) ∷ [])) (sym (digits-more 18 (x / 10) (omega arith)))
+
+pub length-decimal-large : (x : ℕ) → 10 ≤ x → x < 2 ^ 64 → length (decimal x) ≡ length (decimal (x / 10)) + 1
+length-decimal-large x large fits = simp length-append at (ap length (decimal-large x large fits))
+
+pub length-decimal-le : (x : ℕ) → length (decimal x) ≤ 20
+unfolding decimal
+length-decimal-le x = length-digits-le 20 x
+
+-- ---- the line of a refusal
+
+line-append : (a b : List ℕ) → line (a ++ b) ≡ a ++ line b
+unfolding line
+line-append a b = append-assoc a b (10 ∷ [])
+
+-- each space before a word as the word's first letter
+pub refusedLine-parts : (r : Refusal)
+    → refusedLine r
+    ≡ field refusedWord (r .number) ++ (field (32 ∷ mapWord) (r .map) ++ line (field (32 ∷ placeWord) (r .place)))
+unfolding refusedLine field
+refusedLine-parts r =
+    let first = field refusedWord (r .number) in
+    let second = field (32 ∷ mapWord) (r .map) in
+    let third = field (32 ∷ placeWord) (r .place) in
+    line-append first (second ++ third) ∙ ap (λ (l : List ℕ). first ++ l) (line-append second third)
+
+-- ---- the text, by cases
+
+module _ (b : List ℕ) where
+  pub reportText-long : 65536 < length b → reportText b ≡ refusedLine (record { number = 12; map = 0; place = 0 })
+  unfolding reportText
+  reportText-long long = rw (lt-ltb 65536 (length b) long)
+
+  pub reportText-refused : (r : Refusal) → length b ≤ 65536 → checkFile 1 b ≡ refused r → reportText b ≡ refusedLine r
+  unfolding reportText
+  reportText-refused r short bad = rw (le-ltb 65536 (length b) short, bad)
+
+  -- a file that is accepted has its totals
+  pub reportText-done : (s : Summary) → length b ≤ 65536 → checkFile 1 b ≡ done s
+      → reportText b ≡ mapLines s (numberOf (numberAnswer (sumOutcome b))) (numberOf (numberAnswer (readingsOutcome b)))
+  unfolding reportText sumOutcome readingsOutcome
+  reportText-done s short good = rw (le-ltb 65536 (length b) short, good)
+
+-- ---- the buffer
+
+-- what was written fits the buffer
+pub reportOutcome-le : (b : List ℕ) (room x : ℕ) → reportOutcome b room ≡ done x → x ≤ room
+unfolding reportOutcome
+reportOutcome-le b room x e =
+    let c = length (reportText b) in
+    let fits = refuseIf-done (ltb room c) _ (done c) x e in
+    let same : c ≡ x = cc (fits .1) in
+    omega (arith, ltb-false room c (fits .0))
