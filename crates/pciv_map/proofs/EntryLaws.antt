@@ -20,7 +20,8 @@ use Rattle.pciv_bytes.specs.Ranges.{flag, sumFrom}
 use Rattle.pciv_bytes.specs.Counts.{byteAt, byteIs}
 use Rattle.pciv_bytes.proofs.SumLaws.{sumFrom-none, sumFrom-more, sumFrom-split, sumFrom-cong, sumFrom-rest}
 use Rattle.pciv_format.specs.Parts.{Parts, lowestSlot, valueOf, SoundParts}
-use Rattle.pciv_format.proofs.PartsLaws.{entry-good, slots-rise, valueOf-slot, valueOf-inline, slot-cases, neb-not}
+use Rattle.pciv_format.proofs.PartsLaws.{entry-good, valueOf-slot, valueOf-inline, slot-cases, neb-not}
+use Rattle.pciv_map.proofs.LookupLaws.{slots-sorted}
 
 abbrev pub excess : Parts → ℕ → ℕ
 excess P j = P .distance j - 255
@@ -29,16 +30,9 @@ abbrev pub reading : ℕ → ℕ
 reading x = flag (not (eqb x 0))
 
 module _ (P : Parts) (s : SoundParts P) (bytes : (i : ℕ) → P .byte i < 256) where
-  slots-le : (j t : ℕ) → j ≤ t → t < P .k → P .slot j ≤ P .slot t
-  slots-le j t h inside =
-      elim (decLe t j) [
-        | yes d ↦ (let e : j ≡ t = omega arith in omega (arith, ap (P .slot) e))
-        | no d ↦ omega (arith, slots-rise P s j t (omega arith) inside)
-      ]
-
   slot-below : (j t : ℕ) → t < j → j ≤ P .k → P .slot t < lowestSlot P j
   slot-below zero t h inside = absurd (omega arith)
-  slot-below (suc j) t h inside = omega (arith, slots-le t j (omega arith) (omega arith))
+  slot-below (suc j) t h inside = omega (arith, slots-sorted P s t j (omega arith) (omega arith))
 
   -- ---- between two entries
 
@@ -48,7 +42,7 @@ module _ (P : Parts) (s : SoundParts P) (bytes : (i : ℕ) → P .byte i < 256) 
       slot-cases P s bytes i inside (λ small e. small)
       (λ t ht at e w far.
       elim (decLe j t) [
-        | yes d ↦ absurd (omega (arith, high (omega arith), slots-le j t d ht))
+        | yes d ↦ absurd (omega (arith, high (omega arith), slots-sorted P s j t d ht))
         | no d ↦ absurd (omega (arith, slot-below j t (omega arith) few))
       ])
 

@@ -1,3 +1,4 @@
+pub mod SearchLaws
 pub mod LookupLaws
 pub mod EntryLaws
 pub mod PatchLaws

@@ -1,11 +1,11 @@
 -- What a lookup counts and searches (docs/FORMAT.md, "Reading").
 --   lowerBound f s c          the least j below c with f j at least s, or c
---   entriesBelow P slot       how many overflow entries have a smaller slot: where the entry of the slot stands
+--   entriesBelow P slot       how many overflow entries have a smaller slot: where the slot's entry stands
 --   blockStart, blockEnd      the overflow entries to search after i index entries with a smaller slot
 --   keyAt b base stride j     the 8-byte number at the front of record j of a table
 --   Sorted f c, KeyTable      c numbers that do not fall; a table that is sorted by its keys
--- Laws are in proofs/LookupLaws.antt. Axioms: none.
-use Prim.Native.Nat.{ℕ, _+_, _-_, _*_, _≤_, _<_}
+-- Laws are in proofs/SearchLaws.antt and proofs/LookupLaws.antt. Axioms: none.
+use Prim.Native.Nat.{ℕ, _+_, _-_, _*_, _^_, _≤_, _<_}
 use mathlib.Core.Bool.{cond}
 use mathlib.Core.List.{List}
 use lib.ListN.{length}
@@ -42,3 +42,4 @@ pub record KeyTable (b : List ℕ) (base stride count : ℕ) : Type 0 where
   pub apart : 8 ≤ stride
   pub inside : base + stride * count ≤ length b
   pub sorted : Sorted (keyAt b base stride) count
+  pub small : (j : ℕ) → j < count → keyAt b base stride j < 2 ^ 63

@@ -2,30 +2,42 @@
 // What is counted is defined in specs/Lookup.antt, and a slot's distance in pciv_format, specs/Parts.antt.
 ghost use mathlib.Core.Path.{_≡_};
 ghost use Prim.Native.Nat.{_^_, _<_};
+ghost use lib.Dec.{ltb};
+ghost use Rattle.pciv_bytes.specs.Ranges.{flag};
 ghost use Rattle.pciv_format.specs.Parts.{valueOf};
 ghost use Rattle.pciv_format.specs.Check.{fileParts, CheckedMap};
 ghost use Rattle.pciv_map.specs.Lookup.{lowerBound, entriesBelow, blockStart, blockEnd, keyAt, KeyTable};
-use pciv_bytes::little_endian::get32;
+use crate::entries::entry_distance;
 use pciv_bytes::little_endian::get64;
 use pciv_format::HEADER_LEN;
 use pciv_format::SENTINEL;
+
+// Keys are below half of the numbers that fit.
+const HALF_RANGE: usize = 0x8000_0000_0000_0000;
+
+// 1 where x is below y, else 0. Computed without a branch, which a search would guess wrong every other time.
+fn is_below(x: usize, y: usize) -> usize
+    requires { ⌜ (x < 2 ^ 63) × (y < 2 ^ 63) ⌝ }
+    ensures { λ r. ⌜ r ≡ flag (ltb x y) ⌝ }
+{
+    (y + (HALF_RANGE - 1) - x) / HALF_RANGE
+}
 
 // The number of keys below `key` in a sorted table of count records, which starts at `base` and has a
 // record every `stride` bytes.
 fn lower_bound(file: &[u8], base: usize, stride: usize, count: usize, key: usize) -> usize
     requires { ⌜ KeyTable (now file) base stride count ⌝ }
+    requires { ⌜ key < 2 ^ 63 ⌝ }
     ensures { λ r. ⌜ r ≡ lowerBound (keyAt (now (file .entry)) base stride) key count ⌝ }
 {
     let mut lo: usize = 0;
-    let mut hi = count;
-    while lo < hi {
-        let mid = lo + (hi - lo) / 2;
-        let found = get64(file, base + stride * mid);
-        if found < key {
-            lo = mid + 1;
-        } else {
-            hi = mid;
-        }
+    let mut len = count;
+    while 0 < len {
+        let half = len / 2;
+        let rest = len - half;
+        let found = get64(file, base + stride * (lo + rest - 1));
+        lo += rest * is_below(found, key);
+        len = half;
     }
     lo
 }
@@ -53,11 +65,15 @@ fn block_end(i: usize, m: usize, step: usize, k: usize) -> usize
 }
 
 // The number of overflow entries with a smaller slot: where the entry of the slot stands, if it has one.
-// The index names a block of the entries; without an index the block is all of them.
+// The m and the step of the sparse index stand in the header. The index names a block of the entries; where
+// there is no index, m is 0 and the block is all of them.
 pub fn entry_of(file: &[u8], n: usize, k: usize, slot: usize) -> usize
     requires { ⌜ CheckedMap (now file) n k ⌝ }
     ensures { λ r. ⌜ r ≡ entriesBelow (fileParts (now (file .entry)) n k) slot ⌝ }
 {
+    if n <= slot {
+        return k;
+    }
     let m = get64(file, 24);
     let step = get64(file, 32);
     let entries = HEADER_LEN + n;
@@ -78,5 +94,5 @@ pub fn distance_at(file: &[u8], n: usize, k: usize, slot: usize) -> u32
         return byte as u32;
     }
     let j = entry_of(file, n, k, slot);
-    get32(file, HEADER_LEN + n + 12 * j + 8)
+    entry_distance(file, n, j)
 }

@@ -3,11 +3,12 @@ use mathlib.Core.Path.{_≡_, sym}
 use Prim.Native.Nat.{_*_}
 use native.Mathlib.Omega.{arith}
 use Rattle.pciv_map.specs.Lookup.{blockEnd}
-use Rattle.pciv_map.proofs.LookupLaws.{blockEnd-inner, blockEnd-last}
+use Rattle.pciv_map.proofs.SearchLaws.{blockEnd-inner, blockEnd-last}
 use Rattle.pciv_map.proofs.lookup.block_end.Statement.{statement}
 use Rattle.pciv_map.proofs.lookup.block_end.Tie as tie
 
-inner : (c : tie.Then1) → (let a = c .before .args in blockEnd (a .i) (a .m) (a .step) (a .k) ≡ a .i * a .step)
+inner : (c : tie.Then1) → (let a = c .before .args in
+    blockEnd (a .i) (a .m) (a .step) (a .k) ≡ a .i * a .step)
 inner c = blockEnd-inner _ _ _ _ (omega arith)
 
 mul-result : tie.Need-mul-result

@@ -1,68 +1,52 @@
 -- Proves pciv_map::lookup::distance_at: a byte below 255 is the distance, and else the slot's entry has it.
 use mathlib.Core.Path.{_≡_, sym, _∙_}
-use Prim.Native.Nat.{_+_, _*_, _≤_, _<_}
+use Prim.Native.Nat.{_+_, _<_}
 use native.Mathlib.Omega.{arith}
-use lib.ListN.{length}
 use borrow.Author.Needs.{needs}
 use Rattle.pciv_format.specs.Parts.{valueOf}
 use Rattle.pciv_format.specs.Check.{fileParts}
 use Rattle.pciv_format.proofs.PartsLaws.{valueOf-inline}
 use Rattle.pciv_map.specs.Lookup.{entriesBelow}
-use Rattle.pciv_map.proofs.LookupLaws.{checked-fits, valueOf-entry}
+use Rattle.pciv_map.proofs.LookupLaws.{valueOf-entry}
+use Rattle.pciv_map.proofs.MapLaws.{primary-inside, entry-inside}
 use Rattle.pciv_map.proofs.lookup.distance_at.Statement.{statement}
 use Rattle.pciv_map.proofs.lookup.distance_at.Tie as tie
-
-long : (c : tie.Start) → 40 + c .args .n + 12 * c .args .k ≤ length (c .args .file .now)
-long c = omega (arith, checked-fits _ _ _ (c .pre .0))
 
 -- the slot is in overflow
 entry : (c : tie.Else1) → (let a = c .before .before .before .args in
     let P = fileParts (a .file .now) (a .n) (a .k) in
     (entriesBelow P (a .slot) < a .k) × (valueOf P (a .slot) ≡ P .distance (entriesBelow P (a .slot))))
 entry c =
-    let at-entry = c .before .before .before in
-    let slot = at-entry .args .slot in
-    valueOf-entry _ (at-entry .pre .0 .parts) slot (at-entry .pre .1)
+    let start = c .before .before .before in
+    let slot = start .args .slot in
+    valueOf-entry _ (start .pre .0 .parts) slot (start .pre .1)
     (omega (arith, c .before .shared-slice-known2 .given (40 + slot)))
-
-inside : (c : tie.After-entry-of) → (let a = c .before .before .before .before .args in
-    40 + a .n + 12 * c .entry-of .result + 12 ≤ length (a .file .now))
-inside c = omega (arith, long (c .before .before .before .before), entry (c .before) .0, c .entry-of .ensures)
 
 add-byte : tie.Need-add-byte
 add-byte c = search needs
 
 shared-slice-read-byte : tie.Need-shared-slice-read-byte
-shared-slice-read-byte c = omega (arith, long (c .before .before))
+shared-slice-read-byte c = omega (arith, primary-inside _ _ _ (c .before .before .pre .0))
 
 cast-result : tie.Need-cast-result
 cast-result c = search needs
 
 returns : tie.Need-returns
 returns c =
-    let at-entry = c .before .before .before in
-    sym (valueOf-inline _ (at-entry .pre .0 .parts) (at-entry .args .slot) (omega arith))
+    let start = c .before .before .before in
+    sym (valueOf-inline _ (start .pre .0 .parts) (start .args .slot) (omega arith))
 
 entry-of-requires : tie.Need-entry-of-requires
 entry-of-requires c κs = search needs
 
-add-get32 : tie.Need-add-get32
-add-get32 c = search needs
-
-mul-get32 : tie.Need-mul-get32
-mul-get32 c = omega (arith, inside c)
-
-add-get32-2 : tie.Need-add-get32-2
-add-get32-2 c = omega (arith, inside c)
-
-add-get32-3 : tie.Need-add-get32-3
-add-get32-3 c = omega (arith, inside c)
-
-get32-requires : tie.Need-get32-requires
-get32-requires c κs = omega (arith, inside c)
+entry-distance-requires : tie.Need-entry-distance-requires
+entry-distance-requires c κs =
+    let start = c .before .before .before .before in
+    entry-inside _ _ _ (start .pre .0) _ (omega (arith, entry (c .before) .0, c .entry-of .ensures))
 
 returns-2 : tie.Need-returns-2
-returns-2 c = c .get32 .ensures ∙ rw (c .before .entry-of .ensures) (sym (entry (c .before .before) .1))
+returns-2 c =
+    c .entry-distance .ensures ∙ rw (c .before .entry-of .ensures) (sym (entry (c .before .before) .1))
 
 pub distance-at-spec : {M : Type 1} → statement M
 distance-at-spec =
@@ -73,9 +57,5 @@ distance-at-spec =
     cast-result
     returns
     entry-of-requires
-    add-get32
-    mul-get32
-    add-get32-2
-    add-get32-3
-    get32-requires
+    entry-distance-requires
     returns-2)

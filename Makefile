@@ -1,0 +1,18 @@
+# make report   proves and builds the report program, and runs it on the sample map
+# make test     the whole test: every proof, the must-fail edits, the programs, then the C and Rust side
+# make bench    the benchmark, as ratios in one run
+.PHONY: report test bench
+
+build:
+	mkdir -p build
+
+report: | build
+	@rt check report > build/rt-check.log 2>&1 || { cat build/rt-check.log; exit 1; }
+	@target/bin/report < examples/portrait-160x120.pciv
+
+test:
+	@sh tests/all.sh
+
+bench: | build
+	@rt staticlib pciv_c > build/rt-staticlib.log 2>&1 || { cat build/rt-staticlib.log; exit 1; }
+	@cargo run --quiet --release --offline -p bench

@@ -1,0 +1,27 @@
+-- Proves pciv_c::pciv_report.
+use mathlib.Core.Path.{_≡_}
+use lib.ListN.{length}
+use Rattle.pciv_format.specs.Report.{reportOutcome}
+use Rattle.pciv_c.proofs.CellsLaws.{number-outcome}
+use borrow.Author.Needs.{needs}
+use Rattle.pciv_c.proofs.pciv_report.Statement.{statement}
+use Rattle.pciv_c.proofs.pciv_report.Tie as tie
+
+report-requires : tie.Need-report-requires
+report-requires c κs = search needs
+
+tell-number-requires : tie.Need-tell-number-requires
+tell-number-requires c κs = search needs
+
+same-length : tie.Need-same-length
+same-length c = search needs
+
+returns : tie.Need-returns
+returns c =
+    let d = c .before .before .before .before .before in
+    let a = d .before .before .before .before .args in
+    let e = d .report .ensures in
+    (rw (number-outcome (d .report .result) (reportOutcome (a .input .now) (length (a .text .now))) (e .0)) at (c .tell-number .ensures), e .1)
+
+pub pciv-report-spec : {M : Type 1} → statement M
+pciv-report-spec = tie.close (tie.spec report-requires tell-number-requires same-length returns)
