@@ -8,7 +8,8 @@
 --   combineOutcome op, complementOutcome    masks of masks;  setBitsOutcome  the number of set bits
 --   bitsRow b           the eight bytes of the eight bits of b
 --   mapOfMaskOutcome, keepMaskedOutcome ("cut"), incrementMaskedOutcome ("tally")   files from masks
--- Each has a -Words or -Buffer beside it: what the caller's list or buffer holds afterwards. Axioms: none.
+-- Those that write have a -Words or -Buffer beside them: what the caller's list or buffer holds afterwards.
+-- Axioms: none.
 use Prim.Native.Nat.{ℕ, zero, suc, _+_, _-_, _*_, _/_, _%_, _^_, min}
 use mathlib.Core.Bool.{Bool, not, cond, _&&_, _||_, xor}
 use mathlib.Core.List.{List}
@@ -143,7 +144,7 @@ maskedBuffer f b ws out =
 
 -- cut: distance 0 where the mask is 0
 abbrev pub keptIf : Bool → ℕ → ℕ
-keptIf set x = cond set x 0
+keptIf isSet x = cond isSet x 0
 
 unfoldable pub keepMaskedOutcome : List ℕ → List ℕ → ℕ → Outcome Summary
 keepMaskedOutcome b ws capacity = maskedOutcome keptIf b ws capacity
@@ -153,7 +154,7 @@ keepMaskedBuffer b ws out = maskedBuffer keptIf b ws out
 
 -- tally: plus 1 where the mask is 1
 abbrev pub plusIf : Bool → ℕ → ℕ
-plusIf set x = x + flag set
+plusIf isSet x = x + flag isSet
 
 unfoldable pub incrementMaskedOutcome : List ℕ → List ℕ → ℕ → Outcome Summary
 incrementMaskedOutcome b ws capacity = maskedOutcome plusIf b ws capacity

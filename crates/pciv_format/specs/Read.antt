@@ -38,7 +38,7 @@ unfoldable pub lookupOutcome : List ℕ → ℕ → Outcome ℕ
 lookupOutcome b slot =
     andThen (checkFile 1 b) (λ s. refuseIf (leb (s .n) slot) (refuse 9 0 0) (done (at (listOf b) slot)))
 
--- c items into a list with a capacity of that many; the answer is how many were written
+-- c items into a list that holds `capacity` of them; the answer is how many were written
 abbrev pub itemsInto : ℕ → ℕ → Outcome ℕ
 itemsInto c capacity = refuseIf (ltb capacity c) (refuse 12 0 0) (done c)
 

@@ -1,6 +1,6 @@
 -- What the routines that write a file answer, and what the caller's buffer holds afterwards (docs/FORMAT.md, "Writing").
---   fileInto n v capacity       the file of (n, v) into a buffer of `capacity` bytes: its summary, or refusal 12
---   mapInto n v capacity        the same for a computed v, refused with 11 where a distance is too large
+--   fileInto n v capacity   the file of (n, v) into a buffer of `capacity` bytes: its summary, or refusal 12
+--   mapInto n v capacity    the same for a computed v, refused with 11 where a distance is too large
 --   fileBuffer o n v out    the buffer after the outcome o of writing that file
 --   writeOutcome, writeBuffer    the file of a list
 --   closeOutcome, closeBuffer    the file of a primary array and a list of overflow entries

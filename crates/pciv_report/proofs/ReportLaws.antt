@@ -4,7 +4,9 @@
 --   decimal-read           a number is read back from its digits
 --   refusedLine-parts      the line of a refusal as three pieces
 --   reportText-long/-refused/-done   the text, by cases
+--   reportText-le          no report is longer than 160 bytes
 --   reportOutcome-le       what was written fits the buffer
+--   report-written         so a buffer of 160 bytes is never too short
 use mathlib.Core.Path.{_≡_, refl, sym, ap, _∙_}
 use Prim.Native.Nat.{ℕ, zero, suc, _+_, _-_, _*_, _/_, _%_, _^_, _≤_, _<_}
 use native.Mathlib.Nat.{pow-suc}
@@ -15,15 +17,16 @@ use mathlib.Core.List.{List, [], _∷_, _++_, append-assoc}
 use lib.ListN.{length, length-append}
 use lib.Dec.{ltb}
 use borrow.Author.Tests.{lt-ltb, le-ltb, ltb-false}
-use Rattle.pciv_format.specs.Refusals.{done, refused, numberAnswer}
+use Rattle.pciv_format.specs.Refusals.{Outcome, done, refused, refuse, refuseIf, numberAnswer}
 use Rattle.pciv_format.specs.Check.{checkFile}
-use Rattle.pciv_format.specs.Read.{sumOutcome, readingsOutcome}
+use Rattle.pciv_format.specs.Read.{listOf, sumOutcome, readingsOutcome}
 use Rattle.pciv_format.specs.Report.{digits, decimal, field, line, refusedWord, mapWord, placeWord}
-use Rattle.pciv_format.specs.Report.{mapLines, refusedLine, reportText, reportOutcome}
+use Rattle.pciv_format.specs.Report.{slotsWord, farWord, stepWord, indexWord, sumWord, readingsWord}
+use Rattle.pciv_format.specs.Report.{mapLines, refusedLine, textOf, reportText, reportOutcome}
 use Rattle.pciv_format.specs.declared.Summary.{Summary}
 use Rattle.pciv_format.specs.declared.Refusal.{Refusal}
 use Rattle.pciv_format.proofs.RefusalsLaws.{refuseIf-done}
-use Rattle.pciv_report.specs.Text.{numberOf}
+use Rattle.pciv_report.specs.Text.{maxText, numberOf}
 
 -- ---- decimal
 
@@ -139,6 +142,49 @@ module _ (b : List ℕ) where
   unfolding reportText sumOutcome readingsOutcome
   reportText-done s short good = rw (le-ltb 65536 (length b) short, good)
 
+-- ---- its length
+
+field-le : (word : List ℕ) (x : ℕ) → length (field word x) ≤ length word + 21
+unfolding field
+field-le word x = simp length-append (omega (arith, length-decimal-le x))
+
+line-le : (word : List ℕ) (x : ℕ) → length (line (field word x)) ≤ length word + 22
+unfolding line
+line-le word x = simp length-append (omega (arith, field-le word x))
+
+map-le : (s : Summary) (sum count : ℕ) → length (mapLines s sum count) ≤ maxText
+unfolding mapLines
+map-le s sum count =
+    simp length-append
+    (omega (
+      arith,
+      line-le slotsWord (s .n),
+      line-le farWord (s .k),
+      line-le stepWord (s .step),
+      line-le indexWord (s .m),
+      line-le sumWord sum,
+      line-le readingsWord count,
+    ))
+
+refused-le : (r : Refusal) → length (refusedLine r) ≤ maxText
+refused-le r =
+    rw (refusedLine-parts r)
+    (simp length-append
+    (omega (
+      arith,
+      field-le refusedWord (r .number),
+      field-le (32 ∷ mapWord) (r .map),
+      line-le (32 ∷ placeWord) (r .place),
+    )))
+
+pub reportText-le : (b : List ℕ) → length (reportText b) ≤ maxText
+unfolding reportText
+reportText-le b = go (refuseIf (ltb 65536 (length b)) (refuse 12 0 0) (checkFile 1 b))
+  where
+    go : (o : Outcome Summary) → length (textOf o (listOf b)) ≤ maxText
+    go (done s) = map-le s _ _
+    go (refused r) = refused-le r
+
 -- ---- the buffer
 
 -- what was written fits the buffer
@@ -149,3 +195,9 @@ reportOutcome-le b room x e =
     let fits = refuseIf-done (ltb room c) _ (done c) x e in
     let same : c ≡ x = cc (fits .1) in
     omega (arith, ltb-false room c (fits .0))
+
+-- a buffer of 160 bytes is never too short
+pub report-written : (b : List ℕ) (capacity : ℕ) → maxText ≤ capacity
+    → reportOutcome b capacity ≡ done (length (reportText b))
+unfolding reportOutcome
+report-written b capacity long = rw (le-ltb capacity (length (reportText b)) (omega (arith, reportText-le b)))

@@ -22,7 +22,7 @@ use text::put_word;
 
 // The longest input that is reported on.
 pub const MAX_INPUT: usize = 65536;
-// The longest report.
+// No report is longer.
 pub const MAX_TEXT: usize = 160;
 
 // A buffer that is too short, or an input that is too long.
