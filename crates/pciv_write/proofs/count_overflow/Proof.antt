@@ -48,7 +48,9 @@ loop-less : tie.Need-loop-less Inv-loop μ-loop
 loop-less c = search needs
 
 cast-result : tie.Need-cast-result Inv-loop μ-loop
-cast-result c = search needs
+cast-result c =
+    let l = c .before .loop in
+    omega (arith, l .inv .rest, count-small (c .before .before .args .distances .now))
 
 returns : tie.Need-returns Inv-loop μ-loop
 returns c =
