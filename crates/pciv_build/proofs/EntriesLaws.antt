@@ -125,7 +125,7 @@ module _ {n : ℕ} {v : ℕ → ℕ} {from : ℕ} {d₀ : List ℕ} {p₀ i : �
         room = omega (arith, e .room, ap length slots);
         rest = e .rest
             ∙ rw (entriesFrom-more n v i h far, same, next)
-                (sets-append (overflowEntry v i) (entriesFrom n v (i + 1)) d p ∙ rw (length-overflowEntry v i));
+            (sets-append (overflowEntry v i) (entriesFrom n v (i + 1)) d p ∙ rw (length-overflowEntry v i));
       }
 
   -- no slot from i up to s is in overflow

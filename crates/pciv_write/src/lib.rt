@@ -24,9 +24,16 @@ use pciv_format::SENTINEL;
 use pciv_format::TOO_MANY_SLOTS;
 
 // The least distance that is in overflow.
-const OVERFLOW_MIN: u32 = 255;
+const OVERFLOW_MIN: u32 = SENTINEL as u32;
 // The slots that are passed over at once where none is in overflow.
 const BLOCK: usize = 16;
+
+// 1 for a distance that is in overflow, else 0.
+fn overflow_flag(x: u32) -> u32
+    ensures { λ r. ⌜ r ≡ flag (inOverflow x) ⌝ }
+{
+    (OVERFLOW_MIN <= x) as u32
+}
 
 // How many distances are in overflow.
 fn count_overflow(distances: &[u32]) -> usize
@@ -36,7 +43,7 @@ fn count_overflow(distances: &[u32]) -> usize
     let mut count: u32 = 0;
     let mut i = 0;
     while i < distances.len() {
-        count += (OVERFLOW_MIN <= distances[i]) as u32;
+        count += overflow_flag(distances[i]);
         i += 1;
     }
     count as usize
@@ -46,11 +53,7 @@ fn count_overflow(distances: &[u32]) -> usize
 fn primary_byte(x: u32) -> u8
     ensures { λ r. ⌜ r ≡ primaryByte x ⌝ }
 {
-    if x < OVERFLOW_MIN {
-        x as u8
-    } else {
-        SENTINEL
-    }
+    if x < OVERFLOW_MIN { x as u8 } else { SENTINEL }
 }
 
 // Writes the primary array.
@@ -73,7 +76,7 @@ fn put_over(out: &mut [u8], place: usize, slot: usize, distance: u32) -> usize
     ensures buffer { λ _. ⌜ now (out .exit) ≡ sets (now (out .entry)) place (le 8 slot ++ le 4 distance) ⌝ }
 {
     put_entry(out, place, slot, distance);
-    place + 12 * (OVERFLOW_MIN <= distance) as usize
+    place + 12 * overflow_flag(distance) as usize
 }
 
 // Writes the entries of the slots from `from` up to `to`, and answers the place of the next. All entries from `from`

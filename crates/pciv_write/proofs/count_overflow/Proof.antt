@@ -1,11 +1,10 @@
--- Proves pciv_write::count_overflow. Invariant: count is the number of slots in overflow below i. Falls: length - i.
-use mathlib.Core.Path.{_≡_}
-use Prim.Native.Nat.{ℕ, _-_, _≤_}
+-- Proves pciv_write::count_overflow. Invariant: count, with the slots in overflow from i on, is their number.
+-- Falls: length distances - i.
+use Prim.Native.Nat.{_-_}
 use native.Mathlib.Omega.{arith}
 use lib.ListN.{length}
 use Rattle.pciv_bytes.specs.Ranges.{sumFrom}
-use Rattle.pciv_bytes.proofs.SumLaws.{boolByte-flag, Added, added-none, added-one, added-all}
-use Rattle.pciv_format.specs.Layout.{inOverflow, at}
+use Rattle.pciv_bytes.proofs.SumLaws.{Added, added-none, added-one, added-all}
 use Rattle.pciv_write.proofs.WriteLaws.{overflowAt, count-is, count-small}
 use borrow.Author.Needs.{needs}
 use Rattle.pciv_write.proofs.count_overflow.Statement.{statement}
@@ -21,24 +20,21 @@ abbrev μ-loop : tie.MeasureT-loop
 loop-holds : tie.Need-loop-holds Inv-loop μ-loop
 loop-holds c = added-none _ 0 _ (omega arith)
 
-mul-count : tie.Need-mul-count Inv-loop μ-loop
-mul-count c = search needs
+mul-overflow-flag : tie.Need-mul-overflow-flag Inv-loop μ-loop
+mul-overflow-flag c = search needs
 
-shared-slice-read-count : tie.Need-shared-slice-read-count Inv-loop μ-loop
-shared-slice-read-count c = search needs
+shared-slice-read-overflow-flag : tie.Need-shared-slice-read-overflow-flag Inv-loop μ-loop
+shared-slice-read-overflow-flag c = search needs
 
-cast-count : tie.Need-cast-count Inv-loop μ-loop
-cast-count c = tt
+overflow-flag-requires : tie.Need-overflow-flag-requires Inv-loop μ-loop
+overflow-flag-requires c κs = search needs
 
 loop-again : tie.Need-loop-again Inv-loop μ-loop
-loop-again c =
-    let d = c .before .before in
-    let xs = d .before .args .distances .now in
-    rw (boolByte-flag (inOverflow (at xs (d .loop .i)))) (added-one (d .loop .inv) (omega arith))
+loop-again c = rw (c .overflow-flag .ensures) (added-one (c .before .before .before .loop .inv) (omega arith))
 
 add-count : tie.Need-add-count Inv-loop μ-loop
 add-count c =
-    let xs = c .before .before .before .args .distances .now in
+    let xs = c .before .before .before .before .before .args .distances .now in
     omega (arith, loop-again c .rest, count-small xs)
 
 add-i : tie.Need-add-i Inv-loop μ-loop
@@ -50,12 +46,12 @@ loop-less c = search needs
 cast-result : tie.Need-cast-result Inv-loop μ-loop
 cast-result c =
     let l = c .before .loop in
-    omega (arith, l .inv .rest, count-small (c .before .before .args .distances .now))
+    omega (arith, l .inv .rest, count-small (c .before .before .before .args .distances .now))
 
 returns : tie.Need-returns Inv-loop μ-loop
 returns c =
     let l = c .before .loop in
-    count-is (c .before .before .args .distances .now) (l .count) (added-all (l .inv) (omega arith))
+    count-is (c .before .before .before .args .distances .now) (l .count) (added-all (l .inv) (omega arith))
 
 pub count-overflow-spec : {M : Type 1} → statement M
 count-overflow-spec =
@@ -64,9 +60,9 @@ count-overflow-spec =
     Inv-loop
     μ-loop
     loop-holds
-    mul-count
-    shared-slice-read-count
-    cast-count
+    mul-overflow-flag
+    shared-slice-read-overflow-flag
+    overflow-flag-requires
     add-count
     add-i
     loop-less

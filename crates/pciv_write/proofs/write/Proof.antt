@@ -81,7 +81,7 @@ put-entries-requires c κs =
     let start = b .before .before .before .before in
     let k = start .before .before in
     let xs = list k in
-    let room = fits b .entries in (
+    let inside = fits b .entries in (
       k .count-overflow .ensures,
       (
         omega (arith, start .begin .kept .0, put .put-primary .kept .0),
@@ -97,7 +97,7 @@ finish-requires c κs =
     let start = b .before .before .before .before in
     let xs = list (start .before .before) in
     let count = overflowCount-le (length xs) (at xs) in
-    let room = fits b .fits in
+    let inside = fits b .fits in
     (omega arith, omega arith, omega (arith, start .begin .kept .0, bytes .put-primary .kept .0, entries .put-entries .kept .0))
 
 same-length : tie.Need-same-length
