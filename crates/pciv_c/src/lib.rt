@@ -6,6 +6,7 @@ ghost use mathlib.Core.Path.{_≡_};
 ghost use lib.ListN.{length};
 ghost use Rattle.pciv_format.specs.Check.{checkFile};
 ghost use Rattle.pciv_format.specs.Read.{lookupOutcome, lookupListOutcome, lookupListBuffer, scanOutcome, scanBuffer, sumOutcome, readingsOutcome};
+ghost use Rattle.pciv_format.specs.Write.{writeOutcome, writeBuffer};
 ghost use Rattle.pciv_format.specs.Report.{reportOutcome, reportBuffer};
 ghost use Rattle.pciv_c.specs.Cells.{ToldNumber, ToldFile, spanCells, spanLength, fileOutcome, numberOutcome, distanceOutcome};
 use pciv_check::check;
@@ -19,6 +20,7 @@ use pciv_read::readings;
 use pciv_read::scan;
 use pciv_read::sum;
 use pciv_report::report;
+use pciv_write::write;
 
 // ---- answers, told to C
 
@@ -156,6 +158,21 @@ pub extern "C" fn pciv_readings(file: &[u8], count: &mut usize, refusal: &mut [u
     ensures told { λ r. ⌜ ToldNumber (readingsOutcome (now (file .entry))) r (now (count .entry)) (now (count .exit)) (now (refusal .exit)) ⌝ }
 {
     tell_number(readings(file), count, refusal)
+}
+
+// ---- writing
+
+#[no_mangle]
+pub extern "C" fn pciv_write(
+    distances: &[u32],
+    out: &mut [u8],
+    summary: &mut [usize; 5],
+    refusal: &mut [usize; 3],
+) -> usize
+    ensures told { λ r. ⌜ ToldFile (writeOutcome (now (distances .entry)) (length (now (out .entry)))) r (now (summary .entry)) (now (summary .exit)) (now (refusal .exit)) ⌝ }
+    ensures buffer { λ _. ⌜ now (out .exit) ≡ writeBuffer (now (distances .entry)) (now (out .entry)) ⌝ }
+{
+    tell_file(write(distances, out), summary, refusal)
 }
 
 // ---- the report
