@@ -7,3 +7,5 @@ pub mod ExactLaws
 pub mod ReadLaws
 pub mod Acceptance
 pub mod Cases
+pub mod FrontLaws
+pub mod RunLaws

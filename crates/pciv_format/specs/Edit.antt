@@ -5,6 +5,7 @@
 --   MayChange x e i           byte i of the buffer may change when x is edited by e, which is accepted
 --   plainRun, plainOutcomes   the plain editor's state after a list of edits, and its answers in order
 --   bufferOf z b₀             what the buffer holds in state z, where it was b₀ at the start
+--   editRun, editOutcomes     the editor's buffer after a list of edits, and its answers in order
 -- The plain editor is given the starting list, R and the edits, and nothing else. Axioms: none.
 use mathlib.Core.Path.{_≡_}
 use Prim.Native.Nat.{ℕ, _+_, _-_, _*_, _≤_, _<_, max}
@@ -77,7 +78,17 @@ limitsBy false true x s i = ((16 ≤ i) × (i < 40)) ⊎ ((i ≡ 40 + s) ⊎ (en
 abbrev pub MayChange : List ℕ → Edit → ℕ → Type 0
 MayChange x e i = limitsBy (inOverflow (at x (e .slot))) (inOverflow (e .distance)) x (e .slot) i
 
--- ---- a run of edits
+-- ---- a run of edits: each edit gets the buffer as the one before left it
+
+unfoldable pub editRun : List ℕ → List Edit → List ℕ
+editRun b [] = b
+editRun b (e ∷ es) = editRun (editBuffer b e) es
+
+unfoldable pub editOutcomes : List ℕ → List Edit → List (Outcome Summary)
+editOutcomes b [] = []
+editOutcomes b (e ∷ es) = editOutcome b e ∷ editOutcomes (editBuffer b e) es
+
+-- ---- the plain editor's run
 
 -- the plain editor keeps a list, and the length of the longest file so far
 pub record State : Type 0 where
