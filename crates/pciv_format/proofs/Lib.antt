@@ -9,3 +9,4 @@ pub mod Acceptance
 pub mod Cases
 pub mod FrontLaws
 pub mod RunLaws
+pub mod EditLaws
