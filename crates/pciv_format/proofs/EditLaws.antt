@@ -87,8 +87,8 @@ module _ (n : ℕ) (v w : ℕ → ℕ) (s : ℕ) (inside : s < n) (same : (i : �
   before-same =
       joined-cong (overflowEntry v) (overflowEntry w) (overflowSlots s v)
       (λ j h.
-        entry-same (getD (overflowSlots s v) j 0)
-        (λ q. omega (arith, positions-at (λ (i : ℕ). inOverflow (v i)) 0 s j h .high)))
+      entry-same (getD (overflowSlots s v) j 0)
+      (λ q. omega (arith, positions-at (λ (i : ℕ). inOverflow (v i)) 0 s j h .high)))
       ∙ ap (joined (overflowEntry w)) below-same
 
   after-same : joined (overflowEntry v) (above v) ≡ joined (overflowEntry w) (above w)
@@ -96,8 +96,8 @@ module _ (n : ℕ) (v w : ℕ → ℕ) (s : ℕ) (inside : s < n) (same : (i : �
   after-same =
       joined-cong (overflowEntry v) (overflowEntry w) (above v)
       (λ j h.
-        entry-same (getD (above v) j 0)
-        (λ q. omega (arith, positions-at (λ (i : ℕ). inOverflow (v i)) (suc s) (n - suc s) j h .low)))
+      entry-same (getD (above v) j 0)
+      (λ q. omega (arith, positions-at (λ (i : ℕ). inOverflow (v i)) (suc s) (n - suc s) j h .low)))
       ∙ ap (joined (overflowEntry w)) above-same
 
   pub before : List ℕ
@@ -144,15 +144,17 @@ module _ (n : ℕ) (v w : ℕ → ℕ) (s : ℕ) (inside : s < n) (same : (i : �
       ext-getD 0 (table g 0 n) (set (table f 0 n) s (primaryByte (w s)))
       (length-table g 0 n ∙ sym (length-set (table f 0 n) s (primaryByte (w s)) ∙ length-table f 0 n))
       (λ i hi.
-        (let h' : i < n = (rw length-table at hi) in
-        getD-table g 0 0 n i h'
-        ∙ ap g (zero-add i)
-        ∙ elim (decLe i s)
-        [ yes d ↦
-          elim (decLe s i)
-          [ yes d' ↦ (let q : i ≡ s = omega arith in rw q (sym (getD-set-same (table f 0 n) s (primaryByte (w s)) 0 (rw length-table inside))))
-          | no d' ↦ other i h' (λ q. omega arith) ]
-        | no d ↦ other i h' (λ q. omega arith) ]))
+      (let h' : i < n = (rw length-table at hi) in
+      getD-table g 0 0 n i h'
+      ∙ ap g (zero-add i)
+      ∙ elim (decLe i s) [
+        | yes d ↦
+            elim (decLe s i) [
+              | yes d' ↦ (let q : i ≡ s = omega arith in rw q (sym (getD-set-same (table f 0 n) s (primaryByte (w s)) 0 (rw length-table inside))))
+              | no d' ↦ other i h' (λ q. omega arith)
+            ]
+        | no d ↦ other i h' (λ q. omega arith)
+      ]))
     where
       other : (i : ℕ) → i < n → (i ≡ s → ⊥)
           → primaryByte (w i) ≡ getD (set (table (λ (i : ℕ). primaryByte (v i)) 0 n) s (primaryByte (w s))) i 0
@@ -214,11 +216,11 @@ module _ (n : ℕ) (v w : ℕ → ℕ) (s : ℕ) (inside : s < n) (same : (i : �
       let idx : List ℕ = indexPart (overflowSlots n v) in
       let q : List ℕ = after ++ idx in
       let place : 40 + n + 12 * overflowCount s v + 8 ≡ length h + (length r + (length before + (length (le 8 s) + 0))) =
-        omega (arith, length-header n (length (overflowSlots n v)), length-primary n v, length-before, length-le 8 s) in
+      omega (arith, length-header n (length (overflowSlots n v)), length-primary n v, length-before, length-le 8 s) in
       let x : List ℕ = le 4 (w s) in
       let inner : sets (le 8 s ++ (le 4 (v s) ++ q)) (length (le 8 s) + 0) x ≡ le 8 s ++ (x ++ q) =
-        sets-behind (le 8 s) (le 4 (v s) ++ q) 0 x
-        ∙ ap (λ (l : List ℕ). le 8 s ++ l) (sets-over (le 4 (v s)) q x (length-le 4 (w s) ∙ sym (length-le 4 (v s)))) in
+      sets-behind (le 8 s) (le 4 (v s) ++ q) 0 x
+      ∙ ap (λ (l : List ℕ). le 8 s ++ l) (sets-over (le 4 (v s)) q x (length-le 4 (w s) ∙ sym (length-le 4 (v s)))) in
       rw (← stay, primary-stays hv hw, apart v h r idx (part-with-v hv), place)
       (apart w h r idx (part-with-w hw)
       ∙ sym
@@ -242,18 +244,30 @@ module _ (n : ℕ) (v w : ℕ → ℕ) (s : ℕ) (inside : s < n) (same : (i : �
       let q : ℕ = 12 * overflowCount s v in
       let r : List ℕ = overflowEntry v s ++ after in
       let past : drop (q + 12) (before ++ r) ≡ after =
-        sym (drop-drop 12 q (before ++ r)) ∙ ap (drop 12) (drop-at before r q length-before) ∙ drop-at (overflowEntry v s) after 12 (length-overflowEntry v s) in
+      sym (drop-drop 12 q (before ++ r)) ∙ ap (drop 12) (drop-at before r q length-before) ∙ drop-at (overflowEntry v s) after 12 (length-overflowEntry v s) in
       rw (part-with-v hv, take-at before r q length-before, past) (part-without-w hw)
 
   pub count-in : v s < 255 → 255 ≤ w s → overflowCount n w ≡ overflowCount n v + 1
   unfolding overflowCount
   count-in hv hw =
       let old : length (overflowSlots n v) ≡ length (overflowSlots s v) + length (above v) =
-        ap length (around v) ∙ rw (lt-leb 255 (v s) hv) (length-append (overflowSlots s v) (above v)) in
+      ap length (around v) ∙ rw (lt-leb 255 (v s) hv) (length-append (overflowSlots s v) (above v)) in
       let new : length (overflowSlots n w) ≡ length (overflowSlots s v) + suc (length (above v)) =
-        ap length (around w) ∙ rw (le-leb 255 (w s) hw, ← below-same, ← above-same) (length-append (overflowSlots s v) (s ∷ above v)) in
+      ap length (around w) ∙ rw (le-leb 255 (w s) hw, ← below-same, ← above-same) (length-append (overflowSlots s v) (s ∷ above v)) in
       omega arith
 
   pub count-below : overflowCount s v ≤ overflowCount n v
   unfolding overflowCount
   count-below = omega (arith, ap length (around v) ∙ length-append (overflowSlots s v) (keepIf (inOverflow (v s)) s (above v)))
+
+  -- in overflow, the entry of s is one of them
+  pub count-inside : 255 ≤ v s → overflowCount s v < overflowCount n v
+  unfolding overflowCount
+  count-inside hv =
+      let all : length (overflowSlots n v) ≡ length (overflowSlots s v) + suc (length (above v)) =
+      ap length (around v) ∙ rw (le-leb 255 (v s) hv) (length-append (overflowSlots s v) (s ∷ above v)) in
+      omega arith
+
+  pub below-count : overflowCount s v ≡ overflowCount s w
+  unfolding overflowCount
+  below-count = ap length below-same

@@ -10,3 +10,4 @@ pub mod Cases
 pub mod FrontLaws
 pub mod RunLaws
 pub mod EditLaws
+pub mod LimitLaws

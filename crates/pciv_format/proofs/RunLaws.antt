@@ -1,8 +1,8 @@
 -- A run of edits (docs/PROMISES.md, "A run of edits"): for every list of edits, of any length, on a buffer with a
 -- sound file at its front, the editor's answers are the plain editor's, in order, and the buffer holds the plain
--- editor's list as a fresh file, zeros up to the longest file of the run, and then what stood there at the start.
---   edit-run         the theorem
---   edit-step        one edit of it
+-- editor's list as a fresh file, zeros up to the longest file of the run, and then what stood there at the start;
+-- a refused edit changes no byte, and an accepted one only bytes that may change.
+--   edit-run   the theorem
 use mathlib.Core.Path.{_≡_, refl, sym, ap, ap₂, _∙_}
 use Prim.Native.Nat.{ℕ, zero, suc, _+_, _-_, _≤_, _<_, max}
 use native.Mathlib.Nat.{le-refl, sub-self}
@@ -18,9 +18,10 @@ use Rattle.pciv_format.specs.Layout.{maxDistance, fileOf, summaryOf, Lim
 use Rattle.pciv_format.specs.Refusals.{Outcome, done, refused, refuse, refuseIf}
 use Rattle.pciv_format.specs.Check.{checkBuffer}
 use Rattle.pciv_format.specs.Read.{listOf}
-use Rattle.pciv_format.specs.Edit.{Edit, edited, plainOutcome, editedFile, editOutcome, replaced, ifAccepted, editBuffer, State, plainStart, plainStep, plainRun, plainOutcomes, bufferOf, editRun, editOutcomes}
+use Rattle.pciv_format.specs.Edit.{Edit, edited, plainOutcome, editedFile, editOutcome, replaced, ifAccepted, editBuffer, State, plainStart, plainStep, plainRun, plainOutcomes, bufferOf, editRun, editOutcomes, MayChange, StepLimits, RunLimits}
 use Rattle.pciv_format.specs.declared.Summary.{Summary}
 use Rattle.pciv_format.proofs.FrontLaws.{front-check, front-list}
+use Rattle.pciv_format.proofs.LimitLaws.{edit-limits}
 
 -- ---- what follows the file: zeros, then what stood there at the start
 
@@ -144,6 +145,20 @@ module _ (b₀ : List ℕ) (z : State) (at : Reached b₀ z) where
           let g : length (fileOf (edited (z .list) e)) ≤ length b₀ = ltb-false _ _ h in
           record { limits = edited-limits e small; low = omega arith; high = omega (arith, at .high) }
 
+-- ---- its limits
+
+module _ (b₀ : List ℕ) (z : State) (at : Reached b₀ z) where
+  pub edit-step-limits : (e : Edit) → StepLimits (bufferOf z b₀) e
+  unfolding bufferOf editBuffer
+  edit-step-limits e =
+      let t : List ℕ = replicate (z .filled - length (fileOf (z .list))) 0 ++ drop (z .filled) b₀ in
+      record {
+        onRefusal = λ r is. rw is;
+        onAccept = λ s is i changed.
+            (let m : MayChange (z .list) e i = edit-limits (z .list) t (at .limits) e s is i changed in
+            rw (front-list (z .list) t (at .limits)) m);
+      }
+
 -- ---- the run
 
 -- every distance of the edits is one
@@ -152,9 +167,11 @@ Distances es = (i : ℕ) → i < length es → getD es i (record { slot = 0; dis
 
 module _ (b₀ : List ℕ) where
   run-from : (es : List Edit) (z : State) → Reached b₀ z → Distances es
-      → (editOutcomes (bufferOf z b₀) es ≡ plainOutcomes (length b₀) z es) × (editRun (bufferOf z b₀) es ≡ bufferOf (plainRun (length b₀) z es) b₀)
+      → (editOutcomes (bufferOf z b₀) es ≡ plainOutcomes (length b₀) z es)
+      × (editRun (bufferOf z b₀) es ≡ bufferOf (plainRun (length b₀) z es) b₀)
+      × RunLimits (bufferOf z b₀) es
   unfolding editRun plainRun editOutcomes plainOutcomes
-  run-from [] z at small = (refl, refl)
+  run-from [] z at small = (refl, refl, tt)
   run-from (e ∷ es) z at small =
       let z' = plainStep (length b₀) z e in
       let r = run-from es z' (next-reached b₀ z at e (small 0 (omega arith))) (λ i h. small (suc i) (omega arith)) in
@@ -162,16 +179,22 @@ module _ (b₀ : List ℕ) where
         ap₂ (λ (o : Outcome Summary) (l : List (Outcome Summary)). o ∷ l) (edit-answer b₀ z at e)
             (ap (λ (b : List ℕ). editOutcomes b es) q ∙ r .0),
         ap (λ (b : List ℕ). editRun b es) q ∙ r .1,
+        (edit-step-limits b₀ z at e, rw q (r .2)),
       )
 
 -- a buffer with x's file at its front and any bytes t behind it
 pub edit-run : (x t : List ℕ) (es : List Edit) → Limits x → Distances es
     → (let b = fileOf x ++ t in
-    (editOutcomes b es ≡ plainOutcomes (length b) (plainStart x) es) × (editRun b es ≡ bufferOf (plainRun (length b) (plainStart x) es) b))
+    (editOutcomes b es ≡ plainOutcomes (length b) (plainStart x) es)
+    × (editRun b es ≡ bufferOf (plainRun (length b) (plainStart x) es) b)
+    × RunLimits b es)
 unfolding bufferOf plainStart
 edit-run x t es l small =
     let b : List ℕ = fileOf x ++ t in
     let start : bufferOf (plainStart x) b ≡ b = rw (sub-self, drop-at (fileOf x) t (length (fileOf x)) refl) in
     let reached : Reached b (plainStart x) = record { limits = l; low = le-refl _; high = simp length-append (omega arith) } in
-    let r = run-from b es (plainStart x) reached small in
-    (ap (λ (c : List ℕ). editOutcomes c es) (sym start) ∙ r .0, ap (λ (c : List ℕ). editRun c es) (sym start) ∙ r .1)
+    let r = run-from b es (plainStart x) reached small in (
+      ap (λ (c : List ℕ). editOutcomes c es) (sym start) ∙ r .0,
+      ap (λ (c : List ℕ). editRun c es) (sym start) ∙ r .1,
+      rw start at (r .2),
+    )
