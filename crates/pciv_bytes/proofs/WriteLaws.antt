@@ -7,7 +7,7 @@ use native.Mathlib.Numerals.{add-one}
 use native.Mathlib.Omega.{arith}
 use mathlib.Core.List.{List, [], _∷_, _++_}
 use lib.ListN.{length, getD, take, drop, set, replicate, drop-of-length-le}
-use lib.Seq.{sets, sets-eq, take-set-le, drop-cons}
+use lib.Seq.{sets, sets-eq, take-set-le, drop-cons, set-set, set-comm}
 use Rattle.pciv_bytes.specs.LittleEndian.{le}
 use Rattle.pciv_bytes.specs.Ranges.{table}
 use Rattle.pciv_bytes.proofs.RangesLaws.{table-rest, table-done}
@@ -79,3 +79,21 @@ sets-le-more d at w y i h =
 pub sets-le-end : (d : List ℕ) (at w y i : ℕ) → w ≤ i → sets d (at + i) (le (w - i) y) ≡ d
 unfolding le
 sets-le-end d at w y i h = let e : w - i ≡ 0 = omega arith in rw e
+
+-- ---- a list written over another
+
+module _ {A : Type 0} where
+  set-sets : (g d : List A) (i j : ℕ) (x : A) → i < j → set (sets d j g) i x ≡ sets (set d i x) j g
+  set-sets [] d i j x h = refl
+  set-sets (a ∷ g) d i j x h =
+      set-sets g (set d j a) i (suc j) x (omega arith)
+      ∙ ap (λ (l : List A). sets l (suc j) g) (set-comm d j i a x (λ e. omega arith))
+
+  -- what was written there before does not count
+  pub sets-over : (g f d : List A) (i : ℕ) → length g ≤ length f → sets (sets d i g) i f ≡ sets d i f
+  sets-over [] f d i h = refl
+  sets-over (a ∷ g) [] d i h = absurd (omega arith)
+  sets-over (a ∷ g) (x ∷ f) d i h =
+      ap (λ (l : List A). sets l (suc i) f) (set-sets g (set d i a) i (suc i) x (omega arith))
+      ∙ ap (λ (l : List A). sets (sets l (suc i) g) (suc i) f) (set-set d i a x)
+      ∙ sets-over g f (set d i x) (suc i) (omega arith)
