@@ -6,10 +6,11 @@ ghost use mathlib.Core.Path.{_≡_};
 ghost use lib.ListN.{length};
 ghost use Rattle.pciv_format.specs.Check.{checkFile};
 ghost use Rattle.pciv_format.specs.Read.{lookupOutcome, lookupListOutcome, lookupListBuffer, scanOutcome, scanBuffer, sumOutcome, readingsOutcome};
-ghost use Rattle.pciv_format.specs.Write.{writeOutcome, writeBuffer};
+ghost use Rattle.pciv_format.specs.Write.{writeOutcome, writeBuffer, closeOutcome, closeBuffer};
 ghost use Rattle.pciv_format.specs.Report.{reportOutcome, reportBuffer};
 ghost use Rattle.pciv_c.specs.Cells.{ToldNumber, ToldFile, spanCells, spanLength, fileOutcome, numberOutcome, distanceOutcome};
 use pciv_check::check;
+use pciv_close::close;
 use pciv_format::DistanceAnswer;
 use pciv_format::FileAnswer;
 use pciv_format::HEADER_LEN;
@@ -173,6 +174,21 @@ pub extern "C" fn pciv_write(
     ensures buffer { λ _. ⌜ now (out .exit) ≡ writeBuffer (now (distances .entry)) (now (out .entry)) ⌝ }
 {
     tell_file(write(distances, out), summary, refusal)
+}
+
+#[no_mangle]
+pub extern "C" fn pciv_close(
+    primary: &[u8],
+    slots: &[usize],
+    distances: &[u32],
+    out: &mut [u8],
+    summary: &mut [usize; 5],
+    refusal: &mut [usize; 3],
+) -> usize
+    ensures told { λ r. ⌜ ToldFile (closeOutcome (now (primary .entry)) (now (slots .entry)) (now (distances .entry)) (length (now (out .entry)))) r (now (summary .entry)) (now (summary .exit)) (now (refusal .exit)) ⌝ }
+    ensures buffer { λ _. ⌜ now (out .exit) ≡ closeBuffer (now (primary .entry)) (now (slots .entry)) (now (distances .entry)) (now (out .entry)) ⌝ }
+{
+    tell_file(close(primary, slots, distances, out), summary, refusal)
 }
 
 // ---- the report
