@@ -4,11 +4,12 @@ ghost use mathlib.Core.Path.{_≡_};
 ghost use Prim.Native.Nat.{_+_, _*_, _≤_, _<_};
 ghost use lib.ListN.{length, getD};
 ghost use lib.Seq.{sets};
-ghost use Rattle.pciv_format.specs.Layout.{overflowCount, overflowPart};
+ghost use Rattle.pciv_format.specs.Layout.{primary, overflowCount, overflowPart};
 ghost use Rattle.pciv_format.specs.Parts.{lowestSlot, entryOf};
 ghost use Rattle.pciv_format.specs.Check.{fileParts, CheckedMap};
 ghost use Rattle.pciv_check.specs.Pair.{CheckedPair};
-ghost use Rattle.pciv_merge.specs.Merge.{combinedOf, Shrinks, Before, FoundAt, CombinedAt};
+ghost use Rattle.pciv_merge.specs.Merge.{combinedOf, Shrinks, Before, FoundAt, CombinedAt, InlineRight};
+use crate::slots::primary_byte;
 use crate::slots::slot_op;
 use pciv_build::put_entry;
 use pciv_format::HEADER_LEN;
@@ -66,7 +67,16 @@ pub struct Combined {
 }
 
 // What becomes of entry j of the first map; the entries of the second map before t have smaller slots.
-fn combine_entry(op: SlotOp, a: &[u8], b: &[u8], n: usize, ka: usize, kb: usize, j: usize, t: usize) -> Combined
+fn combine_entry(
+    op: SlotOp,
+    a: &[u8],
+    b: &[u8],
+    n: usize,
+    ka: usize,
+    kb: usize,
+    j: usize,
+    t: usize,
+) -> Combined
     requires { ⌜ CheckedPair (now a) (now b) n ka kb ⌝ }
     requires { ⌜ Shrinks op ⌝ }
     requires { ⌜ j < ka ⌝ }
@@ -105,7 +115,16 @@ pub fn count_led(op: SlotOp, a: &[u8], b: &[u8], n: usize, ka: usize, kb: usize)
 }
 
 // Writes the overflow entries of the result, from `from` on.
-pub fn put_led(out: &mut [u8], op: SlotOp, a: &[u8], b: &[u8], n: usize, ka: usize, kb: usize, from: usize)
+pub fn put_led(
+    out: &mut [u8],
+    op: SlotOp,
+    a: &[u8],
+    b: &[u8],
+    n: usize,
+    ka: usize,
+    kb: usize,
+    from: usize,
+)
     requires { ⌜ CheckedPair (now a) (now b) n ka kb ⌝ }
     requires { ⌜ Shrinks op ⌝ }
     requires { ⌜ from + 12 * overflowCount n (combinedOf op (fileParts (now a) n ka) (fileParts (now b) n kb)) ≤ length (now out) ⌝ }
@@ -121,5 +140,23 @@ pub fn put_led(out: &mut [u8], op: SlotOp, a: &[u8], b: &[u8], n: usize, ka: usi
         if 255 <= found.distance {
             at = put_entry(out, at, found.slot, found.distance);
         }
+    }
+}
+
+// Puts the primary bytes right where the first map is in overflow; the others are right.
+pub fn mend_led(out: &mut [u8], op: SlotOp, a: &[u8], b: &[u8], n: usize, ka: usize, kb: usize)
+    requires { ⌜ CheckedPair (now a) (now b) n ka kb ⌝ }
+    requires { ⌜ Shrinks op ⌝ }
+    requires { ⌜ InlineRight (fileParts (now a) n ka) (combinedOf op (fileParts (now a) n ka) (fileParts (now b) n kb)) (now out) ⌝ }
+    ensures { λ _. ⌜ now (out .exit) ≡ sets (now (out .entry)) 40 (primary n (combinedOf op (fileParts (now (a .entry)) n ka) (fileParts (now (b .entry)) n kb))) ⌝ }
+{
+    let mut t: usize = 0;
+    let mut j: usize = 0;
+    while j < ka {
+        let found = combine_entry(op, a, b, n, ka, kb, j, t);
+        let slot = found.slot;
+        out[HEADER_LEN + slot] = primary_byte(found.distance);
+        t = found.next;
+        j += 1;
     }
 }
