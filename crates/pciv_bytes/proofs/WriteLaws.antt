@@ -1,13 +1,14 @@
 -- Laws of `sets`, which writes a list over another from a place on, and of lists written one element a turn.
 -- A loop's invariant is the work that remains: writing all from the start equals writing the rest from here.
-use mathlib.Core.Path.{_≡_, refl, ap, _∙_}
+use mathlib.Core.Path.{_≡_, refl, sym, ap, _∙_}
 use Prim.Native.Nat.{ℕ, suc, _+_, _-_, _/_, _%_, _≤_, _<_}
 use native.Mathlib.Nat.{add-zero, zero-add, sub-zero}
 use native.Mathlib.Numerals.{add-one}
 use native.Mathlib.Omega.{arith}
+use native.Mathlib.Decide.{decLe}
 use mathlib.Core.List.{List, [], _∷_, _++_}
-use lib.ListN.{length, getD, take, drop, set, replicate, drop-of-length-le}
-use lib.Seq.{sets, sets-eq, take-set-le, drop-cons, set-set, set-comm}
+use lib.ListN.{length, getD, take, drop, set, replicate, drop-of-length-le, length-append, List·getD-append}
+use lib.Seq.{sets, sets-eq, length-take-le, take-set-le, drop-cons, getD-append-add, set-getD, set-set, set-comm}
 use Rattle.pciv_bytes.specs.LittleEndian.{le}
 use Rattle.pciv_bytes.specs.Ranges.{table}
 use Rattle.pciv_bytes.proofs.RangesLaws.{table-rest, table-done}
@@ -31,6 +32,44 @@ module _ {A : Type 0} where
   pub sets-cons : (d l : List A) (x : A) (rest : List A) (i next : ℕ) → l ≡ x ∷ rest → next ≡ i + 1
       → sets d i l ≡ sets (set d i x) next rest
   sets-cons d l x rest i next e n = rw (e, n, add-one i)
+
+  -- ---- what is written over, or read back
+
+  pub getD-sets : (vs d : List A) (z : A) (i j : ℕ) → j < length vs → i + length vs ≤ length d
+      → getD (sets d i vs) (i + j) z ≡ getD vs j z
+  getD-sets vs d z i j h room =
+      let front : length (take i d) ≡ i = length-take-le i d (omega arith) in
+      ap (λ (l : List A). getD l (i + j) z) (sets-eq vs d i room)
+      ∙ List·getD-append (take i d ++ vs) (drop (i + length vs) d) z (i + j) (simp length-append (omega arith))
+      ∙ ap (λ (k : ℕ). getD (take i d ++ vs) (k + j) z) (sym front)
+      ∙ getD-append-add (take i d) vs j z
+
+  -- an element within a part that is written afterwards
+  pub sets-set-inside : (vs d : List A) (i s : ℕ) (x : A) → i ≤ s → s < i + length vs → sets (set d s x) i vs ≡ sets d i vs
+  sets-set-inside [] d i s x low high = absurd (omega arith)
+  sets-set-inside (v ∷ vs) d i s x low high =
+      elim (decLe s i) [
+        | yes h ↦ (let e : s ≡ i = omega arith in rw e (ap (λ (l : List A). sets l (suc i) vs) (set-set d i x v)))
+        | no h ↦ ap (λ (l : List A). sets l (suc i) vs) (set-comm d s i x v (λ q. omega arith))
+            ∙ sets-set-inside vs (set d i v) (suc i) s x (omega arith) (omega arith)
+      ]
+
+  -- a list within such a part
+  pub sets-sets-inside : (us vs d : List A) (i s : ℕ) → i ≤ s → s + length us ≤ i + length vs
+      → sets (sets d s us) i vs ≡ sets d i vs
+  sets-sets-inside [] vs d i s low high = refl
+  sets-sets-inside (u ∷ us) vs d i s low high =
+      sets-sets-inside us vs (set d s u) i (suc s) (omega arith) (omega arith)
+      ∙ sets-set-inside vs d i s u low (omega arith)
+
+  -- a list that stands there already
+  pub sets-same : (vs d : List A) (z : A) (i : ℕ) → ((j : ℕ) → j < length vs → getD d (i + j) z ≡ getD vs j z) → sets d i vs ≡ d
+  sets-same [] d z i same = refl
+  sets-same (v ∷ vs) d z i same =
+      let here : getD d i z ≡ v = rw add-zero at (same 0 (omega arith)) in
+      let kept : set d i v ≡ d = ap (set d i) (sym here) ∙ set-getD d i z in
+      ap (λ (l : List A). sets l (suc i) vs) kept
+      ∙ sets-same vs d z (suc i) (λ j h. ap (λ (k : ℕ). getD d k z) (omega arith) ∙ same (suc j) (omega arith))
 
   -- ---- a table
 

@@ -2,6 +2,7 @@
 -- alone tell how the distances differ from the primary bytes.
 --   excess P j         what entry j has above the byte 255
 --   reading x          1 for a reading, a distance or byte that is not 0
+--   slot-below         entries before entry j have smaller slots
 --   gap-inline         a slot past entry j - 1 and before entry j is inline
 --   sum-entries        the sum of all distances: that of the bytes and of the excesses; sum-entries-of for any f
 --   readings-bytes     as many distances as bytes are not 0
@@ -30,7 +31,8 @@ abbrev pub reading : ℕ → ℕ
 reading x = flag (not (eqb x 0))
 
 module _ (P : Parts) (s : SoundParts P) (bytes : (i : ℕ) → P .byte i < 256) where
-  slot-below : (j t : ℕ) → t < j → j ≤ P .k → P .slot t < lowestSlot P j
+  -- the entries before entry j have slots below the least that it may have
+  pub slot-below : (j t : ℕ) → t < j → j ≤ P .k → P .slot t < lowestSlot P j
   slot-below zero t h inside = absurd (omega arith)
   slot-below (suc j) t h inside = omega (arith, slots-sorted P s t j (omega arith) (omega arith))
 

@@ -36,7 +36,7 @@ module _ (b : List ℕ) (n k : ℕ) (c : CheckedMap b n k) where
   pub primary-length : length (primaryOf b n) ≡ n
   primary-length = length-take-le n (drop 40 b) (simp length-drop (omega (arith, primary-inside)))
 
-  primary-at : (i : ℕ) → i < n → byteAt (primaryOf b n) i ≡ fileParts b n k .byte i
+  pub primary-at : (i : ℕ) → i < n → byteAt (primaryOf b n) i ≡ fileParts b n k .byte i
   primary-at i h = getD-take n (drop 40 b) i 0 h ∙ getD-drop 40 b i 0
 
   primary-table : primaryOf b n ≡ table (fileParts b n k .byte) 0 n

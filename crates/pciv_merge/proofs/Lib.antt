@@ -1,0 +1,4 @@
+pub mod LedLaws
+pub mod CombineLaws
+pub mod MendLaws
+pub mod JointLaws

@@ -1,0 +1,98 @@
+// The minimum, maximum or difference of two checked maps, written as a file: its length is known before the first
+// byte is written, and then its parts follow one another.
+ghost use mathlib.Core.Path.{_≡_};
+ghost use Prim.Native.Nat.{_+_, _*_, _≤_};
+ghost use lib.ListN.{length};
+ghost use lib.Seq.{sets};
+ghost use Rattle.pciv_format.specs.Layout.{primary, overflowCount, overflowPart};
+ghost use Rattle.pciv_format.specs.Refusals.{fileAnswer};
+ghost use Rattle.pciv_check.specs.Pair.{CheckedPair};
+ghost use Rattle.pciv_merge.specs.Merge.{resultOf, combinedInto, combinedBuffer};
+use crate::joint::put_joint;
+use crate::led::count_led;
+use crate::led::mend_led;
+use crate::led::put_led;
+use crate::primary::count_full_slots;
+use crate::primary::put_primary;
+use pciv_build::begin;
+use pciv_build::finish;
+use pciv_bytes::pairs::ByteOp;
+use pciv_format::FileAnswer;
+use pciv_format::HEADER_LEN;
+use pciv_format::SlotOp;
+
+// The slot operations whose result is never above the larger distance.
+pub enum MergeOp {
+    Minimum,
+    Maximum,
+    Difference,
+}
+
+// How many slots of the result are in overflow.
+fn count_overflow(op: MergeOp, a: &[u8], b: &[u8], n: usize, ka: usize, kb: usize) -> usize
+    requires { ⌜ CheckedPair (now a) (now b) n ka kb ⌝ }
+    ensures { λ r. ⌜ r ≡ overflowCount n (resultOf op (now (a .entry)) (now (b .entry)) n ka kb) ⌝ }
+{
+    match op {
+        MergeOp::Minimum => count_full_slots(ByteOp::Min, a, b, n, ka, kb),
+        MergeOp::Maximum => count_full_slots(ByteOp::Max, a, b, n, ka, kb),
+        MergeOp::Difference => count_led(SlotOp::Difference, a, b, n, ka, kb),
+    }
+}
+
+// Writes the primary array of the result.
+fn put_bytes(out: &mut [u8], op: MergeOp, a: &[u8], b: &[u8], n: usize, ka: usize, kb: usize)
+    requires { ⌜ CheckedPair (now a) (now b) n ka kb ⌝ }
+    requires { ⌜ 40 + n ≤ length (now out) ⌝ }
+    ensures { λ _. ⌜ now (out .exit) ≡ sets (now (out .entry)) 40 (primary n (resultOf op (now (a .entry)) (now (b .entry)) n ka kb)) ⌝ }
+{
+    match op {
+        MergeOp::Minimum => put_primary(out, ByteOp::Min, a, b, n, ka, kb),
+        MergeOp::Maximum => put_primary(out, ByteOp::Max, a, b, n, ka, kb),
+        MergeOp::Difference => {
+            put_primary(out, ByteOp::Sub, a, b, n, ka, kb);
+            mend_led(out, SlotOp::Difference, a, b, n, ka, kb);
+        }
+    }
+}
+
+// Writes the overflow entries of the result.
+fn put_entries(out: &mut [u8], op: MergeOp, a: &[u8], b: &[u8], n: usize, ka: usize, kb: usize)
+    requires { ⌜ CheckedPair (now a) (now b) n ka kb ⌝ }
+    requires { ⌜ 40 + n + 12 * overflowCount n (resultOf op (now a) (now b) n ka kb) ≤ length (now out) ⌝ }
+    ensures { λ _. ⌜ now (out .exit) ≡ sets (now (out .entry)) (40 + n) (overflowPart n (resultOf op (now (a .entry)) (now (b .entry)) n ka kb)) ⌝ }
+{
+    let from = HEADER_LEN + n;
+    match op {
+        MergeOp::Minimum => put_led(out, SlotOp::Minimum, a, b, n, ka, kb, from),
+        MergeOp::Maximum => put_joint(out, a, b, n, ka, kb, from),
+        MergeOp::Difference => put_led(out, SlotOp::Difference, a, b, n, ka, kb, from),
+    }
+}
+
+// Writes the file of the result, or refuses with 12.
+pub fn combine_into(
+    out: &mut [u8],
+    op: MergeOp,
+    a: &[u8],
+    b: &[u8],
+    n: usize,
+    ka: usize,
+    kb: usize,
+) -> FileAnswer
+    requires { ⌜ CheckedPair (now a) (now b) n ka kb ⌝ }
+    ensures answer { λ r. ⌜ r ≡ fileAnswer (combinedInto op (now (a .entry)) (now (b .entry)) n ka kb (length (now (out .entry)))) ⌝ }
+    ensures buffer { λ _. ⌜ now (out .exit) ≡ combinedBuffer op (now (a .entry)) (now (b .entry)) n ka kb (now (out .entry)) ⌝ }
+{
+    let k = count_overflow(op, a, b, n, ka, kb);
+    let begun = begin(out, n, k);
+    match begun {
+        FileAnswer::Refused(r) => FileAnswer::Refused(r),
+        FileAnswer::Done(s) => {
+            put_bytes(out, op, a, b, n, ka, kb);
+            put_entries(out, op, a, b, n, ka, kb);
+            finish(out, n, k);
+            FileAnswer::Done(s)
+        }
+    }
+}
