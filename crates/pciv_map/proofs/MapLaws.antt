@@ -19,7 +19,7 @@ use Rattle.pciv_format.specs.Parts.{valueOf}
 use Rattle.pciv_format.specs.Check.{fileParts, CheckedMap}
 use Rattle.pciv_format.proofs.LayoutLaws.{fileLen-is}
 use Rattle.pciv_map.proofs.EntryLaws.{excess, reading, sum-entries, readings-bytes}
-use Rattle.pciv_map.proofs.PatchLaws.{over, over-sets, patched-start}
+use Rattle.pciv_map.proofs.PatchLaws.{plain, over, over-sets, patched-start}
 
 abbrev pub primaryOf : List ℕ → ℕ → List ℕ
 primaryOf b n = take n (drop 40 b)
@@ -59,10 +59,10 @@ module _ (b : List ℕ) (n k : ℕ) (c : CheckedMap b n k) where
 
   module _ (bytes : Bytes b) where
     -- the primary bytes at the front of a list, patched by no entry yet
-    pub primary-over : (d : List ℕ) → n ≤ length d → sets d 0 (primaryOf b n) ≡ over (fileParts b n k) 0 d
+    pub primary-over : (d : List ℕ) → n ≤ length d → sets d 0 (primaryOf b n) ≡ over plain (fileParts b n k) 0 d
     primary-over d long =
-        ap (sets d 0) (primary-table ∙ sym (patched-start (fileParts b n k) (c .parts) (λ i. bytes (40 + i))))
-        ∙ over-sets (fileParts b n k) 0 d long
+        ap (sets d 0) (primary-table ∙ sym (patched-start plain (fileParts b n k) (c .parts) (λ i. bytes (40 + i))))
+        ∙ over-sets plain (fileParts b n k) 0 d long
 
     pub sum-primary : sumFrom (byteAt (primaryOf b n)) 0 (length (primaryOf b n))
         + sumFrom (excess (fileParts b n k)) 0 k

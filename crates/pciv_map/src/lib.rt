@@ -1,5 +1,5 @@
 // Routines on a map whose file was checked: each asks for `CheckedMap`, or for the primary array alone.
-mod entries;
+pub mod entries;
 pub mod lookup;
 pub mod scan;
 pub mod totals;
