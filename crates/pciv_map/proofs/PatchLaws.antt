@@ -140,6 +140,10 @@ module _ {A : Type 0} (f : ℕ → ℕ → A) where
 
     -- ---- patching at the front of a list
 
+    pub over-start : (d : List A) → P .n ≤ length d
+        → sets d 0 (table (λ (i : ℕ). f i (P .byte i)) 0 (P .n)) ≡ over P 0 d
+    over-start d long = ap (sets d 0) (sym patched-start) ∙ over-sets P 0 d long
+
     -- what stands at the slot of entry j before its turn
     pub over-at : (j : ℕ) (d : List A) (z : A) → j < P .k → getD (over P j d) (P .slot j) z ≡ f (P .slot j) 255
     over-at j d z here =
