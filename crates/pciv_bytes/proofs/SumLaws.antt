@@ -52,9 +52,13 @@ unfolding sumFrom
 sumFrom-le f b each i zero = omega arith
 sumFrom-le f b each i (suc c) = omega (arith, each i, sumFrom-le f b each (suc i) c)
 
+-- no more numbers pass a test than there are
+pub sumFrom-flag-le : (p : ℕ → Bool) (i c : ℕ) → sumFrom (λ (j : ℕ). flag (p j)) i c ≤ c
+sumFrom-flag-le p i c = omega (arith, sumFrom-le (λ (j : ℕ). flag (p j)) 1 (λ j. flag-le (p j)) i c)
+
 -- no more bytes are x than there are bytes, and a sum of bytes is at most 255 for each
 pub sumFrom-byteIs-le : (xs : List ℕ) (x i c : ℕ) → sumFrom (byteIs xs x) i c ≤ c
-sumFrom-byteIs-le xs x i c = omega (arith, sumFrom-le (byteIs xs x) 1 (λ j. flag-le (eqb (byteAt xs j) x)) i c)
+sumFrom-byteIs-le xs x i c = sumFrom-flag-le (λ (j : ℕ). eqb (byteAt xs j) x) i c
 
 pub sumFrom-byteAt-le : (xs : List ℕ) → Bytes xs → (i c : ℕ) → sumFrom (byteAt xs) i c ≤ 255 * c
 sumFrom-byteAt-le xs bytes i c = sumFrom-le (byteAt xs) 255 (λ j. omega (arith, bytes j)) i c

@@ -1,3 +1,4 @@
 pub mod Ranges
 pub mod LittleEndian
 pub mod Counts
+pub mod Pairs

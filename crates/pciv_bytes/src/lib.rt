@@ -1,4 +1,5 @@
-// Bytes: little-endian numbers, counts and sums, copies. Nothing here knows of PCIV.
+// Bytes: little-endian numbers, counts and sums, copies, two lists byte by byte. Nothing here knows of PCIV.
 pub mod copies;
 pub mod counts;
 pub mod little_endian;
+pub mod pairs;

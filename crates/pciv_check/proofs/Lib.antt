@@ -3,3 +3,4 @@ pub mod CountLaws
 pub mod RefusalLaws
 pub mod EntryLaws
 pub mod IndexLaws
+pub mod PairLaws

@@ -33,6 +33,8 @@ use pciv_format::Summary;
 use pciv_format::TOO_MANY_SLOTS;
 use pciv_format::TRUNCATED_HEADER;
 
+pub mod pair;
+
 // A refusal as an answer.
 fn refused(number: usize, map: usize, place: usize) -> FileAnswer
     ensures { λ r. ⌜ r ≡ fileAnswer (refuse number map place) ⌝ }

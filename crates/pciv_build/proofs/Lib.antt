@@ -1,0 +1,3 @@
+pub mod BuildLaws
+pub mod EntriesLaws
+pub mod IndexLaws

@@ -1,0 +1,29 @@
+-- A file written part by part (docs/FORMAT.md, "Writing").
+--   beginOutcome n k room     beginning a file in a buffer of `room` bytes: its summary, or refusal 12
+--   beginBuffer n k d         the buffer d after that: the header at its front, or unchanged
+--   indexEntryFrom d n k i    index entry i, read off the overflow entries that stand in d
+--   indexFrom d n k           the whole sparse index, read off them
+-- Laws are in proofs/BuildLaws.antt. Axioms: none.
+use Prim.Native.Nat.{ℕ, _+_, _*_}
+use mathlib.Core.Bool.{cond}
+use mathlib.Core.List.{List, _++_}
+use lib.ListN.{length}
+use lib.Seq.{sets}
+use lib.Dec.{ltb}
+use Rattle.pciv_bytes.specs.Ranges.{table, joined}
+use Rattle.pciv_bytes.specs.LittleEndian.{le, get}
+use Rattle.pciv_format.specs.Layout.{indexStep, indexLen, fileLen, header, countsOf}
+use Rattle.pciv_format.specs.Refusals.{Outcome, done, refuse, refuseIf}
+use Rattle.pciv_format.specs.declared.Summary.{Summary}
+
+unfoldable pub beginOutcome : ℕ → ℕ → ℕ → Outcome Summary
+beginOutcome n k room = refuseIf (ltb room (fileLen n k)) (refuse 12 0 0) (done (countsOf n k))
+
+unfoldable pub beginBuffer : ℕ → ℕ → List ℕ → List ℕ
+beginBuffer n k d = cond (ltb (length d) (fileLen n k)) d (sets d 0 (header n k))
+
+unfoldable pub indexEntryFrom : List ℕ → ℕ → ℕ → ℕ → List ℕ
+indexEntryFrom d n k i = le 8 (get 8 d (40 + n + 12 * (i * indexStep k))) ++ le 8 (i * indexStep k)
+
+unfoldable pub indexFrom : List ℕ → ℕ → ℕ → List ℕ
+indexFrom d n k = joined (indexEntryFrom d n k) (table (λ (i : ℕ). i) 0 (indexLen k))

@@ -1,0 +1,77 @@
+-- Proves pciv_check::pair::check_pair: the first file, the second, then their sizes.
+use mathlib.Core.Path.{_≡_, sym, ap, _∙_}
+use Rattle.pciv_format.specs.Refusals.{done, refused}
+use Rattle.pciv_format.specs.Check.{checkFile}
+use Rattle.pciv_format.proofs.RefusalsLaws.{fileAnswer-done, fileAnswer-refused}
+use borrow.Author.Needs.{needs}
+use Rattle.pciv_check.specs.Pair.{pairAnswer}
+use Rattle.pciv_check.proofs.PairLaws.{pairCounts-first, pairCounts-second, pairCounts-sizes, pairCounts-both}
+use Rattle.pciv_check.proofs.pair.check_pair.Statement.{statement}
+use Rattle.pciv_check.proofs.pair.check_pair.Tie as tie
+
+-- the counts of the first file, and of the second
+first-done : (c : tie.After-first2) → checkFile 1 (c .before .before .before .before .before .args .a .now) ≡ done (c .first2 .given .0 .0)
+first-done c = fileAnswer-done _ _ (sym (c .first2 .given .1) ∙ c .before .before .check .ensures)
+
+second-done : (c : tie.After-second2)
+    → (let f = c .before .before .before .before in
+    checkFile 2 (f .before .before .before .before .before .args .b .now) ≡ done (c .second2 .given .0 .0))
+second-done c = fileAnswer-done _ _ (sym (c .second2 .given .1) ∙ c .before .before .check2 .ensures)
+
+check-requires : tie.Need-check-requires
+check-requires c κs = search needs
+
+enum-known-first : tie.Need-enum-known-first
+enum-known-first c = search needs
+
+enum-known-first-2 : tie.Need-enum-known-first-2
+enum-known-first-2 c = search needs
+
+check-requires-2 : tie.Need-check-requires-2
+check-requires-2 c κs = search needs
+
+enum-known-second : tie.Need-enum-known-second
+enum-known-second c = search needs
+
+enum-known-second-2 : tie.Need-enum-known-second-2
+enum-known-second-2 c = search needs
+
+returns : tie.Need-returns
+returns c =
+    let t = c .before .before .before .before in
+    let f = t .before .before .before .before in
+    ap pairAnswer (sym (pairCounts-sizes _ _ _ (first-done f) _ (second-done t) (c .if1 .taken)))
+
+returns-2 : tie.Need-returns-2
+returns-2 c =
+    let f = c .before in
+    ap pairAnswer
+    (sym (pairCounts-first _ _ _ (fileAnswer-refused _ _ (sym (f .first .given .1) ∙ f .before .before .check .ensures))))
+
+returns-3 : tie.Need-returns-3
+returns-3 c =
+    let t = c .before in
+    let f = t .before .before .before .before in
+    let no = fileAnswer-refused _ _ (sym (t .second .given .1) ∙ t .before .before .check2 .ensures) in
+    ap pairAnswer (sym (pairCounts-second _ _ _ (first-done f) _ no))
+
+returns-4 : tie.Need-returns-4
+returns-4 c =
+    let t = c .before .before .before .before in
+    let f = t .before .before .before .before in
+    ap pairAnswer (sym (pairCounts-both _ _ _ (first-done f) _ (second-done t) (c .if1 .left)))
+
+pub check-pair-spec : {M : Type 1} → statement M
+check-pair-spec =
+    tie.close
+    (tie.spec
+    check-requires
+    enum-known-first
+    enum-known-first-2
+    check-requires-2
+    enum-known-second
+    enum-known-second-2
+    returns
+    returns-2
+    returns-3
+    returns-4)
