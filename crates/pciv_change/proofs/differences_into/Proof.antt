@@ -18,8 +18,8 @@ given : (c : tie.After-byte-differences-arg3)
     → (let a = entry c .args in Given (a .a .now) (a .b .now) (a .n) (a .ka) (a .kb) (a .out .now))
 given c =
     record {
-      first = entry c .pre .0 .0;
-      second = entry c .pre .0 .1;
+      first = entry c .pre .0 .first;
+      second = entry c .pre .0 .second;
       bytes-a = λ i. c .before .before .before .before .shared-slice-known .given i .fits;
       bytes-b = λ i. c .before .before .before .shared-slice-known2 .given i .fits;
       long = entry c .pre .1;
@@ -52,7 +52,7 @@ part-byte-differences-start c = search needs
 part-byte-differences-end : tie.Need-part-byte-differences-end
 part-byte-differences-end c =
     let s = c .before .before in
-    primary-inside (s .args .a .now) (s .args .n) (s .args .ka) (s .pre .0 .0)
+    primary-inside (s .args .a .now) (s .args .n) (s .args .ka) (s .pre .0 .first)
 
 sub-byte-differences-2 : tie.Need-sub-byte-differences-2
 sub-byte-differences-2 c = search needs
@@ -63,13 +63,13 @@ part-byte-differences-start-2 c = search needs
 part-byte-differences-end-2 : tie.Need-part-byte-differences-end-2
 part-byte-differences-end-2 c =
     let s = c .before .before .before in
-    primary-inside (s .args .b .now) (s .args .n) (s .args .kb) (s .pre .0 .1)
+    primary-inside (s .args .b .now) (s .args .n) (s .args .kb) (s .pre .0 .second)
 
 byte-differences-requires : tie.Need-byte-differences-requires
 byte-differences-requires c κs =
     let s = entry c in
     let a = s .args in
-    rw (add-sub-cancel-left 40 (a .n), primary-length (a .a .now) (a .n) (a .ka) (s .pre .0 .0), primary-length (a .b .now) (a .n) (a .kb) (s .pre .0 .1))
+    rw (add-sub-cancel-left 40 (a .n), primary-length (a .a .now) (a .n) (a .ka) (s .pre .0 .first), primary-length (a .b .now) (a .n) (a .kb) (s .pre .0 .second))
     (refl, s .pre .1)
 
 move-entries-requires : tie.Need-move-entries-requires
