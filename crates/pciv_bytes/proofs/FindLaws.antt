@@ -1,6 +1,6 @@
 -- Laws of searching a range: nothing was found so far, a block or a place further, and where something is found.
 use mathlib.Core.Path.{_≡_, _∙_, ap}
-use Prim.Native.Nat.{ℕ, _+_, _≤_, _<_}
+use Prim.Native.Nat.{ℕ, _+_, _-_, _≤_, _<_}
 use native.Mathlib.Nat.{le-refl}
 use native.Mathlib.Omega.{arith}
 use native.Mathlib.Decide.{decLe}
@@ -43,3 +43,15 @@ module _ {p : ℕ → Bool} {from to r : ℕ} (e : Clear p from to r) where
 
   pub not-found : to ≤ r → Next p from to r
   not-found h = record { before = e; has = λ h'. absurd (omega arith) }
+
+-- ---- a range that starts k further on
+
+pub next-shift : (p : ℕ → Bool) (k from to r : ℕ) → Next p (k + from) (k + to) r → Next (λ (i : ℕ). p (k + i)) from to (r - k)
+next-shift p k from to r e =
+    let low : k + from ≤ r = e .before .low in
+    let high : r ≤ k + to = e .before .high in
+    let there : k + (r - k) ≡ r = omega arith in
+    record {
+      before = record { low = omega arith; high = omega arith; clear = λ j h₁ h₂. e .before .clear (k + j) (omega arith) (omega arith) };
+      has = λ h. ap p there ∙ e .has (omega arith);
+    }

@@ -1,0 +1,4 @@
+pub mod PairOfParts
+pub mod BytesLaws
+pub mod LargeLaws
+pub mod PutLaws
