@@ -2,3 +2,4 @@ pub mod PairOfParts
 pub mod BytesLaws
 pub mod LargeLaws
 pub mod PutLaws
+pub mod IntoLaws
