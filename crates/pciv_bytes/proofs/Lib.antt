@@ -5,3 +5,4 @@ pub mod JoinedLaws
 pub mod LittleEndianLaws
 pub mod WriteLaws
 pub mod AnyLaws
+pub mod FindLaws

@@ -7,6 +7,7 @@ use Prim.Native.Nat.{ℕ, zero, suc, _+_, _-_, _*_, _≤_, _<_}
 use native.Mathlib.Nat.{zero-add, add-zero}
 use native.Mathlib.Numerals.{add-one}
 use native.Mathlib.Omega.{arith}
+use native.Mathlib.Decide.{decLe}
 use lib.Dec.{eqb}
 use mir.Val.{boolByte}
 use Rattle.pciv_bytes.specs.Ranges.{flag, sumFrom}
@@ -62,6 +63,20 @@ sumFrom-byteIs-le xs x i c = sumFrom-flag-le (λ (j : ℕ). eqb (byteAt xs j) x)
 
 pub sumFrom-byteAt-le : (xs : List ℕ) → Bytes xs → (i c : ℕ) → sumFrom (byteAt xs) i c ≤ 255 * c
 sumFrom-byteAt-le xs bytes i c = sumFrom-le (byteAt xs) 255 (λ j. omega (arith, bytes j)) i c
+
+-- a sum of 0 has only terms 0
+pub sumFrom-zero : (f : ℕ → ℕ) (c i j : ℕ) → sumFrom f i c ≡ 0 → i ≤ j → j < i + c → f j ≡ 0
+unfolding sumFrom
+sumFrom-zero f zero i j e low high = absurd (omega arith)
+sumFrom-zero f (suc c) i j e low high =
+    elim (decLe j i) [
+      | yes d ↦ (let same : j ≡ i = omega arith in rw same (omega arith))
+      | no d ↦ sumFrom-zero f c (suc i) j (omega arith) (omega arith) (omega arith)
+    ]
+
+pub flag-zero : (b : Bool) → flag b ≡ 0 → b ≡ false
+flag-zero true e = absurd (omega arith)
+flag-zero false e = refl
 
 pub sumFrom-cong : (f g : ℕ → ℕ) (i c : ℕ) → ((j : ℕ) → i ≤ j → j < i + c → f j ≡ g j) → sumFrom f i c ≡ sumFrom g i c
 unfolding sumFrom

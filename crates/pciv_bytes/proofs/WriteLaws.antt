@@ -5,10 +5,9 @@ use Prim.Native.Nat.{ℕ, suc, _+_, _-_, _/_, _%_, _≤_, _<_}
 use native.Mathlib.Nat.{add-zero, zero-add, sub-zero}
 use native.Mathlib.Numerals.{add-one}
 use native.Mathlib.Omega.{arith}
-use native.Mathlib.Decide.{decLe}
-use mathlib.Core.List.{List, [], _∷_, _++_}
-use lib.ListN.{length, getD, take, drop, set, replicate, drop-of-length-le, length-append, List·getD-append}
-use lib.Seq.{sets, sets-eq, length-take-le, take-set-le, drop-cons, getD-append-add, set-getD, set-set, set-comm}
+use mathlib.Core.List.{List, [], _∷_, _++_, append-assoc}
+use lib.ListN.{length, getD, take, drop, set, replicate, drop-of-length-le, length-append, length-set, List·getD-append}
+use lib.Seq.{sets, sets-eq, length-take-le, take-set-le, drop-cons, getD-append-add, set-getD, set-set, set-comm, set-append-left}
 use Rattle.pciv_bytes.specs.LittleEndian.{le}
 use Rattle.pciv_bytes.specs.Ranges.{table}
 use Rattle.pciv_bytes.proofs.RangesLaws.{table-rest, table-done}
@@ -27,6 +26,40 @@ module _ {A : Type 0} where
   -- a list written at the front
   pub sets-front : (f d : List A) → length f ≤ length d → sets d 0 f ≡ f ++ drop (length f) d
   sets-front f d h = sets-eq f d 0 (omega arith) ∙ ap (λ (k : ℕ). f ++ drop k d) (zero-add (length f))
+
+  -- what stands before, in, and behind the place where a list was written
+  sets-split : (d l : List A) (p : ℕ) → p + length l ≤ length d → sets d p l ≡ take p d ++ (l ++ drop (p + length l) d)
+  sets-split d l p room = sets-eq l d p room ∙ append-assoc (take p d) l (drop (p + length l) d)
+
+  -- what is read where a list was written
+  pub sets-at : (d l : List A) (p i : ℕ) (z : A) → p + length l ≤ length d → i < length l
+      → getD (sets d p l) (p + i) z ≡ getD l i z
+  sets-at d l p i z room h =
+      let rest : List A = drop (p + length l) d in
+      let front : length (take p d) ≡ p = length-take-le p d (omega arith) in
+      ap (λ (m : List A). getD m (p + i) z) (sets-split d l p room)
+      ∙ ap (λ (m : ℕ). getD (take p d ++ (l ++ rest)) (m + i) z) (sym front)
+      ∙ getD-append-add (take p d) (l ++ rest) i z
+      ∙ List·getD-append l rest z i h
+
+  set-behind : (xs ys : List A) (i : ℕ) (x : A) → set (xs ++ ys) (length xs + i) x ≡ xs ++ set ys i x
+  set-behind [] ys i x = rw zero-add
+  set-behind (y ∷ xs) ys i x =
+      let e : suc (length xs) + i ≡ suc (length xs + i) = omega arith in
+      rw e (ap (λ (l : List A). y ∷ l) (set-behind xs ys i x))
+
+  -- an element written where a list was written
+  pub set-sets : (d l : List A) (p i : ℕ) (x : A) → p + length l ≤ length d → i < length l
+      → set (sets d p l) (p + i) x ≡ sets d p (set l i x)
+  set-sets d l p i x room h =
+      let rest : List A = drop (p + length l) d in
+      let front : length (take p d) ≡ p = length-take-le p d (omega arith) in
+      let same : length (set l i x) ≡ length l = length-set l i x in
+      ap (λ (m : List A). set m (p + i) x) (sets-split d l p room)
+      ∙ ap (λ (m : ℕ). set (take p d ++ (l ++ rest)) (m + i) x) (sym front)
+      ∙ set-behind (take p d) (l ++ rest) i x
+      ∙ ap (λ (m : List A). take p d ++ m) (set-append-left l rest i x h)
+      ∙ sym (sets-split d (set l i x) p (rw same room) ∙ rw same)
 
   -- the first element of what is left to write
   pub sets-cons : (d l : List A) (x : A) (rest : List A) (i next : ℕ) → l ≡ x ∷ rest → next ≡ i + 1

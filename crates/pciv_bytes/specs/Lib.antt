@@ -3,3 +3,4 @@ pub mod LittleEndian
 pub mod Counts
 pub mod Any
 pub mod Pairs
+pub mod Find

@@ -1,29 +1,45 @@
-// How many bytes are equal to a given one, and the sum of bytes. Counters are narrow, so that the
+// How many bytes pass a test, and the sum of bytes. Counters are narrow, so that the
 // compiler counts many bytes at once, and so the bytes are taken block by block.
 ghost use mathlib.Core.Path.{_≡_};
 ghost use Prim.Native.Nat.{_-_, _^_, _≤_, _<_};
 ghost use lib.ListN.{length};
-ghost use Rattle.pciv_bytes.specs.Ranges.{sumFrom};
-ghost use Rattle.pciv_bytes.specs.Counts.{byteAt, byteIs, termAt, Part};
+ghost use Rattle.pciv_bytes.specs.Ranges.{flag, sumFrom};
+ghost use Rattle.pciv_bytes.specs.Counts.{byteAt, byteIs, byteFrom, passes, testAt, termAt, Part};
 
-// What is added up: 1 for each byte equal to the given one, or the bytes themselves.
-enum Term {
+// A test of bytes: equal to the given one, or not below it.
+pub enum Test {
     Equal(u8),
+    AtLeast(u8),
+}
+
+// What is added up: 1 for each byte that passes a test, or the bytes themselves.
+enum Term {
+    Passing(Test),
     Byte,
 }
 
 // The bytes that are counted at once: at most 255, so that a byte can hold their count.
 const BLOCK: usize = 192;
 
-// How many of the bytes from `from` up to `to` are x.
-fn count_part(a: &[u8], from: usize, to: usize, x: u8) -> u8
+// 1 where a byte passes the test, else 0.
+fn passing(test: Test, x: u8) -> u8
+    ensures { λ r. ⌜ r ≡ flag (passes test x) ⌝ }
+{
+    match test {
+        Test::Equal(y) => (x == y) as u8,
+        Test::AtLeast(y) => (y <= x) as u8,
+    }
+}
+
+// How many of the bytes from `from` up to `to` pass the test.
+pub fn count_part(test: Test, a: &[u8], from: usize, to: usize) -> u8
     requires { ⌜ Part (now a) from to ⌝ }
-    ensures { λ r. ⌜ r ≡ sumFrom (byteIs (now (a .entry)) x) from (to - from) ⌝ }
+    ensures { λ r. ⌜ r ≡ sumFrom (testAt test (now (a .entry))) from (to - from) ⌝ }
 {
     let mut sum: u8 = 0;
     let mut i = from;
     while i < to {
-        sum += (a[i] == x) as u8;
+        sum += passing(test, a[i]);
         i += 1;
     }
     sum
@@ -49,7 +65,7 @@ fn add_part(of: Term, a: &[u8], from: usize, to: usize) -> usize
     ensures { λ r. ⌜ r ≡ sumFrom (termAt of (now (a .entry))) from (to - from) ⌝ }
 {
     match of {
-        Term::Equal(x) => count_part(a, from, to, x) as usize,
+        Term::Passing(test) => count_part(test, a, from, to) as usize,
         Term::Byte => sum_part(a, from, to) as usize,
     }
 }
@@ -73,7 +89,14 @@ fn add_up(of: Term, a: &[u8]) -> usize
 pub fn count_byte(a: &[u8], x: u8) -> usize
     ensures { λ r. ⌜ r ≡ sumFrom (byteIs (now (a .entry)) x) 0 (length (now (a .entry))) ⌝ }
 {
-    add_up(Term::Equal(x), a)
+    add_up(Term::Passing(Test::Equal(x)), a)
+}
+
+// How many bytes of a are x or more.
+pub fn count_from(a: &[u8], x: u8) -> usize
+    ensures { λ r. ⌜ r ≡ sumFrom (byteFrom (now (a .entry)) x) 0 (length (now (a .entry))) ⌝ }
+{
+    add_up(Term::Passing(Test::AtLeast(x)), a)
 }
 
 // The sum of the bytes of a.

@@ -6,7 +6,7 @@ ghost use lib.ListN.{length};
 ghost use lib.Seq.{sets};
 ghost use Rattle.pciv_bytes.specs.Ranges.{table, sumFrom};
 ghost use Rattle.pciv_bytes.specs.Counts.{Part};
-ghost use Rattle.pciv_bytes.specs.Pairs.{byteOp, pairAt, fullAt};
+ghost use Rattle.pciv_bytes.specs.Pairs.{byteOp, pairAt, oneAt, fullAt};
 
 // What is done with two bytes.
 pub enum ByteOp {
@@ -40,6 +40,18 @@ pub fn zip_into(op: ByteOp, a: &[u8], b: &[u8], out: &mut [u8], at: usize)
     let mut i = 0;
     while i < a.len() {
         out[at + i] = byte_op(op, a[i], b[i]);
+        i += 1;
+    }
+}
+
+// The operation on every byte and x, written from `at` on.
+pub fn map_into(op: ByteOp, a: &[u8], x: u8, out: &mut [u8], at: usize)
+    requires { ⌜ at + length (now a) ≤ length (now out) ⌝ }
+    ensures { λ _. ⌜ now (out .exit) ≡ sets (now (out .entry)) at (table (oneAt op (now (a .entry)) x) 0 (length (now (a .entry)))) ⌝ }
+{
+    let mut i = 0;
+    while i < a.len() {
+        out[at + i] = byte_op(op, a[i], x);
         i += 1;
     }
 }

@@ -3,3 +3,4 @@ pub mod LookupLaws
 pub mod EntryLaws
 pub mod PatchLaws
 pub mod MapLaws
+pub mod CursorLaws

@@ -1,5 +1,7 @@
 -- Laws of a checked map: where its primary bytes and overflow entries stand, and what they add up to.
 --   primaryOf b n    the primary bytes, as the part of b that is lent to other routines
+--   primary-at       byte i of them
+--   value-lt         every distance fits 32 bits
 --   sum-primary      what the primary bytes and the entries add up to; readings-primary likewise for readings
 -- Axioms: none.
 use mathlib.Core.Path.{_≡_, sym, ap, _∙_}
@@ -15,11 +17,13 @@ use Rattle.pciv_bytes.specs.Counts.{byteAt}
 use Rattle.pciv_bytes.proofs.RangesLaws.{length-table, getD-table}
 use Rattle.pciv_bytes.proofs.SumLaws.{sumFrom-cong, sumFrom-le}
 use Rattle.pciv_bytes.proofs.LittleEndianLaws.{get-lt}
+use Rattle.pciv_format.specs.Layout.{maxDistance}
 use Rattle.pciv_format.specs.Parts.{valueOf}
 use Rattle.pciv_format.specs.Check.{fileParts, CheckedMap}
+use Rattle.pciv_format.proofs.PartsLaws.{valueOf-le}
 use Rattle.pciv_format.proofs.LayoutLaws.{fileLen-is}
 use Rattle.pciv_map.proofs.EntryLaws.{excess, reading, sum-entries, readings-bytes}
-use Rattle.pciv_map.proofs.PatchLaws.{over, over-sets, patched-start}
+use Rattle.pciv_map.proofs.PatchLaws.{plain, over, over-sets, patched-start}
 
 abbrev pub primaryOf : List ℕ → ℕ → List ℕ
 primaryOf b n = take n (drop 40 b)
@@ -59,10 +63,17 @@ module _ (b : List ℕ) (n k : ℕ) (c : CheckedMap b n k) where
 
   module _ (bytes : Bytes b) where
     -- the primary bytes at the front of a list, patched by no entry yet
-    pub primary-over : (d : List ℕ) → n ≤ length d → sets d 0 (primaryOf b n) ≡ over (fileParts b n k) 0 d
+    pub primary-over : (d : List ℕ) → n ≤ length d → sets d 0 (primaryOf b n) ≡ over plain (fileParts b n k) 0 d
     primary-over d long =
-        ap (sets d 0) (primary-table ∙ sym (patched-start (fileParts b n k) (c .parts) (λ i. bytes (40 + i))))
-        ∙ over-sets (fileParts b n k) 0 d long
+        ap (sets d 0) (primary-table ∙ sym (patched-start plain (fileParts b n k) (c .parts) (λ i. bytes (40 + i))))
+        ∙ over-sets plain (fileParts b n k) 0 d long
+
+    pub value-lt : (i : ℕ) → i < n → valueOf (fileParts b n k) i < 2 ^ 32
+    value-lt i inside =
+        let P = fileParts b n k in
+        let each : (j : ℕ) → j < k → P .distance j ≤ maxDistance =
+        λ j h. omega (arith, get-lt 4 b (40 + n + 12 * j + 8) bytes) in
+        omega (arith, valueOf-le P (c .parts) (λ t. bytes (40 + t)) each i inside)
 
     pub sum-primary : sumFrom (byteAt (primaryOf b n)) 0 (length (primaryOf b n))
         + sumFrom (excess (fileParts b n k)) 0 k

@@ -1,39 +1,37 @@
--- Proves counts::count_part. Invariant: sum counts the bytes x from `from` up to i. Falls: to - i.
+-- Proves counts::count_part. Invariant: sum counts the bytes from `from` up to i that pass. Falls: to - i.
 use Prim.Native.Nat.{_-_}
 use native.Mathlib.Omega.{arith}
-use lib.Dec.{eqb}
-use borrow.Author.Needs.{needs}
 use Rattle.pciv_bytes.specs.Ranges.{sumFrom}
-use Rattle.pciv_bytes.specs.Counts.{byteAt, byteIs}
-use Rattle.pciv_bytes.proofs.SumLaws.{boolByte-flag, sumFrom-byteIs-le, Added, added-none, added-one, added-all}
+use Rattle.pciv_bytes.specs.Counts.{byteAt, passes, testAt}
+use Rattle.pciv_bytes.proofs.SumLaws.{sumFrom-flag-le, Added, added-none, added-one, added-all}
+use borrow.Author.Needs.{needs}
 use Rattle.pciv_bytes.proofs.counts.count_part.Statement.{statement}
 use Rattle.pciv_bytes.proofs.counts.count_part.Tie as tie
 
 abbrev Inv-loop : tie.InvT-loop
-Inv-loop a from to x sum₀ i₀ sum i = Added (byteIs a x) to (sumFrom (byteIs a x) from (to - from)) i sum
+Inv-loop test a from to sum₀ i₀ sum i = Added (testAt test a) to (sumFrom (testAt test a) from (to - from)) i sum
 
 abbrev μ-loop : tie.MeasureT-loop
-μ-loop a from to x sum₀ i₀ sum i = to - i
+μ-loop test a from to sum₀ i₀ sum i = to - i
 
 loop-holds : tie.Need-loop-holds Inv-loop μ-loop
-loop-holds c = added-none _ _ _ (c .pre .order)
+loop-holds c = added-none _ _ _ (c .before .pre .order)
 
-shared-slice-read-sum : tie.Need-shared-slice-read-sum Inv-loop μ-loop
-shared-slice-read-sum c = search needs
+shared-slice-read-passing : tie.Need-shared-slice-read-passing Inv-loop μ-loop
+shared-slice-read-passing c = search needs
 
-cast-sum : tie.Need-cast-sum Inv-loop μ-loop
-cast-sum c = tt
+passing-requires : tie.Need-passing-requires Inv-loop μ-loop
+passing-requires c κs = search needs
 
 loop-again : tie.Need-loop-again Inv-loop μ-loop
 loop-again c =
     let d = c .before .before in
-    let a = d .before .args in
-    rw (boolByte-flag (eqb (byteAt (a .a .now) (d .loop .i)) (a .x))) (added-one (d .loop .inv) (omega arith))
+    rw (c .passing .ensures) (added-one (d .before .loop .inv) (omega arith))
 
 add-sum : tie.Need-add-sum Inv-loop μ-loop
 add-sum c =
-    let a = c .before .before .before .args in
-    omega (arith, loop-again c .rest, sumFrom-byteIs-le (a .a .now) (a .x) (a .from) (a .to - a .from))
+    let a = c .before .before .before .before .before .args in
+    omega (arith, loop-again c .rest, sumFrom-flag-le (λ i. passes (a .test) (byteAt (a .a .now) i)) (a .from) (a .to - a .from))
 
 add-i : tie.Need-add-i Inv-loop μ-loop
 add-i c = search needs
@@ -42,9 +40,7 @@ loop-less : tie.Need-loop-less Inv-loop μ-loop
 loop-less c = search needs
 
 returns : tie.Need-returns Inv-loop μ-loop
-returns c =
-    let l = c .before .loop in
-    added-all (l .inv) (omega arith)
+returns c = added-all (c .before .loop .inv) (omega arith)
 
 pub count-part-spec : {M : Type 1} → statement M
 count-part-spec =
@@ -53,8 +49,8 @@ count-part-spec =
     Inv-loop
     μ-loop
     loop-holds
-    shared-slice-read-sum
-    cast-sum
+    shared-slice-read-passing
+    passing-requires
     add-sum
     add-i
     loop-less

@@ -10,14 +10,14 @@ use Rattle.pciv_bytes.specs.LittleEndian.{Bytes}
 use Rattle.pciv_format.specs.Parts.{Parts}
 use Rattle.pciv_format.specs.Check.{fileParts}
 use Rattle.pciv_format.proofs.PartsLaws.{entry-good}
-use Rattle.pciv_map.proofs.PatchLaws.{over, over-again, over-more, over-end}
+use Rattle.pciv_map.proofs.PatchLaws.{plain, over, over-again, over-more, over-end}
 use Rattle.pciv_map.proofs.MapLaws.{entry-inside, primary-inside, primary-length, primary-over}
 use Rattle.pciv_map.proofs.scan.scan_into.Statement.{statement}
 use Rattle.pciv_map.proofs.scan.scan_into.Tie as tie
 
 abbrev Inv-loop : tie.InvT-loop
 Inv-loop file n k out₀ end j₀ out j =
-    (j ≤ k) × (length out ≡ length out₀) × (out ≡ over (fileParts file n k) j out₀)
+    (j ≤ k) × (length out ≡ length out₀) × (out ≡ over plain (fileParts file n k) j out₀)
 
 abbrev μ-loop : tie.MeasureT-loop
 μ-loop file n k out₀ end j₀ out j = k - j
@@ -55,7 +55,7 @@ bytes : (c : tie.After-widen Inv-loop μ-loop) → Bytes (entry c .args .file .n
 bytes c i = c .before .before .before .before .shared-slice-known .given i .fits
 
 -- the primary bytes stand at the front of out
-widened : (c : tie.After-widen Inv-loop μ-loop) → c .widen .last .1 .0 ≡ over (parts c) 0 (entry c .args .out .now)
+widened : (c : tie.After-widen Inv-loop μ-loop) → c .widen .last .1 .0 ≡ over plain (parts c) 0 (entry c .args .out .now)
 widened c =
     let s = entry c in
     let a = s .args in
@@ -69,7 +69,7 @@ loop-holds c =
     let w = c .before .before in
     let P = parts w in
     let front = widened w in
-    (omega arith, refl, front ∙ sym (ap (over P 0) front ∙ over-again P 0 0 (entry w .args .out .now)))
+    (omega arith, refl, front ∙ sym (ap (over plain P 0) front ∙ over-again plain P 0 0 (entry w .args .out .now)))
 
 entry-slot-requires : tie.Need-entry-slot-requires Inv-loop μ-loop
 entry-slot-requires c κs =
@@ -102,7 +102,7 @@ loop-again c =
       omega arith,
       simp length-set (d .loop .inv .1),
       rw (d .loop .inv .2, c .before .entry-slot .ensures, c .entry-distance .ensures)
-          (over-more (parts w) (entry w .pre .0 .parts) (λ i. bytes w (40 + i)) (d .loop .j) _ (omega arith)),
+          (over-more plain (parts w) (entry w .pre .0 .parts) (λ i. bytes w (40 + i)) (d .loop .j) _ (omega arith)),
     )
 
 same-length : tie.Need-same-length Inv-loop μ-loop
@@ -115,9 +115,9 @@ returns c =
     let a = entry w .args in
     let all : d .loop .j ≡ a .k = omega arith in
     d .loop .inv .2
-    ∙ ap₂ (over (parts w)) all (widened w)
-    ∙ over-again (parts w) (a .k) 0 (a .out .now)
-    ∙ over-end (parts w) (entry w .pre .0 .parts) (λ i. bytes w (40 + i)) (a .out .now) (entry w .pre .1)
+    ∙ ap₂ (over plain (parts w)) all (widened w)
+    ∙ over-again plain (parts w) (a .k) 0 (a .out .now)
+    ∙ over-end plain (parts w) (entry w .pre .0 .parts) (λ i. bytes w (40 + i)) (a .out .now) (entry w .pre .1)
 
 pub scan-into-spec : {M : Type 1} → statement M
 scan-into-spec =

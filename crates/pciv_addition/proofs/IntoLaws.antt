@@ -1,0 +1,47 @@
+-- A computed map written as a file: refusal 11 or none, and the primary bytes in the buffer.
+--   map-large, map-fits    what `mapInto` answers where a distance is too large, and where none is
+--   fits-none              no slot is too large
+--   holds-primary          the primary bytes stand in a buffer where they were written
+-- Axioms: none.
+use mathlib.Core.Path.{_≡_, sym, ap, _∙_}
+use Prim.Native.Nat.{ℕ, _+_, _≤_, _<_}
+use native.Mathlib.Nat.{zero-add}
+use native.Mathlib.Omega.{arith}
+use mathlib.Core.List.{List}
+use lib.ListN.{length}
+use lib.Seq.{sets}
+use lib.Dec.{ltb}
+use borrow.Author.Tests.{le-ltb, ltb-false}
+use Rattle.pciv_bytes.specs.Ranges.{firstBelow, table}
+use Rattle.pciv_bytes.specs.Counts.{byteAt}
+use Rattle.pciv_bytes.proofs.RangesLaws.{firstBelow-all, getD-table}
+use Rattle.pciv_bytes.proofs.WriteLaws.{sets-at}
+use Rattle.pciv_format.specs.Layout.{maxDistance, primaryByte, primary}
+use Rattle.pciv_format.specs.Refusals.{refuse}
+use Rattle.pciv_format.specs.Write.{fileInto, mapInto}
+use Rattle.pciv_format.proofs.RefusalsLaws.{refuseFirst-none, refuseFirst-some}
+use Rattle.pciv_format.proofs.LayoutLaws.{length-primary}
+use Rattle.pciv_addition.specs.Addition.{Fits, HoldsPrimary}
+
+module _ (n : ℕ) (v : ℕ → ℕ) where
+  pub map-large : (room place : ℕ) → place ≡ firstBelow (λ (i : ℕ). ltb maxDistance (v i)) n → place < n
+      → mapInto n v room ≡ refuse 11 0 place
+  map-large room place is h = refuseFirst-some 11 0 (λ (i : ℕ). ltb maxDistance (v i)) n place (fileInto n v room) is h
+
+  pub map-fits : (room : ℕ) → Fits n v → mapInto n v room ≡ fileInto n v room
+  map-fits room fits =
+      refuseFirst-none 11 0 (λ (i : ℕ). ltb maxDistance (v i)) n (fileInto n v room)
+      (λ i h. le-ltb maxDistance (v i) (fits i h))
+
+  pub fits-none : (place : ℕ) → place ≡ firstBelow (λ (i : ℕ). ltb maxDistance (v i)) n → n ≤ place → Fits n v
+  fits-none place is h i inside =
+      ltb-false maxDistance (v i) (firstBelow-all (λ (i : ℕ). ltb maxDistance (v i)) n i (omega arith) inside)
+
+  pub holds-primary : (d d' : List ℕ) → 40 + n ≤ length d → d' ≡ sets d 40 (primary n v) → HoldsPrimary n v d'
+  unfolding primary
+  holds-primary d d' room is i h =
+      let l : length (primary n v) ≡ n = length-primary n v in
+      ap (λ (b : List ℕ). byteAt b (40 + i)) is
+      ∙ sets-at d (primary n v) 40 i 0 (rw l room) (rw l h)
+      ∙ getD-table (λ (j : ℕ). primaryByte (v j)) 0 0 n i h
+      ∙ ap (λ (j : ℕ). primaryByte (v j)) (zero-add i)

@@ -1,0 +1,5 @@
+pub mod PairOfParts
+pub mod BytesLaws
+pub mod LargeLaws
+pub mod PutLaws
+pub mod IntoLaws

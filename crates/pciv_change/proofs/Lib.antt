@@ -1,0 +1,3 @@
+pub mod SignedLaws
+pub mod ChangeLaws
+pub mod OutcomeLaws

@@ -1,0 +1,117 @@
+// The signed difference of two maps (docs/FORMAT.md, "Arithmetic"): the exact b - a of each slot, as a list.
+// One pass over both primary arrays gives the difference of the bytes; then what each distance in overflow has
+// above its byte 255 is put right, entry by entry, in one map and in the other.
+ghost use mathlib.Core.Path.{_≡_};
+ghost use Prim.Native.Nat.{_^_, _≤_, _<_};
+ghost use lib.IntN.{pos, _-ℤ_};
+ghost use lib.ListN.{length};
+ghost use lib.Signed.{mag};
+ghost use lib.Seq.{sets};
+ghost use Rattle.pciv_bytes.specs.Ranges.{table};
+ghost use Rattle.pciv_bytes.specs.Counts.{byteAt};
+ghost use Rattle.pciv_format.specs.Refusals.{numberAnswer};
+ghost use Rattle.pciv_format.specs.Parts.{valueOf};
+ghost use Rattle.pciv_format.specs.Check.{fileParts, CheckedMap};
+ghost use Rattle.pciv_format.specs.Arith.{signedDifferenceOutcome, signedDifferenceList};
+ghost use Rattle.pciv_check.specs.Pair.{CheckedPair};
+ghost use Rattle.pciv_change.specs.Change.{differenceAt, movedBy, movedFrom, SmallFrom};
+use pciv_check::pair::PairAnswer;
+use pciv_check::pair::check_pair;
+use pciv_format::BUFFER_TOO_SMALL;
+use pciv_format::HEADER_LEN;
+use pciv_format::NumberAnswer;
+use pciv_format::Refusal;
+use pciv_format::SENTINEL;
+use pciv_map::entries::entry_distance;
+use pciv_map::entries::entry_slot;
+
+// What is put right: distances that the difference takes off, those of map a, or that it is taken from, of map b.
+enum Side {
+    Subtracted,
+    Reduced,
+}
+
+// y - x of two bytes.
+fn byte_difference(x: u8, y: u8) -> i64
+    ensures { λ r. ⌜ r ≡ pos y -ℤ pos x ⌝ }
+{
+    (y as i64) - (x as i64)
+}
+
+// y - x of every byte x of a and y of b, to the front of out.
+fn byte_differences(a: &[u8], b: &[u8], out: &mut [i64])
+    requires { ⌜ (length (now a) ≡ length (now b)) × (length (now a) ≤ length (now out)) ⌝ }
+    ensures { λ _. ⌜ now (out .exit) ≡ sets (now (out .entry)) 0 (table (differenceAt (byteAt (now (a .entry))) (byteAt (now (b .entry)))) 0 (length (now (a .entry)))) ⌝ }
+{
+    let mut i = 0;
+    while i < a.len() {
+        out[i] = byte_difference(a[i], b[i]);
+        i += 1;
+    }
+}
+
+// The difference z, where the distance of one side is `excess` more.
+fn moved(side: Side, z: i64, excess: u32) -> i64
+    requires { ⌜ mag z < 2 ^ 40 ⌝ }
+    ensures { λ r. ⌜ r ≡ movedBy side z excess ⌝ }
+{
+    match side {
+        Side::Subtracted => z - (excess as i64),
+        Side::Reduced => z + (excess as i64),
+    }
+}
+
+// Puts right what stands at the slots of a map's overflow entries.
+fn move_entries(side: Side, file: &[u8], n: usize, k: usize, out: &mut [i64])
+    requires { ⌜ CheckedMap (now file) n k ⌝ }
+    requires { ⌜ (n ≤ length (now out)) × SmallFrom 0 n (now out) ⌝ }
+    ensures { λ _. ⌜ now (out .exit) ≡ movedFrom side (fileParts (now (file .entry)) n k) 0 k (now (out .entry)) ⌝ }
+{
+    let mut j = 0;
+    while j < k {
+        let slot = entry_slot(file, n, j);
+        let excess = entry_distance(file, n, j) - SENTINEL as u32;
+        let z = out[slot];
+        out[slot] = moved(side, z, excess);
+        j += 1;
+    }
+}
+
+// The differences of two checked maps, to the front of out.
+fn differences_into(a: &[u8], b: &[u8], n: usize, ka: usize, kb: usize, out: &mut [i64])
+    requires { ⌜ CheckedPair (now a) (now b) n ka kb ⌝ }
+    requires { ⌜ n ≤ length (now out) ⌝ }
+    ensures { λ _. ⌜ now (out .exit) ≡ sets (now (out .entry)) 0 (table (differenceAt (valueOf (fileParts (now (a .entry)) n ka)) (valueOf (fileParts (now (b .entry)) n kb))) 0 n) ⌝ }
+{
+    let end = HEADER_LEN + n;
+    byte_differences(&a[HEADER_LEN..end], &b[HEADER_LEN..end], out);
+    move_entries(Side::Reduced, b, n, kb, out);
+    move_entries(Side::Subtracted, a, n, ka, out);
+}
+
+// The exact b - a of each slot, to the front of the caller's list; answers how many.
+// Refusals: 1 to 8 of the first map, 1 to 8 of the second, then 10, then 12.
+// A refused call changes nothing, and what follows the result in the caller's list stays as it was.
+pub fn signed_difference(a: &[u8], b: &[u8], out: &mut [i64]) -> NumberAnswer
+    ensures answer { λ r. ⌜ r ≡ numberAnswer (signedDifferenceOutcome (now (a .entry)) (now (b .entry)) (length (now (out .entry)))) ⌝ }
+    ensures list { λ _. ⌜ now (out .exit) ≡ signedDifferenceList (now (a .entry)) (now (b .entry)) (now (out .entry)) ⌝ }
+{
+    let checked = check_pair(a, b);
+    match checked {
+        PairAnswer::Refused(r) => NumberAnswer::Refused(r),
+        PairAnswer::Ready(c) => {
+            let n = c.n;
+            let ka = c.ka;
+            let kb = c.kb;
+            if out.len() < n {
+                return NumberAnswer::Refused(Refusal {
+                    number: BUFFER_TOO_SMALL,
+                    map: 0,
+                    place: 0,
+                });
+            }
+            differences_into(a, b, n, ka, kb, out);
+            NumberAnswer::Number(n)
+        }
+    }
+}
