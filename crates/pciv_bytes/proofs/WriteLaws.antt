@@ -5,6 +5,7 @@ use Prim.Native.Nat.{ℕ, suc, _+_, _-_, _/_, _%_, _≤_, _<_}
 use native.Mathlib.Nat.{add-zero, zero-add, sub-zero}
 use native.Mathlib.Numerals.{add-one}
 use native.Mathlib.Omega.{arith}
+use native.Mathlib.Decide.{decLe}
 use mathlib.Core.List.{List, [], _∷_, _++_, append-assoc}
 use lib.ListN.{length, getD, take, drop, set, replicate, drop-of-length-le, length-append, length-set, List·getD-append}
 use lib.Seq.{sets, sets-eq, length-take-le, take-set-le, drop-cons, getD-append-add, set-getD, set-set, set-comm, set-append-left}
@@ -155,10 +156,10 @@ sets-le-end d at w y i h = let e : w - i ≡ 0 = omega arith in rw e
 -- ---- a list written over another
 
 module _ {A : Type 0} where
-  set-sets : (g d : List A) (i j : ℕ) (x : A) → i < j → set (sets d j g) i x ≡ sets (set d i x) j g
-  set-sets [] d i j x h = refl
-  set-sets (a ∷ g) d i j x h =
-      set-sets g (set d j a) i (suc j) x (omega arith)
+  set-before-sets : (g d : List A) (i j : ℕ) (x : A) → i < j → set (sets d j g) i x ≡ sets (set d i x) j g
+  set-before-sets [] d i j x h = refl
+  set-before-sets (a ∷ g) d i j x h =
+      set-before-sets g (set d j a) i (suc j) x (omega arith)
       ∙ ap (λ (l : List A). sets l (suc j) g) (set-comm d j i a x (λ e. omega arith))
 
   -- what was written there before does not count
@@ -166,6 +167,6 @@ module _ {A : Type 0} where
   sets-over [] f d i h = refl
   sets-over (a ∷ g) [] d i h = absurd (omega arith)
   sets-over (a ∷ g) (x ∷ f) d i h =
-      ap (λ (l : List A). sets l (suc i) f) (set-sets g (set d i a) i (suc i) x (omega arith))
+      ap (λ (l : List A). sets l (suc i) f) (set-before-sets g (set d i a) i (suc i) x (omega arith))
       ∙ ap (λ (l : List A). sets (sets l (suc i) g) (suc i) f) (set-set d i a x)
       ∙ sets-over g f (set d i x) (suc i) (omega arith)
