@@ -154,7 +154,7 @@ module _ (n : ℕ) (v : ℕ → ℕ) (few : n ≤ maxSlots) (q : List ℕ) where
 
   whole : (d D : List ℕ) → q ≡ drop (length (frontOf n v)) d → fileLen n (overflowCount n v) ≤ length d → D ≡ sets d 0 (frontOf n v)
       → sets D (40 + n + 12 * overflowCount n v) (indexFrom D n (overflowCount n v)) ≡ file n v ++ drop (length (file n v)) d
-  whole d D tail room is =
+  whole d D tail fits is =
       let F : List ℕ = frontOf n v in
       let I : List ℕ = indexPart (overflowSlots n v) in
       let k : ℕ = overflowCount n v in
@@ -163,7 +163,7 @@ module _ (n : ℕ) (v : ℕ → ℕ) (few : n ≤ maxSlots) (q : List ℕ) where
       let index : indexFrom D n k ≡ I = ap (λ (l : List ℕ). indexFrom l n k) split ∙ indexFrom-is in
       rw (index, is, ← long)
       (sym (sets-append F I d 0 ∙ ap (λ (j : ℕ). sets (sets d 0 F) j I) (zero-add (length F)))
-      ∙ rw (← file-frontOf n v) (sets-front (file n v) d (rw length-file room)))
+      ∙ rw (← file-frontOf n v) (sets-front (file n v) d (rw length-file fits)))
 
 -- ---- of a routine that has counted k slots in overflow
 
@@ -171,17 +171,17 @@ module _ (n k : ℕ) (v : ℕ → ℕ) (count : k ≡ overflowCount n v) where
   pub length-built : length (file n v) ≡ fileLen n k
   length-built = length-file n v ∙ ap (fileLen n) (sym count)
 
-  pub begin-is : (room : ℕ) → beginOutcome n k room ≡ fileInto n v room
+  pub begin-is : (capacity : ℕ) → beginOutcome n k capacity ≡ fileInto n v capacity
   unfolding beginOutcome summary
-  begin-is room = rw (count, length-file n v)
+  begin-is capacity = rw (count, length-file n v)
 
   module _ (few : n ≤ maxSlots) where
     pub built : (d D : List ℕ) → fileLen n k ≤ length d
         → D ≡ sets (sets (sets d 0 (header n k)) 40 (primary n v)) (40 + n) (overflowPart n v)
         → sets D (40 + n + 12 * k) (indexFrom D n k) ≡ file n v ++ drop (length (file n v)) d
-    built d D room is =
+    built d D fits is =
         rw count
-        (whole n v few (drop (length (frontOf n v)) d) d D refl (rw count at room) ((rw count at is) ∙ sets-frontOf n v d))
+        (whole n v few (drop (length (frontOf n v)) d) d D refl (rw count at fits) ((rw count at is) ∙ sets-frontOf n v d))
 
     -- the buffer after each of the parts
     pub built-done : (d d₁ d₂ d₃ d₄ : List ℕ) (s : Summary) → beginOutcome n k (length d) ≡ done s

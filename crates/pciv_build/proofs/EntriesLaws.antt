@@ -1,28 +1,29 @@
 -- The overflow entries, written one a step in the order of their slots.
---   slotsFrom n v i      the slots in overflow from i on
---   EntriesLeft          the invariant of a walk that writes the entries: those of slots from i on are left
---   Counted              the invariant of a walk that counts them
+--   slotsFrom-..   of the slots in overflow that are left; entries-.. of a walk that writes their entries
+--   Counted        the invariant of a walk that counts them; counted-.. its laws
 --   -start, -more, -skip, -gap, -end
---                        before the first slot; past a slot in overflow; past one that is not; past all slots up
---                        to s, none of which is in overflow; after the last slot
+--                  before the first slot; past a slot in overflow; past one that is not; past all slots up
+--                  to s, none of which is in overflow; after the last slot
+--   entries-over   past a slot whose entry is written in any case, and overwritten by the next where it does not count
 use mathlib.Core.Path.{_≡_, refl, sym, ap, _∙_}
 use Prim.Native.Nat.{ℕ, zero, suc, _+_, _-_, _*_, _≤_, _<_}
 use native.Mathlib.Nat.{add-zero, sub-zero, zero-add}
 use native.Mathlib.Numerals.{add-one}
 use native.Mathlib.Omega.{arith}
+use native.Mathlib.Decide.{decLe}
 use mathlib.Core.Bool.{Bool, true, false}
 use mathlib.Core.List.{List, [], _∷_, _++_}
-use lib.ListN.{length}
-use lib.Seq.{sets, length-sets}
+use lib.ListN.{length, getD, take}
+use lib.Seq.{sets, length-sets, getD-take}
 use borrow.Author.Tests.{le-leb, lt-leb}
 use Rattle.pciv_bytes.specs.Ranges.{flag, positions, joined, sumFrom, keepIf}
 use Rattle.pciv_bytes.specs.LittleEndian.{le}
-use Rattle.pciv_bytes.proofs.WriteLaws.{sets-append}
+use Rattle.pciv_bytes.proofs.JoinedLaws.{length-joined}
+use Rattle.pciv_bytes.proofs.WriteLaws.{sets-append, take-sets, sets-over}
 use Rattle.pciv_format.specs.Layout.{inOverflow, overflowSlots, overflowCount, overflowEntry, overflowPart}
 use Rattle.pciv_format.proofs.LayoutLaws.{length-overflowEntry}
-
-unfoldable pub slotsFrom : ℕ → (ℕ → ℕ) → ℕ → List ℕ
-slotsFrom n v i = positions (λ (j : ℕ). inOverflow (v j)) i (n - i)
+unfoldable pub use Rattle.pciv_build.specs.Entries.{slotsFrom, entriesFrom}
+pub use Rattle.pciv_build.specs.Entries.{EntriesPut, EntriesLeft}
 
 module _ (n : ℕ) (v : ℕ → ℕ) where
   pub slotsFrom-start : slotsFrom n v 0 ≡ overflowSlots n v
@@ -58,42 +59,60 @@ module _ (n : ℕ) (v : ℕ → ℕ) where
   unfolding overflowCount
   count-slotsFrom = ap length slotsFrom-start
 
--- ---- a walk that writes the entries: d₀ had them all left, from p₀ on; d has those of slots from i on left, from p on
+-- ---- the entries that are left
 
-pub record EntriesLeft (n : ℕ) (v : ℕ → ℕ) (d₀ : List ℕ) (p₀ i : ℕ) (d : List ℕ) (p : ℕ) : Type 0 where
-  pub inside : i ≤ n
-  pub size : length d ≡ length d₀
-  pub room : p + 12 * length (slotsFrom n v i) ≤ length d
-  pub rest : sets d₀ p₀ (overflowPart n v) ≡ sets d p (joined (overflowEntry v) (slotsFrom n v i))
+entriesFrom-start : (n : ℕ) (v : ℕ → ℕ) → entriesFrom n v 0 ≡ overflowPart n v
+unfolding entriesFrom overflowPart
+entriesFrom-start n v = rw (slotsFrom-start n v)
 
-pub entries-start : (n : ℕ) (v : ℕ → ℕ) (d : List ℕ) (p : ℕ) → p + 12 * overflowCount n v ≤ length d → EntriesLeft n v d p 0 d p
-unfolding overflowPart
-entries-start n v d p h =
-    record {
-      inside = omega arith;
-      size = refl;
-      room = omega (arith, count-slotsFrom n v);
-      rest = rw (slotsFrom-start n v);
-    }
+length-entriesFrom : (n : ℕ) (v : ℕ → ℕ) (i : ℕ) → length (entriesFrom n v i) ≡ 12 * length (slotsFrom n v i)
+unfolding entriesFrom
+length-entriesFrom n v i = length-joined (overflowEntry v) 12 (length-overflowEntry v) (slotsFrom n v i)
 
--- the first of the slots that are left
-sets-entry : (v : ℕ → ℕ) (d : List ℕ) (p i : ℕ) (ss : List ℕ)
-    → sets d p (joined (overflowEntry v) (i ∷ ss)) ≡ sets (sets d p (overflowEntry v i)) (p + 12) (joined (overflowEntry v) ss)
-unfolding joined
-sets-entry v d p i ss = sets-append (overflowEntry v i) (joined (overflowEntry v) ss) d p ∙ rw (length-overflowEntry v i)
+entriesFrom-more : (n : ℕ) (v : ℕ → ℕ) (i : ℕ) → i < n → 255 ≤ v i → entriesFrom n v i ≡ overflowEntry v i ++ entriesFrom n v (i + 1)
+unfolding entriesFrom joined
+entriesFrom-more n v i h far = rw (slotsFrom-more n v i h far)
+
+entriesFrom-cong : (n : ℕ) (v : ℕ → ℕ) (i s : ℕ) → slotsFrom n v i ≡ slotsFrom n v s → entriesFrom n v i ≡ entriesFrom n v s
+unfolding entriesFrom
+entriesFrom-cong n v i s same = ap (joined (overflowEntry v)) same
+
+entriesFrom-end : (n : ℕ) (v : ℕ → ℕ) (i : ℕ) → n ≤ i → entriesFrom n v i ≡ []
+unfolding entriesFrom joined
+entriesFrom-end n v i h = rw (slotsFrom-end n v i h)
 
 overflowEntry-is : (v : ℕ → ℕ) (s : ℕ) → overflowEntry v s ≡ le 8 s ++ le 4 (v s)
 unfolding overflowEntry
 overflowEntry-is v s = refl
 
-module _ {n : ℕ} {v : ℕ → ℕ} {d₀ : List ℕ} {p₀ i : ℕ} {d : List ℕ} {p : ℕ} (e : EntriesLeft n v d₀ p₀ i d p) where
+-- ---- a walk that writes the entries
+
+-- nothing is put yet
+pub entries-none : (n : ℕ) (v : ℕ → ℕ) (i : ℕ) (d : List ℕ) (p : ℕ) → i ≤ n → p + 12 * length (slotsFrom n v i) ≤ length d
+    → EntriesPut n v i d p i d p
+entries-none n v i d p h fits =
+    record { inside = h; size = refl; low = omega arith; count = refl; room = fits; rest = refl }
+
+pub entries-start : (n : ℕ) (v : ℕ → ℕ) (d : List ℕ) (p : ℕ) → p + 12 * overflowCount n v ≤ length d → EntriesLeft n v d p 0 d p
+entries-start n v d p h = entries-none n v 0 d p (omega arith) (omega (arith, count-slotsFrom n v))
+
+module _ {n : ℕ} {v : ℕ → ℕ} {from : ℕ} {d₀ : List ℕ} {p₀ i : ℕ} {d : List ℕ} {p : ℕ} (e : EntriesPut n v from d₀ p₀ i d p) where
   -- there is room for the entry of slot i
   pub entries-room : i < n → 255 ≤ v i → p + 12 ≤ length d
   entries-room h far = omega (arith, e .room, ap length (slotsFrom-more n v i h far))
 
+  -- what stands before the entries stays as it was
+  pub entries-before : (j : ℕ) → j < p₀ → getD d j 0 ≡ getD d₀ j 0
+  entries-before j h =
+      let same : take p₀ d ≡ take p₀ d₀ =
+      sym (take-sets p₀ (entriesFrom n v i) d p (e .low))
+      ∙ ap (take p₀) (sym (e .rest))
+      ∙ take-sets p₀ (entriesFrom n v from) d₀ p₀ (omega arith) in
+      sym (getD-take p₀ d j 0 h) ∙ ap (λ (l : List ℕ). getD l j 0) same ∙ getD-take p₀ d₀ j 0 h
+
   -- the entry of slot i is written
   pub entries-more : i < n → 255 ≤ v i → (x : ℕ) (d' : List ℕ) (p' : ℕ) → x ≡ v i → d' ≡ sets d p (le 8 i ++ le 4 x) → p' ≡ p + 12
-      → EntriesLeft n v d₀ p₀ (i + 1) d' p'
+      → EntriesPut n v from d₀ p₀ (i + 1) d' p'
   entries-more h far x d' p' is put next =
       let same : d' ≡ sets d p (overflowEntry v i) = put ∙ rw (is, overflowEntry-is v i) in
       let long : length d' ≡ length d = ap length same ∙ length-sets d p (overflowEntry v i) in
@@ -101,31 +120,84 @@ module _ {n : ℕ} {v : ℕ → ℕ} {d₀ : List ℕ} {p₀ i : ℕ} {d : List 
       record {
         inside = omega arith;
         size = long ∙ e .size;
+        low = omega (arith, e .low);
+        count = omega (arith, e .count, ap length slots);
         room = omega (arith, e .room, ap length slots);
-        rest = e .rest ∙ rw (slots, same, next) (sets-entry v d p i (slotsFrom n v (i + 1)));
+        rest = e .rest
+            ∙ rw (entriesFrom-more n v i h far, same, next)
+            (sets-append (overflowEntry v i) (entriesFrom n v (i + 1)) d p ∙ rw (length-overflowEntry v i));
       }
 
   -- no slot from i up to s is in overflow
-  pub entries-gap : (s : ℕ) → i ≤ s → s ≤ n → ((j : ℕ) → i ≤ j → j < s → v j < 255) → EntriesLeft n v d₀ p₀ s d p
+  pub entries-gap : (s : ℕ) → i ≤ s → s ≤ n → ((j : ℕ) → i ≤ j → j < s → v j < 255) → EntriesPut n v from d₀ p₀ s d p
   entries-gap s h₁ h₂ none =
       let slots = slotsFrom-gap n v i s h₁ h₂ none in
       record {
         inside = h₂;
         size = e .size;
+        low = e .low;
+        count = omega (arith, e .count, ap length slots);
         room = omega (arith, e .room, ap length slots);
-        rest = e .rest ∙ rw slots;
+        rest = e .rest ∙ ap (sets d p) (entriesFrom-cong n v i s slots);
       }
 
   -- slot i is not in overflow
-  pub entries-skip : i < n → v i < 255 → EntriesLeft n v d₀ p₀ (i + 1) d p
+  pub entries-skip : i < n → v i < 255 → EntriesPut n v from d₀ p₀ (i + 1) d p
   entries-skip h inline =
       entries-gap (i + 1) (omega arith) (omega arith)
       (λ j h₁ h₂. (let same : i ≡ j = omega arith in rw same at inline))
 
   -- no entry is left
-  pub entries-end : n ≤ i → d ≡ sets d₀ p₀ (overflowPart n v)
-  unfolding joined
-  entries-end h = sym (e .rest ∙ rw (slotsFrom-end n v i h))
+  pub entries-full : i < n → p₀ + 12 * length (slotsFrom n v from) ≤ p → EntriesPut n v from d₀ p₀ (i + 1) d p
+  entries-full h full =
+      elim (decLe 255 (v i)) [
+        | yes far ↦ absurd (omega (arith, e .count, ap length (slotsFrom-more n v i h far)))
+        | no inline ↦ entries-skip h (omega arith)
+      ]
+
+  -- an entry is left; that of slot i is written, and where it does not count the next is written over it
+  pub entries-over : i < n → p < p₀ + 12 * length (slotsFrom n v from) → (x : ℕ) (d' : List ℕ) (p' : ℕ) → x ≡ v i
+      → d' ≡ sets d p (le 8 i ++ le 4 x) → p' ≡ p + 12 * flag (inOverflow x) → EntriesPut n v from d₀ p₀ (i + 1) d' p'
+  entries-over h left x d' p' is put next =
+      elim (decLe 255 (v i)) [
+        | yes far ↦ (let one : flag (inOverflow x) ≡ 1 = ap flag (le-leb 255 x (omega arith)) in
+            entries-more h far x d' p' is put (omega arith))
+        | no inline ↦ (let zero : flag (inOverflow x) ≡ 0 = ap flag (lt-leb 255 x (omega arith)) in
+            written (entries-skip h (omega arith)) (omega arith))
+      ]
+    where
+      written : EntriesPut n v from d₀ p₀ (i + 1) d p → p' ≡ p → EntriesPut n v from d₀ p₀ (i + 1) d' p'
+      written f there =
+          let same : d' ≡ sets d p (overflowEntry v i) = put ∙ rw (is, overflowEntry-is v i) in
+          let long : length d' ≡ length d = ap length same ∙ length-sets d p (overflowEntry v i) in
+          let short : length (overflowEntry v i) ≤ length (entriesFrom n v (i + 1)) =
+          omega (arith, length-overflowEntry v i, length-entriesFrom n v (i + 1), f .count) in
+          record {
+            inside = f .inside;
+            size = long ∙ f .size;
+            low = omega (arith, f .low);
+            count = omega (arith, f .count);
+            room = omega (arith, f .room);
+            rest = f .rest ∙ rw (same, there) (sym (sets-over (overflowEntry v i) (entriesFrom n v (i + 1)) d p short));
+          }
+
+  -- two parts, one after the other
+  pub entries-then : {s : ℕ} {d' : List ℕ} {p' : ℕ} → EntriesPut n v i d p s d' p' → EntriesPut n v from d₀ p₀ s d' p'
+  entries-then f =
+      record {
+        inside = f .inside;
+        size = f .size ∙ e .size;
+        low = omega (arith, e .low, f .low);
+        count = f .count ∙ e .count;
+        room = f .room;
+        rest = e .rest ∙ f .rest;
+      }
+
+-- no slot is left
+pub entries-end : {n : ℕ} {v : ℕ → ℕ} {d₀ : List ℕ} {p₀ i : ℕ} {d : List ℕ} {p : ℕ} → EntriesLeft n v d₀ p₀ i d p → n ≤ i
+    → d ≡ sets d₀ p₀ (overflowPart n v)
+entries-end {n} {v} {d₀} {p₀} {i} {d} {p} e h =
+    sym (ap (sets d₀ p₀) (sym (entriesFrom-start n v)) ∙ e .rest ∙ rw (entriesFrom-end n v i h))
 
 -- ---- a walk that counts: c slots below i are in overflow
 

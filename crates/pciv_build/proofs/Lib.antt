@@ -1,3 +1,4 @@
 pub mod BuildLaws
 pub mod EntriesLaws
 pub mod IndexLaws
+pub mod PrimaryLaws

@@ -1,8 +1,8 @@
 -- A file written part by part (docs/FORMAT.md, "Writing").
---   beginOutcome n k room     beginning a file in a buffer of `room` bytes: its summary, or refusal 12
---   beginBuffer n k d         the buffer d after that: the header at its front, or unchanged
---   indexEntryFrom d n k i    index entry i, read off the overflow entries that stand in d
---   indexFrom d n k           the whole sparse index, read off them
+--   beginOutcome n k capacity    beginning a file in a buffer of so many bytes: its summary, or refusal 12
+--   beginBuffer n k d            the buffer d after that: the header at its front, or unchanged
+--   indexEntryFrom d n k i       index entry i, read off the overflow entries that stand in d
+--   indexFrom d n k              the whole sparse index, read off them
 -- Laws are in proofs/BuildLaws.antt. Axioms: none.
 use Prim.Native.Nat.{ℕ, _+_, _*_}
 use mathlib.Core.Bool.{cond}
@@ -17,7 +17,7 @@ use Rattle.pciv_format.specs.Refusals.{Outcome, done, refuse, refuseIf}
 use Rattle.pciv_format.specs.declared.Summary.{Summary}
 
 unfoldable pub beginOutcome : ℕ → ℕ → ℕ → Outcome Summary
-beginOutcome n k room = refuseIf (ltb room (fileLen n k)) (refuse 12 0 0) (done (countsOf n k))
+beginOutcome n k capacity = refuseIf (ltb capacity (fileLen n k)) (refuse 12 0 0) (done (countsOf n k))
 
 unfoldable pub beginBuffer : ℕ → ℕ → List ℕ → List ℕ
 beginBuffer n k d = cond (ltb (length d) (fileLen n k)) d (sets d 0 (header n k))

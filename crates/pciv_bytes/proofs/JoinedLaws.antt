@@ -15,6 +15,12 @@ joined-cong g h [] same = refl
 joined-cong g h (x ∷ xs) same =
     ap₂ (λ (a b : List ℕ). a ++ b) (same 0 (omega arith)) (joined-cong g h xs (λ j l. same (suc j) (omega arith)))
 
+pub joined-append : (g : ℕ → List ℕ) (xs ys : List ℕ) → joined g (xs ++ ys) ≡ joined g xs ++ joined g ys
+unfolding joined
+joined-append g [] ys = refl
+joined-append g (x ∷ xs) ys =
+    ap (λ (l : List ℕ). g x ++ l) (joined-append g xs ys) ∙ sym (append-assoc (g x) (joined g xs) (joined g ys))
+
 module _ (g : ℕ → List ℕ) (c : ℕ) (size : (x : ℕ) → length (g x) ≡ c) where
   pub length-joined : (xs : List ℕ) → length (joined g xs) ≡ c * length xs
   unfolding joined

@@ -4,3 +4,4 @@ pub mod SumLaws
 pub mod JoinedLaws
 pub mod LittleEndianLaws
 pub mod WriteLaws
+pub mod AnyLaws

@@ -1,11 +1,11 @@
 -- Laws of `positions`: what each element is, and when a rising list is the list of positions.
 use mathlib.Core.Path.{_≡_, refl, sym, ap, ap₂, _∙_}
 use Prim.Native.Nat.{ℕ, zero, suc, _+_, _-_, _≤_, _<_}
-use native.Mathlib.Nat.{add-zero, add-suc, le-refl}
+use native.Mathlib.Nat.{add-zero, zero-add, add-suc, le-refl}
 use native.Mathlib.Omega.{arith}
 use native.Mathlib.Decide.{decLe}
 use mathlib.Core.Bool.{Bool, true, false}
-use mathlib.Core.List.{List, [], _∷_}
+use mathlib.Core.List.{List, [], _∷_, _++_}
 use lib.ListN.{length, getD}
 use Rattle.pciv_bytes.specs.Ranges.{table, keepIf, positions}
 use Rattle.pciv_bytes.proofs.RangesLaws.{true-false}
@@ -85,6 +85,30 @@ positions-cong p q i zero same = refl
 positions-cong p q i (suc c) same =
     ap₂ (λ (b : Bool) (l : List ℕ). keepIf b i l) (same i (le-refl i) (omega arith))
     (positions-cong p q (suc i) c (λ j h₁ h₂. same j (omega arith) (omega arith)))
+
+-- a range in two
+pub positions-append : (p : ℕ → Bool) (i c d : ℕ) → positions p i (c + d) ≡ positions p i c ++ positions p (i + c) d
+unfolding positions
+positions-append p i zero d = rw (zero-add, add-zero)
+positions-append p i (suc c) d =
+    let e : suc c + d ≡ suc (c + d) = omega arith in
+    let e' : i + suc c ≡ suc i + c = omega arith in
+    rw (e, e', positions-append p (suc i) c d) (go (p i))
+  where
+    go : (b : Bool) → keepIf b i (positions p (suc i) c ++ positions p (suc i + c) d)
+        ≡ keepIf b i (positions p (suc i) c) ++ positions p (suc i + c) d
+    go true = refl
+    go false = refl
+
+-- what stands before s, s itself if it has p, and what follows
+pub positions-around : (p : ℕ → Bool) (n s : ℕ) → s < n
+    → positions p 0 n ≡ positions p 0 s ++ keepIf (p s) s (positions p (suc s) (n - suc s))
+unfolding positions
+positions-around p n s h =
+    let e : n ≡ s + suc (n - suc s) = omega arith in
+    ap (positions p 0) e
+    ∙ positions-append p 0 s (suc (n - suc s))
+    ∙ ap (λ (j : ℕ). positions p 0 s ++ positions p j (suc (n - suc s))) (zero-add s)
 
 -- a function that rises step by step rises from any place to any later one
 pub rises : (f : ℕ → ℕ) (k : ℕ) → ((j : ℕ) → suc j < k → f j < f (suc j)) → (j t : ℕ) → j < t → t < k → f j < f t

@@ -54,14 +54,6 @@ module _ {A : Type 0} where
             ∙ sets-set-inside vs (set d i v) (suc i) s x (omega arith) (omega arith)
       ]
 
-  -- a list within such a part
-  pub sets-sets-inside : (us vs d : List A) (i s : ℕ) → i ≤ s → s + length us ≤ i + length vs
-      → sets (sets d s us) i vs ≡ sets d i vs
-  sets-sets-inside [] vs d i s low high = refl
-  sets-sets-inside (u ∷ us) vs d i s low high =
-      sets-sets-inside us vs (set d s u) i (suc s) (omega arith) (omega arith)
-      ∙ sets-set-inside vs d i s u low (omega arith)
-
   -- a list that stands there already
   pub sets-same : (vs d : List A) (z : A) (i : ℕ) → ((j : ℕ) → j < length vs → getD d (i + j) z ≡ getD vs j z) → sets d i vs ≡ d
   sets-same [] d z i same = refl
@@ -118,3 +110,21 @@ sets-le-more d at w y i h =
 pub sets-le-end : (d : List ℕ) (at w y i : ℕ) → w ≤ i → sets d (at + i) (le (w - i) y) ≡ d
 unfolding le
 sets-le-end d at w y i h = let e : w - i ≡ 0 = omega arith in rw e
+
+-- ---- a list written over another
+
+module _ {A : Type 0} where
+  set-sets : (g d : List A) (i j : ℕ) (x : A) → i < j → set (sets d j g) i x ≡ sets (set d i x) j g
+  set-sets [] d i j x h = refl
+  set-sets (a ∷ g) d i j x h =
+      set-sets g (set d j a) i (suc j) x (omega arith)
+      ∙ ap (λ (l : List A). sets l (suc j) g) (set-comm d j i a x (λ e. omega arith))
+
+  -- what was written there before does not count
+  pub sets-over : (g f d : List A) (i : ℕ) → length g ≤ length f → sets (sets d i g) i f ≡ sets d i f
+  sets-over [] f d i h = refl
+  sets-over (a ∷ g) [] d i h = absurd (omega arith)
+  sets-over (a ∷ g) (x ∷ f) d i h =
+      ap (λ (l : List A). sets l (suc i) f) (set-sets g (set d i a) i (suc i) x (omega arith))
+      ∙ ap (λ (l : List A). sets (sets l (suc i) g) (suc i) f) (set-set d i a x)
+      ∙ sets-over g f (set d i x) (suc i) (omega arith)

@@ -1,13 +1,21 @@
 // The C interface (include/pciv.h): one thin function for each public routine.
-// A pciv_refusal is three numbers, a pciv_summary five. Each call answers the refusal's number, 0 when done, and
-// always writes the refusal; a result is written only when the call is done (specs/Cells.antt).
+// A pciv_refusal is three numbers, a pciv_summary five. Each call but pciv_primary_span answers the refusal's
+// number, 0 when done, and always writes the refusal; a result is written only when the call is done
+// (specs/Cells.antt).
 ghost use mathlib.Core.Path.{_≡_};
 ghost use lib.ListN.{length};
 ghost use Rattle.pciv_format.specs.Check.{checkFile};
 ghost use Rattle.pciv_format.specs.Read.{lookupOutcome, lookupListOutcome, lookupListBuffer, scanOutcome, scanBuffer, sumOutcome, readingsOutcome};
+ghost use Rattle.pciv_format.specs.Write.{writeOutcome, writeBuffer, closeOutcome, closeBuffer};
+ghost use Rattle.pciv_format.specs.Arith.{combineMapsOutcome, combineMapsBuffer};
+ghost use Rattle.pciv_format.specs.declared.SlotOp.the-variants.{Minimum, Maximum, Difference};
 ghost use Rattle.pciv_format.specs.Report.{reportOutcome, reportBuffer};
 ghost use Rattle.pciv_c.specs.Cells.{ToldNumber, ToldFile, spanCells, spanLength, fileOutcome, numberOutcome, distanceOutcome};
+use pciv_arith::difference;
+use pciv_arith::maximum;
+use pciv_arith::minimum;
 use pciv_check::check;
+use pciv_close::close;
 use pciv_format::DistanceAnswer;
 use pciv_format::FileAnswer;
 use pciv_format::HEADER_LEN;
@@ -18,6 +26,7 @@ use pciv_read::readings;
 use pciv_read::scan;
 use pciv_read::sum;
 use pciv_report::report;
+use pciv_write::write;
 
 // ---- answers, told to C
 
@@ -155,6 +164,80 @@ pub extern "C" fn pciv_readings(file: &[u8], count: &mut usize, refusal: &mut [u
     ensures told { λ r. ⌜ ToldNumber (readingsOutcome (now (file .entry))) r (now (count .entry)) (now (count .exit)) (now (refusal .exit)) ⌝ }
 {
     tell_number(readings(file), count, refusal)
+}
+
+// ---- writing
+
+#[no_mangle]
+pub extern "C" fn pciv_write(
+    distances: &[u32],
+    out: &mut [u8],
+    summary: &mut [usize; 5],
+    refusal: &mut [usize; 3],
+) -> usize
+    ensures told { λ r. ⌜ ToldFile (writeOutcome (now (distances .entry)) (length (now (out .entry)))) r (now (summary .entry)) (now (summary .exit)) (now (refusal .exit)) ⌝ }
+    ensures buffer { λ _. ⌜ now (out .exit) ≡ writeBuffer (now (distances .entry)) (now (out .entry)) ⌝ }
+{
+    tell_file(write(distances, out), summary, refusal)
+}
+
+#[no_mangle]
+pub extern "C" fn pciv_close(
+    primary: &[u8],
+    slots: &[usize],
+    distances: &[u32],
+    out: &mut [u8],
+    summary: &mut [usize; 5],
+    refusal: &mut [usize; 3],
+) -> usize
+    ensures told { λ r. ⌜ ToldFile (closeOutcome (now (primary .entry)) (now (slots .entry)) (now (distances .entry)) (length (now (out .entry)))) r (now (summary .entry)) (now (summary .exit)) (now (refusal .exit)) ⌝ }
+    ensures buffer { λ _. ⌜ now (out .exit) ≡ closeBuffer (now (primary .entry)) (now (slots .entry)) (now (distances .entry)) (now (out .entry)) ⌝ }
+{
+    tell_file(close(primary, slots, distances, out), summary, refusal)
+}
+
+// ---- arithmetic on two maps
+
+#[no_mangle]
+pub extern "C" fn pciv_minimum(
+    a: &[u8],
+    b: &[u8],
+    out: &mut [u8],
+    summary: &mut [usize; 5],
+    refusal: &mut [usize; 3],
+) -> usize
+    ensures told { λ r. ⌜ ToldFile (combineMapsOutcome Minimum (now (a .entry)) (now (b .entry)) (length (now (out .entry)))) r (now (summary .entry)) (now (summary .exit)) (now (refusal .exit)) ⌝ }
+    ensures buffer { λ _. ⌜ now (out .exit) ≡ combineMapsBuffer Minimum (now (a .entry)) (now (b .entry)) (now (out .entry)) ⌝ }
+{
+    tell_file(minimum(a, b, out), summary, refusal)
+}
+
+#[no_mangle]
+pub extern "C" fn pciv_maximum(
+    a: &[u8],
+    b: &[u8],
+    out: &mut [u8],
+    summary: &mut [usize; 5],
+    refusal: &mut [usize; 3],
+) -> usize
+    ensures told { λ r. ⌜ ToldFile (combineMapsOutcome Maximum (now (a .entry)) (now (b .entry)) (length (now (out .entry)))) r (now (summary .entry)) (now (summary .exit)) (now (refusal .exit)) ⌝ }
+    ensures buffer { λ _. ⌜ now (out .exit) ≡ combineMapsBuffer Maximum (now (a .entry)) (now (b .entry)) (now (out .entry)) ⌝ }
+{
+    tell_file(maximum(a, b, out), summary, refusal)
+}
+
+#[no_mangle]
+pub extern "C" fn pciv_difference(
+    a: &[u8],
+    b: &[u8],
+    out: &mut [u8],
+    summary: &mut [usize; 5],
+    refusal: &mut [usize; 3],
+) -> usize
+    ensures told { λ r. ⌜ ToldFile (combineMapsOutcome Difference (now (a .entry)) (now (b .entry)) (length (now (out .entry)))) r (now (summary .entry)) (now (summary .exit)) (now (refusal .exit)) ⌝ }
+    ensures buffer { λ _. ⌜ now (out .exit) ≡ combineMapsBuffer Difference (now (a .entry)) (now (b .entry)) (now (out .entry)) ⌝ }
+{
+    tell_file(difference(a, b, out), summary, refusal)
 }
 
 // ---- the report

@@ -7,3 +7,7 @@ pub mod ExactLaws
 pub mod ReadLaws
 pub mod Acceptance
 pub mod Cases
+pub mod FrontLaws
+pub mod RunLaws
+pub mod EditLaws
+pub mod LimitLaws

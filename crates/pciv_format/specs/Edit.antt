@@ -5,19 +5,22 @@
 --   MayChange x e i           byte i of the buffer may change when x is edited by e, which is accepted
 --   plainRun, plainOutcomes   the plain editor's state after a list of edits, and its answers in order
 --   bufferOf z b₀             what the buffer holds in state z, where it was b₀ at the start
+--   editRun, editOutcomes     the editor's buffer after a list of edits, and its answers in order
+--   RunLimits b es            every edit of a run keeps to the limits on changed bytes
 -- The plain editor is given the starting list, R and the edits, and nothing else. Axioms: none.
 use mathlib.Core.Path.{_≡_}
 use Prim.Native.Nat.{ℕ, _+_, _-_, _*_, _≤_, _<_, max}
 use mathlib.Core.Bool.{Bool, true, false}
 use mathlib.Core.List.{List, [], _∷_, _++_}
 use mathlib.Core.Logic.{_⊎_}
-use lib.ListN.{length, take, drop, set, replicate}
+use lib.ListN.{length, getD, take, drop, set, replicate}
 use lib.Dec.{ltb, leb}
 use Rattle.pciv_format.specs.Layout.{fileLen, inOverflow, overflowCount, at, fileOf, summaryOf}
 use Rattle.pciv_format.specs.Refusals.{Outcome, done, refused, refuse, refuseIf, andThen, fileAnswer}
 use Rattle.pciv_format.specs.Check.{nField, kField, checkBuffer}
 use Rattle.pciv_format.specs.Read.{listOf}
 use Rattle.pciv_format.specs.declared.Summary.{Summary}
+use Rattle.pciv_format.specs.declared.Refusal.{Refusal}
 use Rattle.pciv_format.specs.declared.EditAnswer.{EditAnswer}
 
 -- an edit: a slot and the distance that it gets
@@ -77,7 +80,27 @@ limitsBy false true x s i = ((16 ≤ i) × (i < 40)) ⊎ ((i ≡ 40 + s) ⊎ (en
 abbrev pub MayChange : List ℕ → Edit → ℕ → Type 0
 MayChange x e i = limitsBy (inOverflow (at x (e .slot))) (inOverflow (e .distance)) x (e .slot) i
 
--- ---- a run of edits
+-- ---- a run of edits: each edit gets the buffer as the one before left it
+
+unfoldable pub editRun : List ℕ → List Edit → List ℕ
+editRun b [] = b
+editRun b (e ∷ es) = editRun (editBuffer b e) es
+
+unfoldable pub editOutcomes : List ℕ → List Edit → List (Outcome Summary)
+editOutcomes b [] = []
+editOutcomes b (e ∷ es) = editOutcome b e ∷ editOutcomes (editBuffer b e) es
+
+-- each refused edit changes no byte, and each accepted one only bytes that may change
+pub record StepLimits (b : List ℕ) (e : Edit) : Type 0 where
+  pub onRefusal : (r : Refusal) → editOutcome b e ≡ refused r → editBuffer b e ≡ b
+  pub onAccept : (s : Summary) → editOutcome b e ≡ done s → (i : ℕ) → (getD (editBuffer b e) i 0 ≡ getD b i 0 → ⊥)
+      → MayChange (listOf (editedFile b)) e i
+
+abbrev pub RunLimits : List ℕ → List Edit → Type 0
+RunLimits b [] = Unit {0}
+RunLimits b (e ∷ es) = StepLimits b e × RunLimits (editBuffer b e) es
+
+-- ---- the plain editor's run
 
 -- the plain editor keeps a list, and the length of the longest file so far
 pub record State : Type 0 where

@@ -22,9 +22,9 @@ abbrev entry : tie.After-index-len Inv-loop μ-loop → tie.Start Inv-loop μ-lo
 entry c = c .before .before .before
 
 -- the file fits, part by part
-room : (c : tie.After-index-len Inv-loop μ-loop)
+fits : (c : tie.After-index-len Inv-loop μ-loop)
     → 40 + entry c .args .n + 12 * entry c .args .k + 16 * c .index-len .result ≤ length (entry c .args .out .now)
-room c = omega (arith, c .index-len .ensures, entry c .pre .2, fileLen-is (entry c .args .n) (entry c .args .k))
+fits c = omega (arith, c .index-len .ensures, entry c .pre .2, fileLen-is (entry c .args .n) (entry c .args .k))
 
 -- which entry is read, and that it stands before the index
 abbrev number : tie.In-loop Inv-loop μ-loop → ℕ
@@ -69,16 +69,16 @@ add-get64 : tie.Need-add-get64 Inv-loop μ-loop
 add-get64 c = omega (arith, before-index (c .before))
 
 get64-requires : tie.Need-get64-requires Inv-loop μ-loop
-get64-requires c κs = omega (arith, before-index (c .before), room (c .before .before .before))
+get64-requires c κs = omega (arith, before-index (c .before), fits (c .before .before .before))
 
 mul-put-index-entry : tie.Need-mul-put-index-entry Inv-loop μ-loop
-mul-put-index-entry c = omega (arith, room (c .before .before .before .before .before))
+mul-put-index-entry c = omega (arith, fits (c .before .before .before .before .before))
 
 add-put-index-entry : tie.Need-add-put-index-entry Inv-loop μ-loop
-add-put-index-entry c = omega (arith, room (c .before .before .before .before .before))
+add-put-index-entry c = omega (arith, fits (c .before .before .before .before .before))
 
 put-index-entry-requires : tie.Need-put-index-entry-requires Inv-loop μ-loop
-put-index-entry-requires c κs = omega (arith, room (c .before .before .before .before .before))
+put-index-entry-requires c κs = omega (arith, fits (c .before .before .before .before .before))
 
 add-i : tie.Need-add-i Inv-loop μ-loop
 add-i c = search needs

@@ -1,0 +1,4 @@
+pub mod CloseLaws
+pub mod SearchLaws
+pub mod SoundLaws
+pub mod OutcomeLaws

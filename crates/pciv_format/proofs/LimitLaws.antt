@@ -1,0 +1,297 @@
+-- The limits on changed bytes (docs/FORMAT.md, "The editor"): between just before and just after an accepted edit.
+--   edit-stays-inline     the buffer after an edit that stays inline: one byte is set
+--   edit-stays-overflow   after one that stays in overflow: four bytes are set
+--   edit-limits           a byte that differs is one that may change
+--   edit-same             an edit to the same distance changes nothing
+use mathlib.Core.Path.{_≡_, refl, sym, ap, ap₂, _∙_}
+use mathlib.Core.Logic.{_⊎_, inl, inr}
+use Prim.Native.Nat.{ℕ, zero, suc, _+_, _-_, _*_, _≤_, _<_, max}
+use native.Mathlib.Nat.{le-refl, sub-self, zero-add}
+use native.Mathlib.Omega.{arith}
+use native.Mathlib.Decide.{decLe, ℕ-discrete}
+use mathlib.Core.Bool.{Bool, true, false}
+use mathlib.Core.List.{List, [], _∷_, _++_, append-assoc}
+use lib.ListN.{length, getD, take, drop, set, replicate, length-append, length-set, List·getD-append}
+use lib.Seq.{drop-at, length-sets, getD-append-add, getD-set-same, getD-set-other, set-getD, sets, getD-take, length-take-le}
+use lib.Dec.{ltb, leb}
+use borrow.Author.Tests.{leb-true, leb-false}
+use Rattle.pciv_bytes.specs.LittleEndian.{le}
+use Rattle.pciv_bytes.proofs.LittleEndianLaws.{length-le}
+use Rattle.pciv_format.specs.Layout.{magic, fileLen, indexLen, indexStep, inOverflow, primaryByte, primary, overflowSlots, overflowCount, overflowPart, overflowEntry, indexPart, header, file, at, fileOf, summaryOf, Limits}
+use Rattle.pciv_format.specs.Refusals.{Outcome, done}
+use Rattle.pciv_format.specs.Check.{checkBuffer}
+use Rattle.pciv_format.specs.Edit.{Edit, edited, plainOutcome, editOutcome, editBuffer, replaced, entryPlace, limitsBy, MayChange, editedFile}
+use Rattle.pciv_format.specs.Read.{listOf}
+use Rattle.pciv_format.specs.declared.Summary.{Summary}
+use Rattle.pciv_format.proofs.LayoutLaws.{length-header, length-primary, length-overflowPart, length-file, fileLen-is}
+use Rattle.pciv_format.proofs.RefusalsLaws.{refuseIf-done, andThen-done}
+use Rattle.pciv_format.proofs.FrontLaws.{front-list}
+use Rattle.pciv_format.proofs.EditLaws.{set-behind, set-front, primary-edited, file-inline, file-overflow, entries-in, entries-out, count-below, count-inside, below-count}
+
+-- ---- bytes of three joined stretches
+
+getD-front : (xs ys : List ℕ) (i : ℕ) → i < length xs → getD (xs ++ ys) i 0 ≡ getD xs i 0
+getD-front xs ys i h = List·getD-append xs ys 0 i h
+
+getD-behind : (xs ys : List ℕ) (i : ℕ) → length xs ≤ i → getD (xs ++ ys) i 0 ≡ getD ys (i - length xs) 0
+getD-behind xs ys i h =
+    let e : i ≡ length xs + (i - length xs) = omega arith in
+    ap (λ (j : ℕ). getD (xs ++ ys) j 0) e ∙ getD-append-add xs ys (i - length xs) 0
+
+-- ---- two files that differ at slot s alone
+
+module _ (n : ℕ) (v w : ℕ → ℕ) (s : ℕ) (inside : s < n) (same : (i : ℕ) → (i ≡ s → ⊥) → v i ≡ w i) where
+  p : ℕ
+  p = overflowCount s v
+
+  rest : (ℕ → ℕ) → List ℕ
+  rest u = overflowPart n u ++ indexPart (overflowSlots n u)
+
+  -- the first 16 bytes: magic and n
+  header-start : (k k' i : ℕ) → i < 16 → getD (header n k) i 0 ≡ getD (header n k') i 0
+  unfolding header
+  header-start k k' i h =
+      let a : List ℕ = le 8 magic in
+      let go : (c : ℕ) → getD (a ++ (le 8 n ++ (le 8 c ++ (le 8 (indexLen c) ++ le 8 (indexStep c))))) i 0 ≡ getD (a ++ le 8 n) i 0 =
+      λ c.
+      ap (λ (l : List ℕ). getD l i 0) (sym (append-assoc a (le 8 n) (le 8 c ++ (le 8 (indexLen c) ++ le 8 (indexStep c)))))
+      ∙ getD-front (a ++ le 8 n) _ i (simp length-append (omega (arith, length-le 8 magic, length-le 8 n))) in
+      go k ∙ sym (go k')
+
+  file-header : (u : ℕ → ℕ) (i : ℕ) → i < 40 → getD (file n u) i 0 ≡ getD (header n (overflowCount n u)) i 0
+  unfolding file
+  file-header u i h = getD-front (header n (overflowCount n u)) _ i (rw length-header h)
+
+  file-primary : (u : ℕ → ℕ) (i : ℕ) → i < n → getD (file n u) (40 + i) 0 ≡ getD (primary n u) i 0
+  unfolding file
+  file-primary u i h =
+      let hd : List ℕ = header n (overflowCount n u) in
+      let L : length hd ≡ 40 = length-header n (overflowCount n u) in
+      ap (λ (a : ℕ). getD (hd ++ (primary n u ++ (overflowPart n u ++ indexPart (overflowSlots n u)))) (a + i) 0) (sym L)
+      ∙ getD-append-add hd (primary n u ++ (overflowPart n u ++ indexPart (overflowSlots n u))) i 0
+      ∙ getD-front (primary n u) (overflowPart n u ++ indexPart (overflowSlots n u)) i (rw length-primary h)
+
+  file-entries : (u : ℕ → ℕ) (i : ℕ) → i < 12 * overflowCount n u
+      → getD (file n u) (40 + n + i) 0 ≡ getD (overflowPart n u) i 0
+  unfolding file
+  file-entries u i h =
+      let hd : List ℕ = header n (overflowCount n u) in
+      let q : List ℕ = overflowPart n u ++ indexPart (overflowSlots n u) in
+      let place : 40 + n + i ≡ length hd + (length (primary n u) + i) =
+      omega (arith, length-header n (overflowCount n u), length-primary n u) in
+      ap (λ (a : ℕ). getD (hd ++ (primary n u ++ q)) a 0) place
+      ∙ getD-append-add hd (primary n u ++ q) (length (primary n u) + i) 0
+      ∙ getD-append-add (primary n u) q i 0
+      ∙ getD-front (overflowPart n u) (indexPart (overflowSlots n u)) i (rw length-overflowPart h)
+
+  -- the bytes that a move into or out of overflow leaves alone
+  module _ (prefix : (i : ℕ) → i < 12 * overflowCount s v → getD (overflowPart n w) i 0 ≡ getD (overflowPart n v) i 0)
+      (few : overflowCount s v ≤ overflowCount n v) (few' : overflowCount s v ≤ overflowCount n w) where
+    kept : (i : ℕ) → i < 40 + n + 12 * overflowCount s v → (16 ≤ i → i < 40 → ⊥) → (i ≡ 40 + s → ⊥)
+        → getD (file n w) i 0 ≡ getD (file n v) i 0
+    kept i high counts other =
+        elim (decLe 40 i) [
+          | yes d ↦
+              elim (decLe (40 + n) i) [
+                | yes d' ↦ (let e : i ≡ 40 + n + (i - (40 + n)) = omega arith in
+                    rw e (file-entries w (i - (40 + n)) (omega arith) ∙ prefix (i - (40 + n)) (omega arith) ∙ sym (file-entries v (i - (40 + n)) (omega arith))))
+                | no d' ↦ (let e : i ≡ 40 + (i - 40) = omega arith in
+                    rw e
+                    (file-primary w (i - 40) (omega arith)
+                    ∙ ap (λ (l : List ℕ). getD l (i - 40) 0) (primary-edited n v w s inside same)
+                    ∙ getD-set-other (primary n v) s (i - 40) (primaryByte (w s)) 0 (λ q. other (omega arith))
+                    ∙ sym (file-primary v (i - 40) (omega arith))))
+              ]
+          | no d ↦
+              elim (decLe 16 i) [
+                | yes d' ↦ absurd (counts d' (omega arith))
+                | no d' ↦ file-header w i (omega arith) ∙ header-start (overflowCount n w) (overflowCount n v) i (omega arith) ∙ sym (file-header v i (omega arith))
+              ]
+        ]
+
+-- ---- bytes beside those that are set
+
+getD-sets-below : (vs d : List ℕ) (i j : ℕ) → j < i → getD (sets d i vs) j 0 ≡ getD d j 0
+getD-sets-below [] d i j h = refl
+getD-sets-below (x ∷ vs) d i j h = getD-sets-below vs (set d i x) (suc i) j (omega arith) ∙ getD-set-other d i j x 0 (λ q. omega arith)
+
+getD-sets-above : (vs d : List ℕ) (i j : ℕ) → i + length vs ≤ j → getD (sets d i vs) j 0 ≡ getD d j 0
+getD-sets-above [] d i j h = refl
+getD-sets-above (x ∷ vs) d i j h = getD-sets-above vs (set d i x) (suc i) j (omega arith) ∙ getD-set-other d i j x 0 (λ q. omega arith)
+
+sets-part : (xs ys : List ℕ) (i : ℕ) (vs : List ℕ) → i + length vs ≤ length xs → sets (xs ++ ys) i vs ≡ sets xs i vs ++ ys
+sets-part xs ys i [] h = refl
+sets-part xs ys i (v ∷ vs) h =
+    ap (λ (l : List ℕ). sets l (suc i) vs) (set-front xs ys i v (omega arith))
+    ∙ sets-part (set xs i v) ys (suc i) vs (rw length-set (omega arith))
+
+-- ---- an accepted edit of x, whose file stands at the front of b
+
+module _ (x t : List ℕ) (l : Limits x) (e : Edit) (sm : Summary) (accepted : editOutcome (fileOf x ++ t) e ≡ done sm) where
+  slot-inside : e .slot < length x
+  unfolding editOutcome plainOutcome
+  slot-inside =
+      let o = andThen-done (checkBuffer 1 (fileOf x ++ t)) _ sm accepted in
+      let g = refuseIf-done (leb (length (listOf (editedFile (fileOf x ++ t)))) (e .slot)) _ _ sm (o .2) in
+      let h : e .slot < length (listOf (editedFile (fileOf x ++ t))) = leb-false _ _ (g .0) in
+      rw (front-list x t l) at h
+
+  buffer-is : editBuffer (fileOf x ++ t) e ≡ replaced (fileOf x ++ t) x (edited x e)
+  unfolding editBuffer
+  buffer-is = rw (accepted, front-list x t l)
+
+  others : (i : ℕ) → (i ≡ e .slot → ⊥) → at x i ≡ at (edited x e) i
+  others i ne = sym (getD-set-other x (e .slot) i (e .distance) 0 ne)
+
+  new-at : at (edited x e) (e .slot) ≡ e .distance
+  new-at = getD-set-same x (e .slot) (e .distance) 0 slot-inside
+
+  file-edited : fileOf (edited x e) ≡ file (length x) (at (edited x e))
+  file-edited = ap (λ (n : ℕ). file n (at (edited x e))) (length-set x (e .slot) (e .distance))
+
+  -- where the new file is as long as the old one
+  replaced-same : length (fileOf (edited x e)) ≡ length (fileOf x) → replaced (fileOf x ++ t) x (edited x e) ≡ fileOf (edited x e) ++ t
+  unfolding replaced
+  replaced-same long =
+      let m : max (length (fileOf x)) (length (fileOf (edited x e))) ≡ length (fileOf x) = omega arith in
+      let z : length (fileOf x) - length (fileOf (edited x e)) ≡ 0 = omega arith in
+      rw (m, z, drop-at (fileOf x) t (length (fileOf x)) refl)
+
+  pub edit-stays-inline : at x (e .slot) < 255 → e .distance < 255
+      → editBuffer (fileOf x ++ t) e ≡ set (fileOf x ++ t) (40 + e .slot) (e .distance)
+  edit-stays-inline old new =
+      let f : fileOf (edited x e) ≡ set (fileOf x) (40 + e .slot) (e .distance) =
+      file-edited
+      ∙ file-inline (length x) (at x) (at (edited x e)) (e .slot) slot-inside others old (rw new-at new)
+      ∙ ap (set (fileOf x) (40 + e .slot)) new-at in
+      let long : length (fileOf (edited x e)) ≡ length (fileOf x) = ap length f ∙ length-set (fileOf x) (40 + e .slot) (e .distance) in
+      buffer-is
+      ∙ replaced-same long
+      ∙ ap (λ (a : List ℕ). a ++ t) f
+      ∙ sym (set-front (fileOf x) t (40 + e .slot) (e .distance) (omega (arith, slot-inside, length-file (length x) (at x), fileLen-is (length x) (overflowCount (length x) (at x)))))
+
+  pub edit-stays-overflow : 255 ≤ at x (e .slot) → 255 ≤ e .distance
+      → editBuffer (fileOf x ++ t) e ≡ sets (fileOf x ++ t) (entryPlace x (e .slot) + 8) (le 4 (e .distance))
+  edit-stays-overflow old new =
+      let place : ℕ = entryPlace x (e .slot) + 8 in
+      let f : fileOf (edited x e) ≡ sets (fileOf x) place (le 4 (e .distance)) =
+      file-edited
+      ∙ file-overflow (length x) (at x) (at (edited x e)) (e .slot) slot-inside others old (rw new-at new)
+      ∙ ap (λ (d : ℕ). sets (fileOf x) place (le 4 d)) new-at in
+      let long : length (fileOf (edited x e)) ≡ length (fileOf x) = ap length f ∙ length-sets (fileOf x) place (le 4 (e .distance)) in
+      let k : ℕ = overflowCount (length x) (at x) in
+      let fits : place + length (le 4 (e .distance)) ≤ length (fileOf x) =
+      omega (
+        arith,
+        length-le 4 (e .distance),
+        count-inside (length x) (at x) (at (edited x e)) (e .slot) slot-inside others old,
+        length-file (length x) (at x),
+        fileLen-is (length x) k,
+      ) in
+      buffer-is
+      ∙ replaced-same long
+      ∙ ap (λ (a : List ℕ). a ++ t) f
+      ∙ sym (sets-part (fileOf x) t place (le 4 (e .distance)) fits)
+
+  -- an edit to the same distance changes nothing
+  pub edit-same : e .distance ≡ at x (e .slot) → editBuffer (fileOf x ++ t) e ≡ fileOf x ++ t
+  edit-same q =
+      let f : edited x e ≡ x = ap (set x (e .slot)) q ∙ set-getD x (e .slot) 0 in
+      buffer-is ∙ replaced-same (ap (λ (y : List ℕ). length (fileOf y)) f) ∙ ap (λ (y : List ℕ). fileOf y ++ t) f
+
+  -- ---- the limits
+
+  -- bytes below the entry's place that a move into or out of overflow leaves alone
+  module _ (prefix : (i : ℕ) → i < 12 * overflowCount (e .slot) (at x) → getD (overflowPart (length x) (at (edited x e))) i 0 ≡ getD (overflowPart (length x) (at x)) i 0)
+      (few' : overflowCount (e .slot) (at x) ≤ overflowCount (length x) (at (edited x e))) where
+    crossing-kept : (i : ℕ) → i < entryPlace x (e .slot) → (16 ≤ i → i < 40 → ⊥) → (i ≡ 40 + e .slot → ⊥)
+        → getD (editBuffer (fileOf x ++ t) e) i 0 ≡ getD (fileOf x ++ t) i 0
+    unfolding replaced
+    crossing-kept i low counts other =
+        let k : ℕ = overflowCount (length x) (at x) in
+        let k' : ℕ = overflowCount (length x) (at (edited x e)) in
+        let few = count-below (length x) (at x) (at (edited x e)) (e .slot) slot-inside others in
+        let inNew : i < length (fileOf (edited x e)) =
+        omega (arith, ap length file-edited, length-file (length x) (at (edited x e)), fileLen-is (length x) k') in
+        let inOld : i < length (fileOf x) = omega (arith, length-file (length x) (at x), fileLen-is (length x) k) in
+        ap (λ (b : List ℕ). getD b i 0) buffer-is
+        ∙ getD-front (fileOf (edited x e)) _ i inNew
+        ∙ ap (λ (b : List ℕ). getD b i 0) file-edited
+        ∙ kept (length x) (at x) (at (edited x e)) (e .slot) slot-inside others prefix few few' i low counts other
+        ∙ sym (getD-front (fileOf x) t i inOld)
+
+    crossing : (i : ℕ) → (getD (editBuffer (fileOf x ++ t) e) i 0 ≡ getD (fileOf x ++ t) i 0 → ⊥)
+        → ((16 ≤ i) × (i < 40)) ⊎ ((i ≡ 40 + e .slot) ⊎ (entryPlace x (e .slot) ≤ i))
+    crossing i changed =
+        elim (decLe (entryPlace x (e .slot)) i) [
+          | yes high ↦ inr (inr high)
+          | no low ↦
+              elim (ℕ-discrete i (40 + e .slot)) [
+                | yes q ↦ inr (inl q)
+                | no other ↦
+                    elim (decLe 16 i) [
+                      | no d ↦ absurd (changed (crossing-kept i (omega arith) (λ h h'. omega arith) other))
+                      | yes h ↦
+                          elim (decLe 40 i)
+                          [ yes d ↦ absurd (changed (crossing-kept i (omega arith) (λ g g'. omega arith) other)) | no d ↦ inl (h, omega arith) ]
+                    ]
+              ]
+        ]
+
+  -- the overflow part before the entry of the slot
+  prefix-in : at x (e .slot) < 255 → 255 ≤ e .distance → (i : ℕ) → i < 12 * overflowCount (e .slot) (at x)
+      → getD (overflowPart (length x) (at (edited x e))) i 0 ≡ getD (overflowPart (length x) (at x)) i 0
+  prefix-in old new i h =
+      let q : ℕ = 12 * overflowCount (e .slot) (at x) in
+      let part : List ℕ = overflowPart (length x) (at x) in
+      let few = count-below (length x) (at x) (at (edited x e)) (e .slot) slot-inside others in
+      let long : length (take q part) ≡ q = length-take-le q part (omega (arith, length-overflowPart (length x) (at x))) in
+      ap (λ (b : List ℕ). getD b i 0) (entries-in (length x) (at x) (at (edited x e)) (e .slot) slot-inside others old (rw new-at new))
+      ∙ getD-front (take q part) _ i (omega arith)
+      ∙ getD-take q part i 0 h
+
+  prefix-out : 255 ≤ at x (e .slot) → e .distance < 255 → (i : ℕ) → i < 12 * overflowCount (e .slot) (at x)
+      → getD (overflowPart (length x) (at (edited x e))) i 0 ≡ getD (overflowPart (length x) (at x)) i 0
+  prefix-out old new i h =
+      let q : ℕ = 12 * overflowCount (e .slot) (at x) in
+      let part : List ℕ = overflowPart (length x) (at x) in
+      let few = count-below (length x) (at x) (at (edited x e)) (e .slot) slot-inside others in
+      let long : length (take q part) ≡ q = length-take-le q part (omega (arith, length-overflowPart (length x) (at x))) in
+      ap (λ (b : List ℕ). getD b i 0) (entries-out (length x) (at x) (at (edited x e)) (e .slot) slot-inside others old (rw new-at new))
+      ∙ getD-front (take q part) _ i (omega arith)
+      ∙ getD-take q part i 0 h
+
+  -- the same count before the slot, in the new list's own terms
+  few-new : overflowCount (e .slot) (at x) ≤ overflowCount (length x) (at (edited x e))
+  few-new =
+      omega (
+        arith,
+        below-count (length x) (at x) (at (edited x e)) (e .slot) slot-inside others,
+        count-below (length x) (at (edited x e)) (at x) (e .slot) slot-inside (λ i ne. sym (others i ne)),
+      )
+
+  pub edit-limits : (i : ℕ) → (getD (editBuffer (fileOf x ++ t) e) i 0 ≡ getD (fileOf x ++ t) i 0 → ⊥) → MayChange x e i
+  edit-limits i changed = go (inOverflow (at x (e .slot))) (inOverflow (e .distance)) refl refl
+    where
+      go : (p q : Bool) → inOverflow (at x (e .slot)) ≡ p → inOverflow (e .distance) ≡ q → limitsBy p q x (e .slot) i
+      go false false hp hq =
+          elim (ℕ-discrete i (40 + e .slot)) [
+            | yes d ↦ d
+            | no d ↦ absurd
+                (changed
+                (ap (λ (b : List ℕ). getD b i 0) (edit-stays-inline (leb-false _ _ hp) (leb-false _ _ hq))
+                ∙ getD-set-other (fileOf x ++ t) (40 + e .slot) i (e .distance) 0 d))
+          ]
+      go true true hp hq =
+          let place : ℕ = entryPlace x (e .slot) + 8 in
+          let is = ap (λ (b : List ℕ). getD b i 0) (edit-stays-overflow (leb-true _ _ hp) (leb-true _ _ hq)) in
+          elim (decLe place i) [
+            | yes low ↦
+                elim (decLe (place + 4) i) [
+                  | yes high ↦ absurd (changed (is ∙ getD-sets-above (le 4 (e .distance)) (fileOf x ++ t) place i (omega (arith, length-le 4 (e .distance)))))
+                  | no high ↦ (low, omega arith)
+                ]
+            | no low ↦ absurd (changed (is ∙ getD-sets-below (le 4 (e .distance)) (fileOf x ++ t) place i (omega arith)))
+          ]
+      go true false hp hq = crossing (prefix-out (leb-true _ _ hp) (leb-false _ _ hq)) few-new i changed
+      go false true hp hq = crossing (prefix-in (leb-false _ _ hp) (leb-true _ _ hq)) few-new i changed
