@@ -23,7 +23,16 @@ fn smaller(x: usize, y: usize) -> usize
 }
 
 // The next slot with an overflow entry in either map, or n.
-fn either_slot(of: Addend, a: &[u8], b: &[u8], n: usize, ka: usize, kb: usize, j: usize, t: usize) -> usize
+fn either_slot(
+    of: Addend,
+    a: &[u8],
+    b: &[u8],
+    n: usize,
+    ka: usize,
+    kb: usize,
+    j: usize,
+    t: usize,
+) -> usize
     requires { ⌜ CheckedPair (now a) (now b) n ka kb ⌝ }
     ensures { λ r. ⌜ r ≡ min (nextSlot (fileParts (now (a .entry)) n ka) j) (nextOf of (fileParts (now (b .entry)) n kb) t) ⌝ }
 {

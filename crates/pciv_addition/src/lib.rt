@@ -24,7 +24,15 @@ mod large;
 mod put;
 
 // Writes the result's file to the front of out. Refusals: 11, then 12.
-pub fn added_into(of: Addend, a: &[u8], b: &[u8], n: usize, ka: usize, kb: usize, out: &mut [u8]) -> FileAnswer
+pub fn added_into(
+    of: Addend,
+    a: &[u8],
+    b: &[u8],
+    n: usize,
+    ka: usize,
+    kb: usize,
+    out: &mut [u8],
+) -> FileAnswer
     requires { ⌜ CheckedPair (now a) (now b) n ka kb ⌝ }
     requires { ⌜ Small of ⌝ }
     ensures answer { λ r. ⌜ r ≡ fileAnswer (mapInto n (addedAt of (fileParts (now (a .entry)) n ka) (fileParts (now (b .entry)) n kb)) (length (now (out .entry)))) ⌝ }

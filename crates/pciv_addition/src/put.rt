@@ -44,8 +44,20 @@ pub fn put_primary(out: &mut [u8], of: Addend, a: &[u8], b: &[u8], n: usize, ka:
 {
     let end = HEADER_LEN + n;
     match of {
-        Addend::Map => zip_into(ByteOp::Add, &a[HEADER_LEN..end], &b[HEADER_LEN..end], out, HEADER_LEN),
-        Addend::Number(d) => map_into(ByteOp::Add, &a[HEADER_LEN..end], primary_byte(d), out, HEADER_LEN),
+        Addend::Map => zip_into(
+            ByteOp::Add,
+            &a[HEADER_LEN..end],
+            &b[HEADER_LEN..end],
+            out,
+            HEADER_LEN,
+        ),
+        Addend::Number(d) => map_into(
+            ByteOp::Add,
+            &a[HEADER_LEN..end],
+            primary_byte(d),
+            out,
+            HEADER_LEN,
+        ),
     }
 }
 

@@ -1,6 +1,7 @@
 -- The primary array, written one byte a step.
 --   PrimaryLeft            the invariant: the bytes of the slots from i on are left
 --   -start, -more, -end    before the first slot, one slot on, and after the last
+--   primary-byte           the byte of a slot
 --   primary-at             the byte of a slot, once the array is written
 use mathlib.Core.Path.{_≡_, refl, sym, ap, _∙_}
 use Prim.Native.Nat.{ℕ, _+_, _-_, _≤_, _<_}
@@ -39,7 +40,7 @@ module _ {n : ℕ} {v : ℕ → ℕ} {d₀ : List ℕ} {i : ℕ} {d : List ℕ} 
   pub primary-end : n ≤ i → d ≡ sets d₀ 40 (primary n v)
   primary-end h = sym (e .rest ∙ sets-table-end (byteOf v) 40 n i d h)
 
-primary-byte : (n : ℕ) (v : ℕ → ℕ) (i : ℕ) → i < n → getD (primary n v) i 0 ≡ primaryByte (v i)
+pub primary-byte : (n : ℕ) (v : ℕ → ℕ) (i : ℕ) → i < n → getD (primary n v) i 0 ≡ primaryByte (v i)
 unfolding primary
 primary-byte n v i h = getD-table (byteOf v) 0 0 n i h ∙ ap (byteOf v) (zero-add i)
 

@@ -7,8 +7,14 @@ ghost use lib.ListN.{length};
 ghost use Rattle.pciv_format.specs.Check.{checkFile};
 ghost use Rattle.pciv_format.specs.Read.{lookupOutcome, lookupListOutcome, lookupListBuffer, scanOutcome, scanBuffer, sumOutcome, readingsOutcome};
 ghost use Rattle.pciv_format.specs.Write.{writeOutcome, writeBuffer, closeOutcome, closeBuffer};
+ghost use Rattle.pciv_format.specs.Arith.{combineMapsOutcome, combineMapsBuffer, signedDifferenceOutcome, signedDifferenceList};
+ghost use Rattle.pciv_format.specs.declared.SlotOp.the-variants.{Minimum, Maximum, Difference};
 ghost use Rattle.pciv_format.specs.Report.{reportOutcome, reportBuffer};
 ghost use Rattle.pciv_c.specs.Cells.{ToldNumber, ToldFile, spanCells, spanLength, fileOutcome, numberOutcome, distanceOutcome};
+use pciv_arith::difference;
+use pciv_arith::maximum;
+use pciv_arith::minimum;
+use pciv_change::signed_difference;
 use pciv_check::check;
 use pciv_close::close;
 use pciv_format::DistanceAnswer;
@@ -189,6 +195,64 @@ pub extern "C" fn pciv_close(
     ensures buffer { λ _. ⌜ now (out .exit) ≡ closeBuffer (now (primary .entry)) (now (slots .entry)) (now (distances .entry)) (now (out .entry)) ⌝ }
 {
     tell_file(close(primary, slots, distances, out), summary, refusal)
+}
+
+// ---- arithmetic on two maps
+
+#[no_mangle]
+pub extern "C" fn pciv_minimum(
+    a: &[u8],
+    b: &[u8],
+    out: &mut [u8],
+    summary: &mut [usize; 5],
+    refusal: &mut [usize; 3],
+) -> usize
+    ensures told { λ r. ⌜ ToldFile (combineMapsOutcome Minimum (now (a .entry)) (now (b .entry)) (length (now (out .entry)))) r (now (summary .entry)) (now (summary .exit)) (now (refusal .exit)) ⌝ }
+    ensures buffer { λ _. ⌜ now (out .exit) ≡ combineMapsBuffer Minimum (now (a .entry)) (now (b .entry)) (now (out .entry)) ⌝ }
+{
+    tell_file(minimum(a, b, out), summary, refusal)
+}
+
+#[no_mangle]
+pub extern "C" fn pciv_maximum(
+    a: &[u8],
+    b: &[u8],
+    out: &mut [u8],
+    summary: &mut [usize; 5],
+    refusal: &mut [usize; 3],
+) -> usize
+    ensures told { λ r. ⌜ ToldFile (combineMapsOutcome Maximum (now (a .entry)) (now (b .entry)) (length (now (out .entry)))) r (now (summary .entry)) (now (summary .exit)) (now (refusal .exit)) ⌝ }
+    ensures buffer { λ _. ⌜ now (out .exit) ≡ combineMapsBuffer Maximum (now (a .entry)) (now (b .entry)) (now (out .entry)) ⌝ }
+{
+    tell_file(maximum(a, b, out), summary, refusal)
+}
+
+#[no_mangle]
+pub extern "C" fn pciv_difference(
+    a: &[u8],
+    b: &[u8],
+    out: &mut [u8],
+    summary: &mut [usize; 5],
+    refusal: &mut [usize; 3],
+) -> usize
+    ensures told { λ r. ⌜ ToldFile (combineMapsOutcome Difference (now (a .entry)) (now (b .entry)) (length (now (out .entry)))) r (now (summary .entry)) (now (summary .exit)) (now (refusal .exit)) ⌝ }
+    ensures buffer { λ _. ⌜ now (out .exit) ≡ combineMapsBuffer Difference (now (a .entry)) (now (b .entry)) (now (out .entry)) ⌝ }
+{
+    tell_file(difference(a, b, out), summary, refusal)
+}
+
+#[no_mangle]
+pub extern "C" fn pciv_signed_difference(
+    a: &[u8],
+    b: &[u8],
+    out: &mut [i64],
+    count: &mut usize,
+    refusal: &mut [usize; 3],
+) -> usize
+    ensures told { λ r. ⌜ ToldNumber (signedDifferenceOutcome (now (a .entry)) (now (b .entry)) (length (now (out .entry)))) r (now (count .entry)) (now (count .exit)) (now (refusal .exit)) ⌝ }
+    ensures list { λ _. ⌜ now (out .exit) ≡ signedDifferenceList (now (a .entry)) (now (b .entry)) (now (out .entry)) ⌝ }
+{
+    tell_number(signed_difference(a, b, out), count, refusal)
 }
 
 // ---- the report

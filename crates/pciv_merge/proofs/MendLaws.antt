@@ -5,7 +5,6 @@
 -- Axioms: none.
 use mathlib.Core.Path.{_≡_, refl, sym, ap, _∙_}
 use Prim.Native.Nat.{ℕ, _+_, _≤_, _<_}
-use native.Mathlib.Nat.{zero-add}
 use native.Mathlib.Numerals.{add-one}
 use native.Mathlib.Omega.{arith}
 use native.Mathlib.Decide.{decLe}
@@ -13,12 +12,13 @@ use mathlib.Core.List.{List}
 use lib.ListN.{length, getD, set, length-set}
 use lib.Seq.{sets, getD-set-same, getD-set-other}
 use Rattle.pciv_bytes.specs.Ranges.{table}
-use Rattle.pciv_bytes.proofs.RangesLaws.{length-table, getD-table}
-use Rattle.pciv_bytes.proofs.WriteLaws.{sets-set-inside, sets-sets-inside, sets-same}
+use Rattle.pciv_bytes.proofs.RangesLaws.{length-table}
+use Rattle.pciv_bytes.proofs.WriteLaws.{sets-set-inside, sets-same, sets-over}
 use Rattle.pciv_format.specs.Layout.{primaryByte, primary}
 use Rattle.pciv_format.specs.Parts.{Parts, lowestSlot, SoundParts}
 use Rattle.pciv_format.proofs.PartsLaws.{entry-good}
 use Rattle.pciv_format.proofs.LayoutLaws.{length-primary}
+use Rattle.pciv_build.proofs.PrimaryLaws.{primary-byte}
 use Rattle.pciv_map.proofs.EntryLaws.{gap-inline}
 use Rattle.pciv_merge.specs.Merge.{InlineRight}
 
@@ -31,17 +31,12 @@ pub record Mended (A : Parts) (v : ℕ → ℕ) (d₀ : List ℕ) (j : ℕ) (d :
 pub mended-start : (A : Parts) (v : ℕ → ℕ) (d : List ℕ) → InlineRight A v d → Mended A v d 0 d
 mended-start A v d right = record { size = refl; rest = refl; inline = right; passed = λ i h low. absurd (omega arith) }
 
-at-primary : (n : ℕ) (v : ℕ → ℕ) (i : ℕ) → i < n → getD (primary n v) i 0 ≡ primaryByte (v i)
-unfolding primary
-at-primary n v i h =
-    getD-table (λ (i : ℕ). primaryByte (v i)) 0 0 n i h ∙ ap (λ (j : ℕ). primaryByte (v j)) (zero-add i)
-
 pub mended-over : (n : ℕ) (f v : ℕ → ℕ) (d d₁ d₂ : List ℕ) → d₁ ≡ sets d 40 (table f 0 n) → d₂ ≡ sets d₁ 40 (primary n v)
     → d₂ ≡ sets d 40 (primary n v)
 mended-over n f v d d₁ d₂ first second =
     second
     ∙ ap (λ (l : List ℕ). sets l 40 (primary n v)) first
-    ∙ sets-sets-inside (table f 0 n) (primary n v) d 40 40 (omega arith) (omega (arith, length-table f 0 n, length-primary n v))
+    ∙ sets-over (table f 0 n) (primary n v) d 40 (omega (arith, length-table f 0 n, length-primary n v))
 
 module _ (A : Parts) (s : SoundParts A) (bytes : (i : ℕ) → A .byte i < 256) (v : ℕ → ℕ) (d₀ : List ℕ) (j : ℕ) (d : List ℕ)
     (m : Mended A v d₀ j d) where
@@ -89,4 +84,4 @@ module _ (A : Parts) (s : SoundParts A) (bytes : (i : ℕ) → A .byte i < 256) 
       ∙ sets-same (primary (A .n) v) d 0 40
       (λ i h.
       (let inside : i < A .n = rw length-primary at h in
-      between i few (λ more. absurd (omega arith)) inside ∙ sym (at-primary (A .n) v i inside))))
+      between i few (λ more. absurd (omega arith)) inside ∙ sym (primary-byte (A .n) v i inside))))

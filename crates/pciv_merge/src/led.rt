@@ -134,11 +134,11 @@ pub fn put_led(
     let mut t: usize = 0;
     let mut j: usize = 0;
     while j < ka {
-        let found = combine_entry(op, a, b, n, ka, kb, j, t);
-        t = found.next;
+        let entry = combine_entry(op, a, b, n, ka, kb, j, t);
+        t = entry.next;
         j += 1;
-        if 255 <= found.distance {
-            at = put_entry(out, at, found.slot, found.distance);
+        if 255 <= entry.distance {
+            at = put_entry(out, at, entry.slot, entry.distance);
         }
     }
 }

@@ -114,8 +114,7 @@ put-entries-requires c κs =
     let b = k .before .before .before .before in
     let e = b .before .before in
     let s = at-count e in
-    let g = is-begun k in
-    (
+    let g = is-begun k in (
       s .pre .0,
       (
         fits (e .before),
@@ -148,11 +147,10 @@ returns-2 c =
     let e = b .before .before in
     let s = at-count e in
     let o = is-refused k in
-    let same = into e in
-    (
+    let same = into e in (
       ap fileAnswer (sym (same ∙ o)),
       built-refused (s .args .n) (e .count-added .result) (v s) (e .count-added .ensures) (s .pre .0 .first .header .small) _ _ _ o (b .begin .ensures .1)
-      ∙ ap (buffer s) (begin-into e ∙ sym same),
+          ∙ ap (buffer s) (begin-into e ∙ sym same),
     )
 
 same-length-2 : tie.Need-same-length-2
@@ -168,12 +166,11 @@ returns-3 c =
     let e = b .before .before in
     let s = at-count e in
     let o = is-done k in
-    let same = into e in
-    (
+    let same = into e in (
       ap fileAnswer (sym (same ∙ o)),
       built-done (s .args .n) (e .count-added .result) (v s) (e .count-added .ensures) (s .pre .0 .first .header .small) _ _ _ _ _ _ o
-      (b .begin .ensures .1) (p .put-primary .ensures) (q .put-entries .ensures) (f .finish .ensures)
-      ∙ ap (buffer s) (begin-into e ∙ sym same),
+          (b .begin .ensures .1) (p .put-primary .ensures) (q .put-entries .ensures) (f .finish .ensures)
+          ∙ ap (buffer s) (begin-into e ∙ sym same),
     )
 
 pub added-into-spec : {M : Type 1} → statement M

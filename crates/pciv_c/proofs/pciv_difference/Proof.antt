@@ -1,0 +1,29 @@
+-- Proves pciv_c::pciv_difference.
+use lib.ListN.{length}
+use Rattle.pciv_format.specs.Arith.{combineMapsOutcome}
+use Rattle.pciv_format.specs.declared.SlotOp.the-variants.{Difference}
+use Rattle.pciv_c.proofs.CellsLaws.{file-outcome}
+use borrow.Author.Needs.{needs}
+use Rattle.pciv_c.proofs.pciv_difference.Statement.{statement}
+use Rattle.pciv_c.proofs.pciv_difference.Tie as tie
+
+difference-requires : tie.Need-difference-requires
+difference-requires c κs = search needs
+
+tell-file-requires : tie.Need-tell-file-requires
+tell-file-requires c κs = search needs
+
+same-length : tie.Need-same-length
+same-length c = search needs
+
+returns : tie.Need-returns
+returns c =
+    let d = c .before .before .before .before .before in
+    let a = d .before .before .before .before .before .args in
+    let e = d .difference .ensures in
+    let o = combineMapsOutcome Difference (a .a .now) (a .b .now) (length (a .out .now)) in
+    (rw (file-outcome (d .difference .result) o (e .0)) at (c .tell-file .ensures), e .1)
+
+pub pciv-difference-spec : {M : Type 1} → statement M
+pciv-difference-spec =
+    tie.close (tie.spec difference-requires tell-file-requires same-length returns)
