@@ -39,9 +39,9 @@ extern "C" {
 /* ---- Refusals --------------------------------------------------------------------------------
  *
  * Numbers 1 to 8 are faults of a file, or of the parts that a file is made of, and have map 1 (2
- * for the second file of a call). All others have map 0. The place is 0 unless stated. Where several
- * apply, the first file's 1 to 8 come first in rising order, then the second file's, then 10, 13, 9,
- * 11, 12.
+ * for the second file of a call). All others have map 0. The place is 0 unless stated. Where
+ * several apply, the first file's 1 to 8 come first in rising order, then the second file's, then
+ * 10, 13, 9, 11, 12.
  */
 enum pciv_refusal_number {
     PCIV_OK = 0,                     /* done */
@@ -151,26 +151,28 @@ uint64_t pciv_readings(const uint8_t *file, size_t file_len, uint64_t *count,
 /* ---- Writing ----------------------------------------------------------------------------------
  *
  * A file goes to the front of out, and no more than its length is written. 40 + n + 12k + 16m bytes
- * hold the file of n slots with k overflow entries; m is at most 2,048, and not every rise of k makes
- * the file longer (docs/FORMAT.md, "Derived counts"). 34,808 + 13n bytes hold any file of n slots.
+ * hold the file of n slots with k overflow entries; m is at most 2,048, and not every rise of k
+ * makes the file longer (docs/FORMAT.md, "Derived counts"). 32,808 + 13n bytes hold any file of n
+ * slots.
  */
 
 /* The file of a list of distances.
    Refusals: 3 with map 1 where distances_len is above 1,048,576, then 12 where the file is longer
    than out_len.
-   When done the first summary->len bytes of out are the file, the bytes behind it are unchanged, and
-   *summary is the file's summary. After a refusal out and *summary are unchanged. */
+   When done the first summary->len bytes of out are the file, the bytes behind it are unchanged,
+   and *summary is the file's summary. After a refusal out and *summary are unchanged. */
 uint64_t pciv_write(const uint32_t *distances, size_t distances_len, uint8_t *out, size_t out_len,
                     pciv_summary *summary, pciv_refusal *refusal);
 
-/* The file of a primary array and its overflow entries. Entry j is slots[j] with distances[j]; where
-   one list is shorter than the other, the first entry that it lacks is wrong.
-   Refusals: 3 with map 1 where primary_len is above 1,048,576; 6 with map 1 where an entry's slot is
-   primary_len or more or not above the one before, its distance is below 255, or the primary byte of
-   its slot is not 255, with the least such entry as place; 7 with map 1 where a primary byte 255 has
-   no entry, with the least such slot as place; then 12 where the file is longer than out_len.
-   When done the first summary->len bytes of out are the file, the bytes behind it are unchanged, and
-   *summary is the file's summary. After a refusal out and *summary are unchanged. */
+/* The file of a primary array and its overflow entries. Entry j is slots[j] with distances[j];
+   where one list is shorter than the other, the first entry that it lacks is wrong.
+   Refusals: 3 with map 1 where primary_len is above 1,048,576; 6 with map 1 where an entry's slot
+   is primary_len or more or not above the one before, its distance is below 255, or the primary
+   byte of its slot is not 255, with the least such entry as place; 7 with map 1 where a primary
+   byte 255 has no entry, with the least such slot as place; then 12 where the file is longer than
+   out_len.
+   When done the first summary->len bytes of out are the file, the bytes behind it are unchanged,
+   and *summary is the file's summary. After a refusal out and *summary are unchanged. */
 uint64_t pciv_close(const uint8_t *primary, size_t primary_len, const uint64_t *slots,
                     size_t slots_len, const uint32_t *distances, size_t distances_len, uint8_t *out,
                     size_t out_len, pciv_summary *summary, pciv_refusal *refusal);
@@ -188,8 +190,8 @@ uint64_t pciv_close_entries(const uint8_t *primary, size_t primary_len, const pc
 
 /* ---- Arithmetic -------------------------------------------------------------------------------
  *
- * Each call works slot by slot. a is the first file and b the second; for their faults a refusal has
- * map 1 and map 2.
+ * Each call works slot by slot. a is the first file and b the second; for their faults a refusal
+ * has map 1 and map 2.
  */
 
 /* The file of the smaller distances of two maps.
@@ -206,7 +208,8 @@ uint64_t pciv_maximum(const uint8_t *a, size_t a_len, const uint8_t *b, size_t b
 
 /* The file of the sums a + b of two maps.
    Refusals: 1 to 8 of a, 1 to 8 of b, 10 where the maps differ in n, 11 where a sum is above
-   4,294,967,295, with the least such slot as place, then 12 where the result is longer than out_len.
+   4,294,967,295, with the least such slot as place, then 12 where the result is longer than
+   out_len.
    Buffers as pciv_minimum. */
 uint64_t pciv_sum_maps(const uint8_t *a, size_t a_len, const uint8_t *b, size_t b_len, uint8_t *out,
                        size_t out_len, pciv_summary *summary, pciv_refusal *refusal);
