@@ -5,7 +5,10 @@ use crate::rng::Rng;
 /// Distances next to a rule's border.
 const CORNERS: [u32; 7] = [0, 1, 254, 255, 256, 300, u32::MAX];
 
-/// How the overflow slots of a list lie.
+/// Numbers of overflow entries where the step of the sparse index changes.
+pub const STEP_BORDERS: [usize; 6] = [2_047, 2_048, 2_049, 4_095, 4_096, 4_097];
+
+/// How the chosen slots of a list lie.
 #[derive(Clone, Copy, Debug)]
 pub enum Spread {
     /// They are the first slots.
@@ -35,22 +38,104 @@ pub fn mixed(rng: &mut Rng, n: usize) -> Vec<u32> {
 
 /// A list of `n` distances of which exactly `k` are in overflow.
 pub fn with_overflow(rng: &mut Rng, n: usize, k: usize, spread: Spread) -> Vec<u32> {
+    placed(rng, n, k, spread, overflow, inline)
+}
+
+/// A list of `n` distances, made by `chosen` at exactly `k` slots and by `other` elsewhere.
+pub fn placed(
+    rng: &mut Rng,
+    n: usize,
+    k: usize,
+    spread: Spread,
+    chosen: impl Fn(&mut Rng) -> u32,
+    other: impl Fn(&mut Rng) -> u32,
+) -> Vec<u32> {
     let mut left = k;
     (0..n)
         .map(|slot| {
-            let chosen = match spread {
+            let is_chosen = match spread {
                 Spread::Front => slot < k,
                 Spread::Back => slot >= n - k,
                 Spread::Scattered => rng.below(n - slot) < left,
             };
-            if chosen {
+            if is_chosen {
                 left -= 1;
-                overflow(rng)
+                chosen(rng)
             } else {
-                inline(rng)
+                other(rng)
             }
         })
         .collect()
+}
+
+/// A list that tells something beside another one: equal, next to it, with sums and differences at
+/// the borders of overflow, or unrelated. Mostly all sums are within the largest distance.
+pub fn beside(rng: &mut Rng, list: &[u32]) -> Vec<u32> {
+    let mut other = match rng.below(4) {
+        0 => list.to_vec(),
+        1 => mixed(rng, list.len()),
+        _ => list.iter().map(|&x| distance_beside(rng, x)).collect(),
+    };
+    if rng.below(4) > 0 {
+        for (y, x) in other.iter_mut().zip(list) {
+            *y = (*y).min(u32::MAX - x);
+        }
+    }
+    other
+}
+
+fn distance_beside(rng: &mut Rng, x: u32) -> u32 {
+    match rng.below(7) {
+        0 => x,
+        1 => x.saturating_add(1),
+        2 => x.saturating_add(255),
+        3 => x.saturating_sub(rng.pick(&[1, 253, 254, 255, 256])),
+        4 => rng.pick(&[253, 254, 255, 256u32]).saturating_sub(x),
+        5 => u32::MAX - x,
+        _ => corner(rng),
+    }
+}
+
+/// Distances which, shifted, are next to 0, 255 or the largest distance; some lists have one above
+/// that.
+pub fn about_shift(rng: &mut Rng, n: usize, by: i32) -> Vec<u32> {
+    let largest = i64::from(u32::MAX);
+    let above = rng.below(3) == 0;
+    let shifted = [
+        -1,
+        0,
+        1,
+        253,
+        254,
+        255,
+        256,
+        largest - 1,
+        largest,
+        largest + 1,
+    ];
+    let distances: Vec<u32> = shifted
+        .into_iter()
+        .filter(|&result| above || result <= largest)
+        .filter_map(|result| u32::try_from(result - i64::from(by)).ok())
+        .collect();
+    (0..n)
+        .map(|_| match rng.below(3) {
+            0 => inline(rng).min((largest - i64::from(by)).min(largest) as u32),
+            _ => rng.pick(&distances),
+        })
+        .collect()
+}
+
+/// Distances of which exactly `k`, shifted, are in overflow, and up to `others` that are not, if
+/// there can be such.
+pub fn shifted_to(rng: &mut Rng, by: i32, k: usize, others: usize, spread: Spread) -> Vec<u32> {
+    /// The results are at most so far from the border of overflow.
+    const REACH: usize = 600;
+    let border = 255 - i64::from(by);
+    let others = if border > 0 { others } else { 0 };
+    let overflow = |rng: &mut Rng| (border.max(0) as usize + rng.below(REACH)) as u32;
+    let inline = |rng: &mut Rng| (border - 1 - rng.below(REACH) as i64).max(0) as u32;
+    placed(rng, k + others, k, spread, overflow, inline)
 }
 
 fn corner(rng: &mut Rng) -> u32 {
