@@ -188,7 +188,10 @@ impl Judge {
         self.value(call, answer, |out, refusal| {
             library(&mut got[range], out, refusal)
         });
-        let what = format_args!("{call}: buffer from {start} elements before it");
-        self.same_buffer(&what, &wanted, &got);
+        let (wanted_before, wanted) = wanted.split_at(start);
+        let (got_before, got) = got.split_at(start);
+        self.same_buffer(&format_args!("{call}: buffer"), wanted, got);
+        let before = format_args!("{call}: before the buffer");
+        self.same_buffer(&before, wanted_before, got_before);
     }
 }
