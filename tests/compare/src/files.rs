@@ -61,13 +61,9 @@ pub fn encode(distances: &[u32]) -> Vec<u8> {
 }
 
 fn small_lists(run: &mut Run) {
-    const SIZES: [usize; 12] = [0, 1, 2, 3, 7, 8, 63, 64, 65, 127, 128, 129];
     for number in 0..4_000 {
         run.case("small list", number, |rng| {
-            let n = match rng.below(3) {
-                0 => rng.below(700),
-                _ => rng.pick(&SIZES),
-            };
+            let n = lists::size(rng);
             Case::of_list("list of".into(), lists::mixed(rng, n))
         });
     }

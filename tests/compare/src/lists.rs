@@ -8,6 +8,21 @@ const CORNERS: [u32; 7] = [0, 1, 254, 255, 256, 300, u32::MAX];
 /// Numbers of overflow entries where the step of the sparse index changes.
 pub const STEP_BORDERS: [usize; 6] = [2_047, 2_048, 2_049, 4_095, 4_096, 4_097];
 
+/// Sizes next to those in which a program may work block by block.
+const BLOCK_BORDERS: [usize; 24] = [
+    1, 2, 3, 7, 8, 9, 63, 64, 65, 127, 128, 129, 191, 192, 193, 255, 256, 257, 1_023, 1_024, 1_025,
+    2_047, 2_048, 2_049,
+];
+
+/// A size up to 2,049, 0 included, often next to a block's border.
+pub fn size(rng: &mut Rng) -> usize {
+    match rng.below(4) {
+        0 => rng.below(700),
+        1 => rng.below(20),
+        _ => rng.pick(&BLOCK_BORDERS),
+    }
+}
+
 /// How the chosen slots of a list lie.
 #[derive(Clone, Copy, Debug)]
 pub enum Spread {

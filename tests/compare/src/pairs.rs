@@ -23,9 +23,12 @@ pub fn run_all(run: &mut Run) {
 /// A routine that combines two files into a third.
 struct Combining {
     name: &'static str,
-    reference: fn(&[u8], &[u8], &mut [u8]) -> Answer<reference::Summary>,
-    library: fn(&[u8], &[u8], &mut [u8], &mut Summary, &mut Refusal) -> u64,
+    reference: Theirs,
+    library: Ours,
 }
+
+type Theirs = fn(&[u8], &[u8], &mut [u8]) -> Answer<reference::Summary>;
+type Ours = fn(&[u8], &[u8], &mut [u8], &mut Summary, &mut Refusal) -> u64;
 
 const COMBINING: [Combining; 4] = [
     Combining {
@@ -151,7 +154,7 @@ impl LentPair {
 fn small_pairs(run: &mut Run) {
     for number in 0..6_000 {
         run.case("small pair", number, |rng| {
-            let n = small_size(rng);
+            let n = lists::size(rng);
             let a = lists::mixed(rng, n);
             let b = lists::beside(rng, &a);
             match rng.below(2) {
@@ -162,18 +165,11 @@ fn small_pairs(run: &mut Run) {
     }
 }
 
-fn small_size(rng: &mut Rng) -> usize {
-    match rng.below(2) {
-        0 => rng.below(300),
-        _ => rng.pick(&[0, 1, 2, 3, 7, 8, 63, 64, 65, 127, 128, 129]),
-    }
-}
-
 /// Sums above the largest distance at one slot or several: the first, the last, random ones, all.
 fn sums_above(run: &mut Run) {
     for number in 0..2_000 {
         run.case("sums above", number, |rng| {
-            let n = 1 + small_size(rng);
+            let n = lists::size(rng).max(1);
             let mut a = lists::mixed(rng, n);
             let mut b: Vec<u32> = a.iter().map(|x| (u32::MAX - x).min(256)).collect();
             let slots = match rng.below(5) {
@@ -192,8 +188,11 @@ fn sums_above(run: &mut Run) {
     }
 }
 
-/// Which results are in overflow at a slot tells its kind.
-const KINDS: [fn(&mut Rng) -> (u32, u32); 6] = [
+/// Makes the two distances of a slot.
+type Kind = fn(&mut Rng) -> (u32, u32);
+
+/// Kinds of slots, by the results that are in overflow there.
+const KINDS: [Kind; 6] = [
     |rng| (600 + wide(rng), 255 + below(rng, 90)), // minimum, maximum, sum, difference
     |rng| (255 + below(rng, 255), 255),            // minimum, maximum, sum
     |rng| (510 + wide(rng), below(rng, 255)),      // maximum, sum, difference

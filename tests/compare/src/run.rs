@@ -6,9 +6,12 @@ use std::{env, process};
 
 const DEFAULT_SEED: u64 = 0x5043_4956_0000_0001;
 
-/// What each routine can be refused with: how many files it checks (1 to 8 of each), and the
-/// further numbers with their map. Each must occur in a run.
-const REFUSALS: [(&str, u64, &[(u64, u64)]); 16] = [
+/// A routine, how many files it checks (refusals 1 to 8 of each), and its further refusals with
+/// their maps.
+type Routine = (&'static str, u64, &'static [(u64, u64)]);
+
+/// What each routine can be refused with. Each must occur in a run.
+const ROUTINES: [Routine; 16] = [
     ("check", 1, &[]),
     ("lookup", 1, &[(9, 0)]),
     ("lookup_list", 1, &[(9, 0), (12, 0)]),
@@ -111,7 +114,7 @@ impl Run {
 
 /// The outcomes that must occur: each routine done (0), and its refusals.
 fn outcomes() -> impl Iterator<Item = (&'static str, u64, u64)> {
-    REFUSALS.into_iter().flat_map(|(routine, files, others)| {
+    ROUTINES.into_iter().flat_map(|(routine, files, others)| {
         let of_files = (1..=files).flat_map(|map| (1..=8).map(move |number| (number, map)));
         let all = [(0, 0)].into_iter().chain(of_files);
         all.chain(others.iter().copied())

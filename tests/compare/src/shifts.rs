@@ -53,7 +53,7 @@ fn border_distances(run: &mut Run) {
     for (number, by) in SHIFTS.into_iter().enumerate() {
         for inner in 0..100 {
             run.case("shift to a border", 100 * number + inner, |rng| {
-                let n = rng.below(300);
+                let n = lists::size(rng);
                 let file = encode(&lists::about_shift(rng, n, by));
                 Shifted { file, by }
             });
