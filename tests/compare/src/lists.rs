@@ -135,14 +135,14 @@ pub fn about_shift(rng: &mut Rng, n: usize, by: i32) -> Vec<u32> {
         .collect();
     (0..n)
         .map(|_| match rng.below(3) {
-            0 => inline(rng).min((largest - i64::from(by)).min(largest) as u32),
+            0 => inline(rng),
             _ => rng.pick(&distances),
         })
         .collect()
 }
 
-/// Distances of which exactly `k`, shifted, are in overflow, and up to `others` that are not, if
-/// there can be such.
+/// Distances of which exactly `k`, shifted, are in overflow, and `others` that are not, if there can
+/// be such.
 pub fn shifted_to(rng: &mut Rng, by: i32, k: usize, others: usize, spread: Spread) -> Vec<u32> {
     /// The results are at most so far from the border of overflow.
     const REACH: usize = 600;
