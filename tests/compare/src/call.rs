@@ -93,11 +93,11 @@ pub fn capacities(rng: &mut Rng, len: usize) -> Vec<usize> {
     capacities
 }
 
-/// Capacities for a result that is a file; any where it is refused with all the room it may want.
+/// Capacities for a result that is a file; none and some where the call is refused in any.
 pub fn file_capacities(rng: &mut Rng, answer: &Answer<reference::Summary>) -> Vec<usize> {
     match answer {
         Ok(summary) => capacities(rng, summary.len as usize),
-        Err(_) => vec![rng.pick(&[0, 39, 41, 100, 3_000])],
+        Err(_) => vec![0, rng.pick(&[39, 41, 100, 3_000])],
     }
 }
 
