@@ -4,12 +4,13 @@
  * A PCIV file stores a map: a list of 0 to 1,048,576 distances in whole centimetres, 32 bits each,
  * one for each slot. docs/FORMAT.md describes the layout, the rules and the terms used here.
  *
- * Conventions of every call:
+ * Conventions of every call; pciv_primary_span has no refusal and says so, and pciv_report tells a
+ * file's refusal in its text:
  *
  *   - A slice is a pointer and its number of elements. Pointers must be non-null, aligned for their
  *     type and valid for that many elements, also when the number is 0.
- *   - What a call writes to must not overlap anything else of that call. What it only reads may:
- *     a file may be combined with itself.
+ *   - What a call writes must not overlap anything else that it is given: buffers, results, refusal.
+ *     What it only reads may overlap: a file may be combined with itself.
  *   - The call answers a number of enum pciv_refusal_number, PCIV_OK when done.
  *   - *refusal is always written: all zero when done, else the same number, the map at fault and
  *     the place.
@@ -243,7 +244,7 @@ uint64_t pciv_signed_difference(const uint8_t *a, size_t a_len, const uint8_t *b
 /* The text that the report program prints for an input, without a final 0 byte: the six lines
    slots, far, step, index, sum and readings, or one line such as "refused 6 map 1 place 3" where
    pciv_check refuses the input. An input of more than 65,536 bytes gives the line
-   "refused 12 map 0 place 0". Every line ends in a newline; 96 bytes hold any text.
+   "refused 12 map 0 place 0". Every line ends in a newline; 160 bytes hold any text.
    The call itself is refused only with 12, where text_len is too small.
    When done the text is at the front of text and *count is its length. After a refusal text and
    *count are unchanged. */

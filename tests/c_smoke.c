@@ -354,7 +354,7 @@ static void test_arithmetic(const uint8_t *a, const uint8_t *b)
 static void test_report(const uint8_t *file)
 {
     const size_t len = strlen(REPORT);
-    uint8_t text[96];
+    uint8_t text[160];
     uint64_t count;
     pciv_refusal refusal;
     memset(text, DIRTY, sizeof text);

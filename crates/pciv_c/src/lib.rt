@@ -1,6 +1,7 @@
 // The C interface (include/pciv.h): one thin function for each public routine.
-// A pciv_refusal is three numbers, a pciv_summary five. Each call answers the refusal's number, 0 when done, and
-// always writes the refusal; a result is written only when the call is done (specs/Cells.antt).
+// A pciv_refusal is three numbers, a pciv_summary five. Each call but pciv_primary_span answers the refusal's
+// number, 0 when done, and always writes the refusal; a result is written only when the call is done
+// (specs/Cells.antt).
 ghost use mathlib.Core.Path.{_≡_};
 ghost use lib.ListN.{length};
 ghost use Rattle.pciv_format.specs.Check.{checkFile};

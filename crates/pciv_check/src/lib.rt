@@ -197,7 +197,8 @@ fn check_header(file: &[u8], map: usize) -> FileAnswer
     })
 }
 
-// The summary of a whole file, or why it is none; `map` is the map's number in a refusal.
+// The summary of a whole file, or why it is none. `map` is handed on as the map's number in a refusal: 1, or 2
+// for the second map of a call.
 pub fn check(file: &[u8], map: usize) -> FileAnswer
     ensures answer { λ r. ⌜ r ≡ fileAnswer (checkFile map (now (file .entry))) ⌝ }
 {

@@ -4,6 +4,7 @@
 --   accepted-is-file  an accepted file is the file of the list that it is read as, which is within the limits,
 --                     and the answer is that list's summary
 --   accepted-iff      so a file is accepted exactly when it is the file of some list within the limits
+--   file-lookup, file-sum, file-readings    the reading routines on a list's file answer that list's own
 --   fileOf-inj        two lists within the limits with one file are one list: it is read as no other
 use mathlib.Core.Path.{_≡_, refl, sym, ap, _∙_}
 use mathlib.Core.Logic.{_↔_}
@@ -13,6 +14,7 @@ use native.Mathlib.Omega.{arith}
 use mathlib.Core.List.{List}
 use lib.ListN.{length, getD}
 use lib.Seq.{ext-getD}
+use borrow.Author.Tests.{lt-leb}
 use Rattle.pciv_bytes.specs.Ranges.{table}
 use Rattle.pciv_bytes.specs.LittleEndian.{Bytes}
 use Rattle.pciv_bytes.proofs.RangesLaws.{length-table, getD-table}
@@ -20,7 +22,7 @@ use Rattle.pciv_format.specs.Layout.{maxSlots, fileLen, overflowCount, f
 use Rattle.pciv_format.specs.Refusals.{done}
 use Rattle.pciv_format.specs.Parts.{valueOf}
 use Rattle.pciv_format.specs.Check.{nField, kField, fileParts, checkFile, CheckedMap}
-use Rattle.pciv_format.specs.Read.{valueAt, listOf}
+use Rattle.pciv_format.specs.Read.{valueAt, listOf, lookupOutcome, total, readings, sumOutcome, readingsOutcome}
 use Rattle.pciv_format.specs.declared.Summary.{Summary}
 use Rattle.pciv_format.proofs.LayoutLaws.{length-file, file-cong, summary-cong}
 use Rattle.pciv_format.proofs.CheckLaws.{checkFile-done, done-checkFile, accepted-length}
@@ -80,3 +82,18 @@ accepted-iff mp b bytes = (
 
 pub fileOf-inj : (xs ys : List ℕ) → Limits xs → Limits ys → fileOf xs ≡ fileOf ys → xs ≡ ys
 fileOf-inj xs ys l m e = sym (file-read xs l) ∙ ap listOf e ∙ file-read ys m
+
+-- ---- the reading routines on the file of a list
+
+module _ (xs : List ℕ) (l : Limits xs) where
+  pub file-lookup : (slot : ℕ) → slot < length xs → lookupOutcome (fileOf xs) slot ≡ done (at xs slot)
+  unfolding lookupOutcome summary countsOf
+  file-lookup slot h = rw (file-accepted 1 xs l, file-read xs l, lt-leb (length xs) slot h)
+
+  pub file-sum : sumOutcome (fileOf xs) ≡ done (total xs)
+  unfolding sumOutcome
+  file-sum = rw (file-accepted 1 xs l, file-read xs l)
+
+  pub file-readings : readingsOutcome (fileOf xs) ≡ done (readings xs)
+  unfolding readingsOutcome
+  file-readings = rw (file-accepted 1 xs l, file-read xs l)

@@ -124,7 +124,7 @@ pub lengths :
     × LengthRow 5000 4096 2 2048 86960
     × LengthRow 5000 4097 3 1366 76060
     × LengthRow 1048576 1048576 512 2048 13664296
-    -- one overflow entry fewer can need more room
+    -- one overflow entry fewer can need more bytes
     × (fileLen 5000 4096 ≡ fileLen 5000 4097 + 10900)
 unfolding indexStep indexLen fileLen
 lengths = ((refl, refl, refl), (refl, refl, refl), (refl, refl, refl), (refl, refl, refl), (refl, refl, refl), refl)

@@ -40,7 +40,7 @@ abbrev pub combinedAt : SlotOp → List ℕ → List ℕ → ℕ → ℕ
 combinedAt o xs ys i = slotOp o (at xs i) (at ys i)
 
 unfoldable pub combineMapsOutcome : SlotOp → List ℕ → List ℕ → ℕ → Outcome Summary
-combineMapsOutcome o a b room = pairOutcome a b (λ n. mapInto n (combinedAt o (listOf a) (listOf b)) room)
+combineMapsOutcome o a b capacity = pairOutcome a b (λ n. mapInto n (combinedAt o (listOf a) (listOf b)) capacity)
 
 unfoldable pub combineMapsBuffer : SlotOp → List ℕ → List ℕ → List ℕ → List ℕ
 combineMapsBuffer o a b out =
@@ -56,7 +56,7 @@ unfoldable pub shiftedBy : ℤ → ℕ → ℕ
 shiftedBy d x = atLeastZero (pos x +ℤ d)
 
 unfoldable pub shiftOutcome : List ℕ → ℤ → ℕ → Outcome Summary
-shiftOutcome b d room = andThen (checkFile 1 b) (λ s. mapInto (s .n) (λ i. shiftedBy d (at (listOf b) i)) room)
+shiftOutcome b d capacity = andThen (checkFile 1 b) (λ s. mapInto (s .n) (λ i. shiftedBy d (at (listOf b) i)) capacity)
 
 unfoldable pub shiftBuffer : List ℕ → ℤ → List ℕ → List ℕ
 shiftBuffer b d out =
@@ -68,7 +68,7 @@ unfoldable pub signedDifferences : List ℕ → List ℕ → List ℤ
 signedDifferences xs ys = table (λ (i : ℕ). pos (at ys i) -ℤ pos (at xs i)) 0 (length xs)
 
 unfoldable pub signedDifferenceOutcome : List ℕ → List ℕ → ℕ → Outcome ℕ
-signedDifferenceOutcome a b room = pairOutcome a b (λ n. itemsInto n room)
+signedDifferenceOutcome a b capacity = pairOutcome a b (λ n. itemsInto n capacity)
 
 unfoldable pub signedDifferenceList : List ℕ → List ℕ → List ℤ → List ℤ
 signedDifferenceList a b out =

@@ -8,7 +8,8 @@
 --   combineOutcome op, complementOutcome    masks of masks;  setBitsOutcome  the number of set bits
 --   bitsRow b           the eight bytes of the eight bits of b
 --   mapOfMaskOutcome, keepMaskedOutcome ("cut"), incrementMaskedOutcome ("tally")   files from masks
--- Each has a -Words or -Buffer beside it: what the caller's list or buffer holds afterwards. Axioms: none.
+-- Those that write have a -Words or -Buffer beside them: what the caller's list or buffer holds afterwards.
+-- Axioms: none.
 use Prim.Native.Nat.{ℕ, zero, suc, _+_, _-_, _*_, _/_, _%_, _^_, min}
 use mathlib.Core.Bool.{Bool, not, cond, _&&_, _||_, xor}
 use mathlib.Core.List.{List}
@@ -60,16 +61,16 @@ holds AtMost x t = leb x t
 holds Above x t = ltb t x
 holds AtLeast x t = leb t x
 
--- a mask of the slots of b into a list of `room` words
+-- a mask of the slots of b into a list of `capacity` words
 abbrev pub selectOutcome : List ℕ → ℕ → Outcome ℕ
-selectOutcome b room = andThen (checkFile 1 b) (λ s. itemsInto (maskLen (s .n)) room)
+selectOutcome b capacity = andThen (checkFile 1 b) (λ s. itemsInto (maskLen (s .n)) capacity)
 
 abbrev pub selectWords : (ℕ → Bool) → List ℕ → List ℕ → List ℕ
 selectWords p b out =
     written (selectOutcome b (length out)) (maskOf (length (listOf b)) (λ i. p (at (listOf b) i))) out
 
 unfoldable pub thresholdOutcome : Comparison → List ℕ → ℕ → ℕ → Outcome ℕ
-thresholdOutcome c b t room = selectOutcome b room
+thresholdOutcome c b t capacity = selectOutcome b capacity
 
 unfoldable pub thresholdWords : Comparison → List ℕ → ℕ → List ℕ → List ℕ
 thresholdWords c b t out = selectWords (λ x. holds c x t) b out
@@ -79,7 +80,7 @@ abbrev pub isNear : ℕ → ℕ → Bool
 isNear t x = holds AtMost x t
 
 unfoldable pub nearMaskOutcome : List ℕ → ℕ → ℕ → Outcome ℕ
-nearMaskOutcome b t room = selectOutcome b room
+nearMaskOutcome b t capacity = selectOutcome b capacity
 
 unfoldable pub nearMaskWords : List ℕ → ℕ → List ℕ → List ℕ
 nearMaskWords b t out = selectWords (isNear t) b out
@@ -97,14 +98,14 @@ module _ {A : Type 0} where
   refuseMasks n bad o = refuseIf (ltb maxSlots n) (refuse 3 1 0) (refuseIf bad (refuse 13 0 0) o)
 
 unfoldable pub combineOutcome : MaskOp → ℕ → List ℕ → List ℕ → ℕ → Outcome ℕ
-combineOutcome op n xs ys room = refuseMasks n (badMask n xs || badMask n ys) (itemsInto (maskLen n) room)
+combineOutcome op n xs ys capacity = refuseMasks n (badMask n xs || badMask n ys) (itemsInto (maskLen n) capacity)
 
 unfoldable pub combineWords : MaskOp → ℕ → List ℕ → List ℕ → List ℕ → List ℕ
 combineWords op n xs ys out =
     written (combineOutcome op n xs ys (length out)) (maskOf n (λ i. combined op (maskHas xs i) (maskHas ys i))) out
 
 unfoldable pub complementOutcome : ℕ → List ℕ → ℕ → Outcome ℕ
-complementOutcome n ws room = refuseMasks n (badMask n ws) (itemsInto (maskLen n) room)
+complementOutcome n ws capacity = refuseMasks n (badMask n ws) (itemsInto (maskLen n) capacity)
 
 unfoldable pub complementWords : ℕ → List ℕ → List ℕ → List ℕ
 complementWords n ws out = written (complementOutcome n ws (length out)) (maskOf n (λ i. not (maskHas ws i))) out
@@ -126,16 +127,16 @@ abbrev pub maskValue : List ℕ → ℕ → ℕ
 maskValue ws i = flag (maskHas ws i)
 
 unfoldable pub mapOfMaskOutcome : ℕ → List ℕ → ℕ → Outcome Summary
-mapOfMaskOutcome n ws room = refuseMasks n (badMask n ws) (mapInto n (maskValue ws) room)
+mapOfMaskOutcome n ws capacity = refuseMasks n (badMask n ws) (mapInto n (maskValue ws) capacity)
 
 unfoldable pub mapOfMaskBuffer : ℕ → List ℕ → List ℕ → List ℕ
 mapOfMaskBuffer n ws out = fileBuffer (mapOfMaskOutcome n ws (length out)) n (maskValue ws) out
 
 -- the map of f at each slot's set bit and distance
 abbrev pub maskedOutcome : (Bool → ℕ → ℕ) → List ℕ → List ℕ → ℕ → Outcome Summary
-maskedOutcome f b ws room =
+maskedOutcome f b ws capacity =
     andThen (checkFile 1 b)
-    (λ s. refuseIf (badMask (s .n) ws) (refuse 13 0 0) (mapInto (s .n) (λ i. f (maskHas ws i) (at (listOf b) i)) room))
+    (λ s. refuseIf (badMask (s .n) ws) (refuse 13 0 0) (mapInto (s .n) (λ i. f (maskHas ws i) (at (listOf b) i)) capacity))
 
 abbrev pub maskedBuffer : (Bool → ℕ → ℕ) → List ℕ → List ℕ → List ℕ → List ℕ
 maskedBuffer f b ws out =
@@ -143,20 +144,20 @@ maskedBuffer f b ws out =
 
 -- cut: distance 0 where the mask is 0
 abbrev pub keptIf : Bool → ℕ → ℕ
-keptIf set x = cond set x 0
+keptIf isSet x = cond isSet x 0
 
 unfoldable pub keepMaskedOutcome : List ℕ → List ℕ → ℕ → Outcome Summary
-keepMaskedOutcome b ws room = maskedOutcome keptIf b ws room
+keepMaskedOutcome b ws capacity = maskedOutcome keptIf b ws capacity
 
 unfoldable pub keepMaskedBuffer : List ℕ → List ℕ → List ℕ → List ℕ
 keepMaskedBuffer b ws out = maskedBuffer keptIf b ws out
 
 -- tally: plus 1 where the mask is 1
 abbrev pub plusIf : Bool → ℕ → ℕ
-plusIf set x = x + flag set
+plusIf isSet x = x + flag isSet
 
 unfoldable pub incrementMaskedOutcome : List ℕ → List ℕ → ℕ → Outcome Summary
-incrementMaskedOutcome b ws room = maskedOutcome plusIf b ws room
+incrementMaskedOutcome b ws capacity = maskedOutcome plusIf b ws capacity
 
 unfoldable pub incrementMaskedBuffer : List ℕ → List ℕ → List ℕ → List ℕ
 incrementMaskedBuffer b ws out = maskedBuffer plusIf b ws out

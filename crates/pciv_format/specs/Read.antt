@@ -38,21 +38,21 @@ unfoldable pub lookupOutcome : List ℕ → ℕ → Outcome ℕ
 lookupOutcome b slot =
     andThen (checkFile 1 b) (λ s. refuseIf (leb (s .n) slot) (refuse 9 0 0) (done (at (listOf b) slot)))
 
--- c items into a list with room for `room` of them; the answer is how many were written
+-- c items into a list that holds `capacity` of them; the answer is how many were written
 abbrev pub itemsInto : ℕ → ℕ → Outcome ℕ
-itemsInto c room = refuseIf (ltb room c) (refuse 12 0 0) (done c)
+itemsInto c capacity = refuseIf (ltb capacity c) (refuse 12 0 0) (done c)
 
 unfoldable pub lookupListOutcome : List ℕ → List ℕ → ℕ → Outcome ℕ
-lookupListOutcome b slots room =
+lookupListOutcome b slots capacity =
     andThen (checkFile 1 b)
-    (λ s. refuseFirst 9 0 (λ (i : ℕ). leb (s .n) (at slots i)) (length slots) (itemsInto (length slots) room))
+    (λ s. refuseFirst 9 0 (λ (i : ℕ). leb (s .n) (at slots i)) (length slots) (itemsInto (length slots) capacity))
 
 unfoldable pub lookupListBuffer : List ℕ → List ℕ → List ℕ → List ℕ
 lookupListBuffer b slots out =
     written (lookupListOutcome b slots (length out)) (map (at (listOf b)) slots) out
 
 unfoldable pub scanOutcome : List ℕ → ℕ → Outcome ℕ
-scanOutcome b room = andThen (checkFile 1 b) (λ s. itemsInto (s .n) room)
+scanOutcome b capacity = andThen (checkFile 1 b) (λ s. itemsInto (s .n) capacity)
 
 unfoldable pub scanBuffer : List ℕ → List ℕ → List ℕ
 scanBuffer b out = written (scanOutcome b (length out)) (listOf b) out

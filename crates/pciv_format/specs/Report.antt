@@ -82,7 +82,7 @@ unfoldable pub reportText : List ℕ → List ℕ
 reportText b = textOf (refuseIf (ltb 65536 (length b)) (refuse 12 0 0) (checkFile 1 b)) (listOf b)
 
 unfoldable pub reportOutcome : List ℕ → ℕ → Outcome ℕ
-reportOutcome b room = itemsInto (length (reportText b)) room
+reportOutcome b capacity = itemsInto (length (reportText b)) capacity
 
 unfoldable pub reportBuffer : List ℕ → List ℕ → List ℕ
 reportBuffer b out = written (reportOutcome b (length out)) (reportText b) out

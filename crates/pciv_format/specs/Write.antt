@@ -1,6 +1,6 @@
 -- What the routines that write a file answer, and what the caller's buffer holds afterwards (docs/FORMAT.md, "Writing").
---   fileInto n v room       the file of (n, v) into a buffer of `room` bytes: its summary, or refusal 12
---   mapInto n v room        the same for a computed v, refused with 11 where a distance is too large
+--   fileInto n v capacity   the file of (n, v) into a buffer of `capacity` bytes: its summary, or refusal 12
+--   mapInto n v capacity    the same for a computed v, refused with 11 where a distance is too large
 --   fileBuffer o n v out    the buffer after the outcome o of writing that file
 --   writeOutcome, writeBuffer    the file of a list
 --   closeOutcome, closeBuffer    the file of a primary array and a list of overflow entries
@@ -15,16 +15,16 @@ use Rattle.pciv_format.specs.Parts.{Parts, valueOf, refuseParts}
 use Rattle.pciv_format.specs.declared.Summary.{Summary}
 
 abbrev pub fileInto : ℕ → (ℕ → ℕ) → ℕ → Outcome Summary
-fileInto n v room = refuseIf (ltb room (length (file n v))) (refuse 12 0 0) (done (summary n v))
+fileInto n v capacity = refuseIf (ltb capacity (length (file n v))) (refuse 12 0 0) (done (summary n v))
 
 abbrev pub mapInto : ℕ → (ℕ → ℕ) → ℕ → Outcome Summary
-mapInto n v room = refuseFirst 11 0 (λ (i : ℕ). ltb maxDistance (v i)) n (fileInto n v room)
+mapInto n v capacity = refuseFirst 11 0 (λ (i : ℕ). ltb maxDistance (v i)) n (fileInto n v capacity)
 
 abbrev pub fileBuffer : Outcome Summary → ℕ → (ℕ → ℕ) → List ℕ → List ℕ
 fileBuffer o n v out = written o (file n v) out
 
 unfoldable pub writeOutcome : List ℕ → ℕ → Outcome Summary
-writeOutcome xs room = refuseIf (ltb maxSlots (length xs)) (refuse 3 1 0) (fileInto (length xs) (at xs) room)
+writeOutcome xs capacity = refuseIf (ltb maxSlots (length xs)) (refuse 3 1 0) (fileInto (length xs) (at xs) capacity)
 
 unfoldable pub writeBuffer : List ℕ → List ℕ → List ℕ
 writeBuffer xs out = fileBuffer (writeOutcome xs (length out)) (length xs) (at xs) out
@@ -42,10 +42,10 @@ closeParts bytes slots distances =
     }
 
 unfoldable pub closeOutcome : List ℕ → List ℕ → List ℕ → ℕ → Outcome Summary
-closeOutcome bytes slots distances room =
+closeOutcome bytes slots distances capacity =
     refuseIf (ltb maxSlots (length bytes)) (refuse 3 1 0)
     (refuseParts 1 (closeParts bytes slots distances)
-    (fileInto (length bytes) (valueOf (closeParts bytes slots distances)) room))
+    (fileInto (length bytes) (valueOf (closeParts bytes slots distances)) capacity))
 
 unfoldable pub closeBuffer : List ℕ → List ℕ → List ℕ → List ℕ → List ℕ
 closeBuffer bytes slots distances out =

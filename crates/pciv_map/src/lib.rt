@@ -1,4 +1,4 @@
-// Routines on a map whose file was checked: each asks for `CheckedMap`, or for the primary array alone.
+// Routines on a map whose file was checked: the public ones ask for `CheckedMap`, or for the primary array alone.
 mod entries;
 pub mod lookup;
 pub mod scan;

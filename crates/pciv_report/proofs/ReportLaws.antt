@@ -1,11 +1,14 @@
 -- Laws of the report's text (pciv_format's specs/Report.antt).
 --   decimal-small/-large   the digits of a number below 10, and of a larger one
 --   length-decimal-le      no number has more than 20 digits
+--   decimal-read           a number is read back from its digits
 --   refusedLine-parts      the line of a refusal as three pieces
 --   reportText-long/-refused/-done   the text, by cases
+--   reportText-le          no report is longer than 160 bytes
 --   reportOutcome-le       what was written fits the buffer
-use mathlib.Core.Path.{_≡_, sym, ap, _∙_}
-use Prim.Native.Nat.{ℕ, zero, suc, _+_, _/_, _%_, _^_, _≤_, _<_}
+--   report-written         so a buffer of 160 bytes is never too short
+use mathlib.Core.Path.{_≡_, refl, sym, ap, _∙_}
+use Prim.Native.Nat.{ℕ, zero, suc, _+_, _-_, _*_, _/_, _%_, _^_, _≤_, _<_}
 use native.Mathlib.Nat.{pow-suc}
 use native.Mathlib.Decide.{decLt}
 use native.Mathlib.Omega.{arith}
@@ -14,15 +17,16 @@ use mathlib.Core.List.{List, [], _∷_, _++_, append-assoc}
 use lib.ListN.{length, length-append}
 use lib.Dec.{ltb}
 use borrow.Author.Tests.{lt-ltb, le-ltb, ltb-false}
-use Rattle.pciv_format.specs.Refusals.{done, refused, numberAnswer}
+use Rattle.pciv_format.specs.Refusals.{Outcome, done, refused, refuse, refuseIf, numberAnswer}
 use Rattle.pciv_format.specs.Check.{checkFile}
-use Rattle.pciv_format.specs.Read.{sumOutcome, readingsOutcome}
+use Rattle.pciv_format.specs.Read.{listOf, sumOutcome, readingsOutcome}
 use Rattle.pciv_format.specs.Report.{digits, decimal, field, line, refusedWord, mapWord, placeWord}
-use Rattle.pciv_format.specs.Report.{mapLines, refusedLine, reportText, reportOutcome}
+use Rattle.pciv_format.specs.Report.{slotsWord, farWord, stepWord, indexWord, sumWord, readingsWord}
+use Rattle.pciv_format.specs.Report.{mapLines, refusedLine, textOf, reportText, reportOutcome}
 use Rattle.pciv_format.specs.declared.Summary.{Summary}
 use Rattle.pciv_format.specs.declared.Refusal.{Refusal}
 use Rattle.pciv_format.proofs.RefusalsLaws.{refuseIf-done}
-use Rattle.pciv_report.specs.Text.{numberOf}
+use Rattle.pciv_report.specs.Text.{maxText, numberOf}
 
 -- ---- decimal
 
@@ -71,6 +75,35 @@ pub length-decimal-le : (x : ℕ) → length (decimal x) ≤ 20
 unfolding decimal
 length-decimal-le x = length-digits-le 20 x
 
+-- the number that some digits are, after the number a
+unfoldable pub readDecimal : ℕ → List ℕ → ℕ
+readDecimal a [] = a
+readDecimal a (d ∷ l) = readDecimal (10 * a + (d - 48)) l
+
+readDecimal-last : (a : ℕ) (l : List ℕ) (d : ℕ)
+    → readDecimal a (l ++ (d ∷ [])) ≡ 10 * readDecimal a l + (d - 48)
+unfolding readDecimal
+readDecimal-last a [] d = refl
+readDecimal-last a (e ∷ l) d = readDecimal-last (10 * a + (e - 48)) l d
+
+digits-read : (f x : ℕ) → x < 10 ^ f → readDecimal 0 (digits f x) ≡ x
+unfolding digits readDecimal
+digits-read zero x fits = omega arith
+digits-read (suc f) x fits =
+    elim (decLt x 10) [
+      | yes small ↦ rw (digits-small f x small) (omega arith)
+      | no large ↦ (
+          let h : 10 ≤ x = omega arith in
+          let rest = digits-read f (x / 10) (omega (arith, pow-suc 10 f)) in
+          rw (digits-large f x h, readDecimal-last, rest) (omega arith)
+          )
+    ]
+
+-- a number is read back from its text
+pub decimal-read : (x : ℕ) → x < 2 ^ 64 → readDecimal 0 (decimal x) ≡ x
+unfolding decimal
+decimal-read x fits = digits-read 20 x (omega arith)
+
 -- ---- the line of a refusal
 
 line-append : (a b : List ℕ) → line (a ++ b) ≡ a ++ line b
@@ -80,7 +113,8 @@ line-append a b = append-assoc a b (10 ∷ [])
 -- each space before a word as the word's first letter
 pub refusedLine-parts : (r : Refusal)
     → refusedLine r
-    ≡ field refusedWord (r .number) ++ (field (32 ∷ mapWord) (r .map) ++ line (field (32 ∷ placeWord) (r .place)))
+    ≡ field refusedWord (r .number)
+    ++ (field (32 ∷ mapWord) (r .map) ++ line (field (32 ∷ placeWord) (r .place)))
 unfolding refusedLine field
 refusedLine-parts r =
     let first = field refusedWord (r .number) in
@@ -91,19 +125,65 @@ refusedLine-parts r =
 -- ---- the text, by cases
 
 module _ (b : List ℕ) where
-  pub reportText-long : 65536 < length b → reportText b ≡ refusedLine (record { number = 12; map = 0; place = 0 })
+  pub reportText-long : 65536 < length b
+      → reportText b ≡ refusedLine (record { number = 12; map = 0; place = 0 })
   unfolding reportText
   reportText-long long = rw (lt-ltb 65536 (length b) long)
 
-  pub reportText-refused : (r : Refusal) → length b ≤ 65536 → checkFile 1 b ≡ refused r → reportText b ≡ refusedLine r
+  pub reportText-refused : (r : Refusal) → length b ≤ 65536 → checkFile 1 b ≡ refused r
+      → reportText b ≡ refusedLine r
   unfolding reportText
   reportText-refused r short bad = rw (le-ltb 65536 (length b) short, bad)
 
   -- a file that is accepted has its totals
   pub reportText-done : (s : Summary) → length b ≤ 65536 → checkFile 1 b ≡ done s
-      → reportText b ≡ mapLines s (numberOf (numberAnswer (sumOutcome b))) (numberOf (numberAnswer (readingsOutcome b)))
+      → reportText b
+      ≡ mapLines s (numberOf (numberAnswer (sumOutcome b))) (numberOf (numberAnswer (readingsOutcome b)))
   unfolding reportText sumOutcome readingsOutcome
   reportText-done s short good = rw (le-ltb 65536 (length b) short, good)
+
+-- ---- its length
+
+field-le : (word : List ℕ) (x : ℕ) → length (field word x) ≤ length word + 21
+unfolding field
+field-le word x = simp length-append (omega (arith, length-decimal-le x))
+
+line-le : (word : List ℕ) (x : ℕ) → length (line (field word x)) ≤ length word + 22
+unfolding line
+line-le word x = simp length-append (omega (arith, field-le word x))
+
+map-le : (s : Summary) (sum count : ℕ) → length (mapLines s sum count) ≤ maxText
+unfolding mapLines
+map-le s sum count =
+    simp length-append
+    (omega (
+      arith,
+      line-le slotsWord (s .n),
+      line-le farWord (s .k),
+      line-le stepWord (s .step),
+      line-le indexWord (s .m),
+      line-le sumWord sum,
+      line-le readingsWord count,
+    ))
+
+refused-le : (r : Refusal) → length (refusedLine r) ≤ maxText
+refused-le r =
+    rw (refusedLine-parts r)
+    (simp length-append
+    (omega (
+      arith,
+      field-le refusedWord (r .number),
+      field-le (32 ∷ mapWord) (r .map),
+      line-le (32 ∷ placeWord) (r .place),
+    )))
+
+pub reportText-le : (b : List ℕ) → length (reportText b) ≤ maxText
+unfolding reportText
+reportText-le b = go (refuseIf (ltb 65536 (length b)) (refuse 12 0 0) (checkFile 1 b))
+  where
+    go : (o : Outcome Summary) → length (textOf o (listOf b)) ≤ maxText
+    go (done s) = map-le s _ _
+    go (refused r) = refused-le r
 
 -- ---- the buffer
 
@@ -115,3 +195,9 @@ reportOutcome-le b room x e =
     let fits = refuseIf-done (ltb room c) _ (done c) x e in
     let same : c ≡ x = cc (fits .1) in
     omega (arith, ltb-false room c (fits .0))
+
+-- a buffer of 160 bytes is never too short
+pub report-written : (b : List ℕ) (capacity : ℕ) → maxText ≤ capacity
+    → reportOutcome b capacity ≡ done (length (reportText b))
+unfolding reportOutcome
+report-written b capacity long = rw (le-ltb capacity (length (reportText b)) (omega (arith, reportText-le b)))

@@ -26,7 +26,7 @@ numberOf (Number x) = x
 numberOf (Refused r) = 0
 
 abbrev pub deliverOutcome : List ℕ → ℕ → Outcome ℕ
-deliverOutcome text room = itemsInto (length text) room
+deliverOutcome text capacity = itemsInto (length text) capacity
 
 abbrev pub deliverBuffer : List ℕ → List ℕ → List ℕ
 deliverBuffer text out = written (deliverOutcome text (length out)) text out

@@ -22,7 +22,7 @@ use text::put_word;
 
 // The longest input that is reported on.
 pub const MAX_INPUT: usize = 65536;
-// The longest report.
+// No report is longer.
 pub const MAX_TEXT: usize = 160;
 
 // A buffer that is too short, or an input that is too long.
@@ -59,7 +59,8 @@ fn put_refusal(out: &mut [u8], r: Refusal) -> usize
 
 // A text to the front of the caller's buffer, and its length. Refusal: 12.
 fn deliver(text: &[u8], out: &mut [u8]) -> NumberAnswer
-    ensures answer { λ r. ⌜ r ≡ numberAnswer (deliverOutcome (now (text .entry)) (length (now (out .entry)))) ⌝ }
+    ensures answer { λ r.
+        ⌜ r ≡ numberAnswer (deliverOutcome (now (text .entry)) (length (now (out .entry)))) ⌝ }
     ensures buffer { λ _. ⌜ now (out .exit) ≡ deliverBuffer (now (text .entry)) (now (out .entry)) ⌝ }
 {
     if out.len() < text.len() {
@@ -96,7 +97,8 @@ fn put_report(out: &mut [u8], input: &[u8]) -> usize
 // Writes the report on an input to the front of the caller's buffer and answers its length. An input of more
 // than 65,536 bytes is reported as refused. Refusal: 12, where the buffer is shorter than the report.
 pub fn report(input: &[u8], out: &mut [u8]) -> NumberAnswer
-    ensures answer { λ r. ⌜ r ≡ numberAnswer (reportOutcome (now (input .entry)) (length (now (out .entry)))) ⌝ }
+    ensures answer { λ r.
+        ⌜ r ≡ numberAnswer (reportOutcome (now (input .entry)) (length (now (out .entry)))) ⌝ }
     ensures buffer { λ _. ⌜ now (out .exit) ≡ reportBuffer (now (input .entry)) (now (out .entry)) ⌝ }
 {
     let mut text = [0u8; MAX_TEXT];

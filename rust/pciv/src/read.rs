@@ -100,10 +100,10 @@ pub fn readings(file: &[u8]) -> Result<u64, Refusal> {
 
 /// The text that the report program prints for an input, to the front of `text`. Answers its
 /// length. A refused file is text too; the call is refused only with 12, where the text does not
-/// fit. 96 bytes hold any text.
+/// fit. 160 bytes hold any text.
 ///
 /// ```
-/// let mut text = [0; 96];
+/// let mut text = [0; 160];
 /// let len = pciv::report(b"PCIV", &mut text)? as usize;
 /// assert_eq!(&text[..len], b"refused 1 map 1 place 0\n");
 /// # Ok::<(), pciv::Refusal>(())
@@ -138,7 +138,7 @@ mod tests {
 
     #[test]
     fn report_of_map_a() {
-        let mut text = [b'.'; 96];
+        let mut text = [b'.'; 160];
         let len = report(MAP_A, &mut text).unwrap() as usize;
         let (text, rest) = text.split_at(len);
         assert_eq!(

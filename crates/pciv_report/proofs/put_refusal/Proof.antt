@@ -32,8 +32,8 @@ returns c =
     let second = third .before .before .before .before .before in
     let first = second .before .before .before .before .before in
     let start = first .before .before .before .before in
-    let all = put-then (first .put-field .ensures .0) (put-then (second .put-field2 .ensures .0) (third .put-line .ensures .0)) in
-    (rw (refusedLine-parts (start .args .r)) all, search needs)
+    let rest = put-then (second .put-field2 .ensures .0) (third .put-line .ensures .0) in
+    (rw (refusedLine-parts (start .args .r)) (put-then (first .put-field .ensures .0) rest), search needs)
 
 pub put-refusal-spec : {M : Type 1} → statement M
 put-refusal-spec =

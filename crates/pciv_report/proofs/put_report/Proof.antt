@@ -61,10 +61,12 @@ returns-2 c =
     let test = checked .before in
     let s = matched .s .given .0 .0 in
     let input = test .before .before .before .args .input .now in
-    let good = fileAnswer-done (checkFile 1 input) s (sym (matched .s .given .1) ∙ checked .check .ensures) in
+    let answer = sym (matched .s .given .1) ∙ checked .check .ensures in
+    let good = fileAnswer-done (checkFile 1 input) s answer in
     let sum = summed .number-of .ensures ∙ ap numberOf (summed .before .sum .ensures) in
     let count = counted .number-of2 .ensures ∙ ap numberOf (counted .before .readings .ensures) in
-    (rw (reportText-done input s (test .if1 .left) good, ← sum, ← count) (put .put-map .ensures .0), search needs)
+    let text = reportText-done input s (test .if1 .left) good in
+    (rw (text, ← sum, ← count) (put .put-map .ensures .0), search needs)
 
 same-length-3 : tie.Need-same-length-3
 same-length-3 c = search needs
@@ -77,7 +79,8 @@ returns-3 c =
     let test = checked .before in
     let r = matched .r .given .0 .0 in
     let input = test .before .before .before .args .input .now in
-    let bad = fileAnswer-refused (checkFile 1 input) r (sym (matched .r .given .1) ∙ checked .check .ensures) in
+    let answer = sym (matched .r .given .1) ∙ checked .check .ensures in
+    let bad = fileAnswer-refused (checkFile 1 input) r answer in
     (rw (reportText-refused input r (test .if1 .left) bad) (put .put-refusal2 .ensures .0), search needs)
 
 pub put-report-spec : {M : Type 1} → statement M

@@ -18,8 +18,8 @@ len-fits c =
     let len = c .answer .given .0 .0 in
     let input = called .before .before .before .before .read-full in
     let b = take (input .result) (input .last .1 .0) in
-    let o = reportOutcome b 160 in
-    reportOutcome-le b 160 len (numberAnswer-number o len (sym (c .answer .given .1) ∙ called .report .ensures .0))
+    let answer = sym (c .answer .given .1) ∙ called .report .ensures .0 in
+    reportOutcome-le b 160 len (numberAnswer-number (reportOutcome b 160) len answer)
 
 slice-aggregate-read-full : tie.Need-slice-aggregate-read-full
 slice-aggregate-read-full c = search needs

@@ -65,7 +65,8 @@ returns-2 t c =
     let last = c .before .before in
     let first = last .before .before .before .before in
     let x = first .before .before .before .before .args .x in
-    rw (decimal-large x (omega arith) (omega arith)) (put-then (first .put-decimal .ensures) (last .put-byte2 .ensures))
+    let both = put-then (first .put-decimal .ensures) (last .put-byte2 .ensures) in
+    rw (decimal-large x (omega arith) (omega arith)) both
 
 pub +put-decimal-spec : {M : Type 1} → statement M
 +put-decimal-spec =
