@@ -10,6 +10,7 @@ use compare::rng::{case_seed, Rng};
 
 /// All groups of such cases.
 pub fn run_all(run: &mut Run) {
+    worked_examples(run);
     small_lists(run);
     overflow_counts(run);
     largest_maps(run);
@@ -58,6 +59,14 @@ impl Subject for Case {
 
 pub fn encode(distances: &[u32]) -> Vec<u8> {
     reference::encode(distances).expect("at most 1,048,576 slots")
+}
+
+fn worked_examples(run: &mut Run) {
+    for (number, list) in lists::EXAMPLES.into_iter().enumerate() {
+        run.case("worked example", number, |_| {
+            Case::of_list("list of".into(), list.to_vec())
+        });
+    }
 }
 
 fn small_lists(run: &mut Run) {

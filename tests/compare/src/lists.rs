@@ -2,6 +2,14 @@
 
 use crate::rng::Rng;
 
+/// The lists of the worked examples in `docs/FORMAT.md`.
+pub const EXAMPLES: [&[u32]; 4] = [
+    &[0, 254, 255, 300],
+    &[1, 1, 1, u32::MAX],
+    &[1, 1, 1, 1],
+    &[],
+];
+
 /// Distances next to a rule's border.
 const CORNERS: [u32; 7] = [0, 1, 254, 255, 256, 300, u32::MAX];
 

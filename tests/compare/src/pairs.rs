@@ -12,6 +12,7 @@ use pciv::{raw, Refusal, Summary};
 
 /// All groups of such cases.
 pub fn run_all(run: &mut Run) {
+    worked_examples(run);
     small_pairs(run);
     sums_above(run);
     overflow_counts(run);
@@ -147,6 +148,16 @@ impl LentPair {
         self.a.settle(judge, call, "the first file");
         if let Some(b) = &mut self.b {
             b.settle(judge, call, "the second file");
+        }
+    }
+}
+
+fn worked_examples(run: &mut Run) {
+    for (number, a) in lists::EXAMPLES.into_iter().enumerate() {
+        for (inner, b) in lists::EXAMPLES.into_iter().enumerate() {
+            run.case("worked example of two", 4 * number + inner, |_| {
+                Pair::of_lists(format!("{a:?} and {b:?}"), a, b)
+            });
         }
     }
 }
