@@ -1,6 +1,6 @@
 //! Collects the verdicts of a run.
 
-use std::collections::HashMap;
+use std::collections::HashSet;
 use std::fmt::{Debug, Display};
 
 /// How many differences are printed before the run is given up.
@@ -12,8 +12,8 @@ pub struct Judge {
     pub case: String,
     pub calls: u64,
     pub differences: u64,
-    /// How often the reference refused a routine, by routine, number and map.
-    pub refusals: HashMap<(&'static str, u64, u64), u64>,
+    /// What the reference answered: routine, refusal number or 0 when done, and map.
+    pub outcomes: HashSet<(&'static str, u64, u64)>,
     /// Holds any file, for the reference alone.
     scratch: Vec<u8>,
 }

@@ -104,9 +104,7 @@ impl Run {
         if let Some(only) = self.only {
             return (self.cases == 0).then(|| format!("no case has the seed {only:#x}"));
         }
-        let missing = |&(routine, number, map): &(&'static str, u64, u64)| {
-            !self.judge.refusals.contains_key(&(routine, number, map))
-        };
+        let missing = |outcome: &_| !self.judge.outcomes.contains(outcome);
         let (routine, number, map) = outcomes().find(missing)?;
         Some(format!("no call of {routine} gave {number} with map {map}"))
     }
