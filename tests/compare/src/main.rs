@@ -12,7 +12,6 @@ mod pairs;
 mod parts;
 mod routines;
 mod run;
-mod shifts;
 mod trial;
 mod writing;
 
@@ -24,6 +23,5 @@ fn main() {
     files::run_all(&mut run);
     writing::run_all(&mut run);
     pairs::run_all(&mut run);
-    shifts::run_all(&mut run);
     process::exit(run.conclude());
 }
