@@ -1,5 +1,5 @@
 /*
- * pciv.h - reading PCIV depth maps
+ * pciv.h - reading, writing and combining PCIV depth maps
  *
  * A PCIV file stores a map: a list of 0 to 1,048,576 distances in whole centimetres, 32 bits each,
  * one for each slot. docs/FORMAT.md describes the layout, the rules and the terms used here.
@@ -10,13 +10,15 @@
  *   - A slice is a pointer and its number of elements. Pointers must be non-null, aligned for their
  *     type and valid for that many elements, also when the number is 0.
  *   - What a call writes must not overlap anything else that it is given: buffers, results, refusal.
+ *     What it only reads may overlap: a file may be combined with itself.
  *   - The call answers a number of enum pciv_refusal_number, PCIV_OK when done.
  *   - *refusal is always written: all zero when done, else the same number, the map at fault and
  *     the place.
  *   - Results are written only when the call is done. After a refusal every other byte of the
- *     caller is unchanged. What follows a result in a longer buffer is unchanged too.
- *   - A call checks the whole file it is given, which must be exactly as long as its header says.
- *     A fault of the file is refused before a fault of the call.
+ *     caller is unchanged. What follows a result in a longer buffer is unchanged too, and so is
+ *     what a call only reads.
+ *   - A call checks each whole file it is given, which must be exactly as long as its header says.
+ *     A fault of a file is refused before a fault of the call.
  *   - Nothing is allocated or kept between calls; calls may run in parallel.
  *
  * For x86-64 only (System V calling convention): size_t has 64 bits.
@@ -37,9 +39,10 @@ extern "C" {
 
 /* ---- Refusals --------------------------------------------------------------------------------
  *
- * Numbers 1 to 8 are faults of a file and have map 1 (2 for the second file of a call). All others
- * have map 0. The place is 0 unless stated. Where several apply, the first file's 1 to 8 come first
- * in rising order, then the second file's, then 10, 13, 9, 11, 12.
+ * Numbers 1 to 8 are faults of a file, or of the parts that a file is made of, and have map 1 (2
+ * for the second file of a call). All others have map 0. The place is 0 unless stated. Where
+ * several apply, the first file's 1 to 8 come first in rising order, then the second file's, then
+ * 10, 13, 9, 11, 12.
  */
 enum pciv_refusal_number {
     PCIV_OK = 0,                     /* done */
@@ -145,6 +148,68 @@ uint64_t pciv_sum(const uint8_t *file, size_t file_len, uint64_t *sum, pciv_refu
    When done *count holds it; after a refusal it is unchanged. */
 uint64_t pciv_readings(const uint8_t *file, size_t file_len, uint64_t *count,
                        pciv_refusal *refusal);
+
+/* ---- Writing ----------------------------------------------------------------------------------
+ *
+ * A file goes to the front of out, and no more than its length is written. 40 + n + 12k + 16m bytes
+ * hold the file of n slots with k overflow entries; m is at most 2,048, and not every rise of k
+ * makes the file longer (docs/FORMAT.md, "Derived counts"). 32,808 + 13n bytes hold any file of n
+ * slots.
+ */
+
+/* The file of a list of distances.
+   Refusals: 3 with map 1 where distances_len is above 1,048,576, then 12 where the file is longer
+   than out_len.
+   When done the first summary->len bytes of out are the file, the bytes behind it are unchanged,
+   and *summary is the file's summary. After a refusal out and *summary are unchanged. */
+uint64_t pciv_write(const uint32_t *distances, size_t distances_len, uint8_t *out, size_t out_len,
+                    pciv_summary *summary, pciv_refusal *refusal);
+
+/* The file of a primary array and its overflow entries. Entry j is slots[j] with distances[j];
+   where one list is shorter than the other, the first entry that it lacks is wrong.
+   Refusals: 3 with map 1 where primary_len is above 1,048,576; 6 with map 1 where an entry's slot
+   is primary_len or more or not above the one before, its distance is below 255, or the primary
+   byte of its slot is not 255, with the least such entry as place; 7 with map 1 where a primary
+   byte 255 has no entry, with the least such slot as place; then 12 where the file is longer than
+   out_len.
+   When done the first summary->len bytes of out are the file, the bytes behind it are unchanged,
+   and *summary is the file's summary. After a refusal out and *summary are unchanged. */
+uint64_t pciv_close(const uint8_t *primary, size_t primary_len, const uint64_t *slots,
+                    size_t slots_len, const uint32_t *distances, size_t distances_len, uint8_t *out,
+                    size_t out_len, pciv_summary *summary, pciv_refusal *refusal);
+
+/* ---- Arithmetic -------------------------------------------------------------------------------
+ *
+ * Each call works slot by slot. a is the first file and b the second; for their faults a refusal
+ * has map 1 and map 2.
+ */
+
+/* The file of the smaller distances of two maps.
+   Refusals: 1 to 8 of a, 1 to 8 of b, 10 where the maps differ in n, then 12 where the result is
+   longer than out_len.
+   When done the first summary->len bytes of out are the result, the bytes behind it are unchanged,
+   and *summary is its summary. After a refusal out and *summary are unchanged. */
+uint64_t pciv_minimum(const uint8_t *a, size_t a_len, const uint8_t *b, size_t b_len, uint8_t *out,
+                      size_t out_len, pciv_summary *summary, pciv_refusal *refusal);
+
+/* The file of the larger distances of two maps. Refusals and buffers as pciv_minimum. */
+uint64_t pciv_maximum(const uint8_t *a, size_t a_len, const uint8_t *b, size_t b_len, uint8_t *out,
+                      size_t out_len, pciv_summary *summary, pciv_refusal *refusal);
+
+/* The file of the differences a - b of two maps, 0 where a - b is negative. Refusals and buffers as
+   pciv_minimum. */
+uint64_t pciv_difference(const uint8_t *a, size_t a_len, const uint8_t *b, size_t b_len,
+                         uint8_t *out, size_t out_len, pciv_summary *summary,
+                         pciv_refusal *refusal);
+
+/* The exact signed differences b - a of two maps, in order of their slots.
+   Refusals: 1 to 8 of a, 1 to 8 of b, 10 where the maps differ in n, then 12 where out_len is below
+   n.
+   When done the first n elements of out hold them, the elements behind them are unchanged, and
+   *count is n. After a refusal out and *count are unchanged. */
+uint64_t pciv_signed_difference(const uint8_t *a, size_t a_len, const uint8_t *b, size_t b_len,
+                                int64_t *out, size_t out_len, uint64_t *count,
+                                pciv_refusal *refusal);
 
 /* ---- Report ----------------------------------------------------------------------------------- */
 

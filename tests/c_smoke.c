@@ -1,4 +1,4 @@
-/* Calls every function of pciv.h on a map built by hand and on refused input. If it fails, the
+/* Calls every function of pciv.h on maps built by hand and on refused input. If it fails, the
    library, the header or the way they are linked is wrong for C programs. */
 #include "pciv.h"
 
@@ -16,8 +16,14 @@
     } while (0)
 
 #define MAP_LEN 68
+#define OTHER_LEN 56
 #define N 4
 #define DIRTY 0xA5
+
+/* A routine that combines two files into a third. */
+typedef uint64_t combine(const uint8_t *a, size_t a_len, const uint8_t *b, size_t b_len,
+                         uint8_t *out, size_t out_len, pciv_summary *summary,
+                         pciv_refusal *refusal);
 
 static const char REPORT[] = "slots 4\nfar 2\nstep 0\nindex 0\nsum 809\nreadings 3\n";
 
@@ -33,6 +39,20 @@ static void build_map(uint8_t file[MAP_LEN])
     memcpy(file, "PCIV", 4);
     file[8] = N;
     file[16] = 2;
+    memcpy(file + 40, parts, sizeof parts);
+}
+
+/* The file of the distances 1, 1, 1, 4294967295. */
+static void build_other(uint8_t file[OTHER_LEN])
+{
+    static const uint8_t parts[] = {
+        1, 1, 1, 255,                                  /* primary array */
+        3, 0, 0, 0, 0, 0, 0, 0, 0xFF, 0xFF, 0xFF, 0xFF /* slot 3: 4294967295 */
+    };
+    memset(file, 0, OTHER_LEN);
+    memcpy(file, "PCIV", 4);
+    file[8] = N;
+    file[16] = 1;
     memcpy(file + 40, parts, sizeof parts);
 }
 
@@ -144,10 +164,137 @@ static void test_totals(const uint8_t *file)
     EXPECT(is_refusal(&refusal, PCIV_OK, 0, 0));
 }
 
+static int is_summary(const pciv_summary *summary, uint64_t n, uint64_t k, uint64_t len)
+{
+    return summary->n == n && summary->k == k && summary->m == 0 && summary->step == 0 &&
+           summary->len == len;
+}
+
+/* Whether the buffer holds a file with these distances, and what follows is dirty. */
+static int is_file_of(const uint8_t *out, size_t out_len, const pciv_summary *summary,
+                      const uint32_t expected[N])
+{
+    uint32_t distances[N];
+    uint64_t count;
+    pciv_refusal refusal;
+    return summary->len <= out_len &&
+           pciv_scan(out, summary->len, distances, N, &count, &refusal) == PCIV_OK &&
+           memcmp(distances, expected, sizeof distances) == 0 &&
+           is_dirty(out + summary->len, out_len - summary->len);
+}
+
+/* Whether the buffer holds the map, and what follows is dirty. */
+static int is_map(const uint8_t *out, size_t out_len, const pciv_summary *summary,
+                  const uint8_t *file)
+{
+    return is_summary(summary, N, 2, MAP_LEN) && memcmp(out, file, MAP_LEN) == 0 &&
+           is_dirty(out + MAP_LEN, out_len - MAP_LEN);
+}
+
+static void test_write(const uint8_t *file)
+{
+    static const uint32_t distances[N] = {0, 254, 255, 300};
+    uint8_t out[MAP_LEN + 8];
+    pciv_summary summary;
+    pciv_refusal refusal;
+    memset(out, DIRTY, sizeof out);
+    memset(&summary, DIRTY, sizeof summary);
+    EXPECT(pciv_write(distances, N, out, MAP_LEN - 1, &summary, &refusal) ==
+           PCIV_BUFFER_TOO_SMALL);
+    EXPECT(is_refusal(&refusal, PCIV_BUFFER_TOO_SMALL, 0, 0));
+    EXPECT(is_dirty(out, sizeof out) && is_dirty(&summary, sizeof summary));
+    EXPECT(pciv_write(distances, N, out, sizeof out, &summary, &refusal) == PCIV_OK);
+    EXPECT(is_refusal(&refusal, PCIV_OK, 0, 0) && is_map(out, sizeof out, &summary, file));
+}
+
+static void test_close(const uint8_t *file)
+{
+    static const uint8_t primary[N] = {0, 254, 255, 255};
+    static const uint64_t slots[] = {2, 3};
+    static const uint32_t distances[] = {255, 300};
+    uint8_t out[MAP_LEN + 8];
+    pciv_summary summary;
+    pciv_refusal refusal;
+    memset(out, DIRTY, sizeof out);
+    memset(&summary, DIRTY, sizeof summary);
+    EXPECT(pciv_close(primary, N, slots, 2, distances, 1, out, sizeof out, &summary, &refusal) ==
+           PCIV_BAD_OVERFLOW_ENTRY);
+    EXPECT(is_refusal(&refusal, PCIV_BAD_OVERFLOW_ENTRY, 1, 1));
+    EXPECT(pciv_close(primary, N, slots, 1, distances, 1, out, sizeof out, &summary, &refusal) ==
+           PCIV_MISSING_OVERFLOW_ENTRY);
+    EXPECT(is_refusal(&refusal, PCIV_MISSING_OVERFLOW_ENTRY, 1, 3));
+    EXPECT(pciv_close(primary, N, slots, 2, distances, 2, out, 3, &summary, &refusal) ==
+           PCIV_BUFFER_TOO_SMALL);
+    EXPECT(is_refusal(&refusal, PCIV_BUFFER_TOO_SMALL, 0, 0));
+    EXPECT(is_dirty(out, sizeof out) && is_dirty(&summary, sizeof summary));
+    EXPECT(pciv_close(primary, N, slots, 2, distances, 2, out, sizeof out, &summary, &refusal) ==
+           PCIV_OK);
+    EXPECT(is_refusal(&refusal, PCIV_OK, 0, 0) && is_map(out, sizeof out, &summary, file));
+}
+
+/* The map with the other one, to a file of k overflow entries; damaged files, one of another size
+   and a short buffer. */
+static void test_combine(combine *call, const uint8_t *a, const uint8_t *b, uint64_t k,
+                         const uint32_t expected[N])
+{
+    const uint64_t len = 40 + N + 12 * k;
+    uint8_t empty[40] = "PCIV";
+    uint8_t out[100];
+    pciv_summary summary;
+    pciv_refusal refusal;
+    memset(out, DIRTY, sizeof out);
+    memset(&summary, DIRTY, sizeof summary);
+    EXPECT(call(a, 39, b, 39, out, sizeof out, &summary, &refusal) == PCIV_TRUNCATED_HEADER);
+    EXPECT(is_refusal(&refusal, PCIV_TRUNCATED_HEADER, 1, 0));
+    EXPECT(call(a, MAP_LEN, b, 55, out, sizeof out, &summary, &refusal) == PCIV_BAD_LENGTH);
+    EXPECT(is_refusal(&refusal, PCIV_BAD_LENGTH, 2, 0));
+    EXPECT(call(a, MAP_LEN, empty, 40, out, 3, &summary, &refusal) == PCIV_SIZE_MISMATCH);
+    EXPECT(is_refusal(&refusal, PCIV_SIZE_MISMATCH, 0, 0));
+    EXPECT(call(a, MAP_LEN, b, OTHER_LEN, out, len - 1, &summary, &refusal) ==
+           PCIV_BUFFER_TOO_SMALL);
+    EXPECT(is_refusal(&refusal, PCIV_BUFFER_TOO_SMALL, 0, 0));
+    EXPECT(is_dirty(out, sizeof out) && is_dirty(&summary, sizeof summary));
+    EXPECT(call(a, MAP_LEN, b, OTHER_LEN, out, sizeof out, &summary, &refusal) == PCIV_OK);
+    EXPECT(is_refusal(&refusal, PCIV_OK, 0, 0) && is_summary(&summary, N, k, len));
+    EXPECT(is_file_of(out, sizeof out, &summary, expected));
+}
+
+static void test_signed_difference(const uint8_t *a, const uint8_t *b)
+{
+    static const int64_t expected[N] = {1, -253, -254, 4294966995};
+    int64_t out[N + 1];
+    uint64_t count;
+    pciv_refusal refusal;
+    memset(out, DIRTY, sizeof out);
+    memset(&count, DIRTY, sizeof count);
+    EXPECT(pciv_signed_difference(a, MAP_LEN, b, 39, out, N, &count, &refusal) ==
+           PCIV_TRUNCATED_HEADER);
+    EXPECT(is_refusal(&refusal, PCIV_TRUNCATED_HEADER, 2, 0));
+    EXPECT(pciv_signed_difference(a, MAP_LEN, b, OTHER_LEN, out, N - 1, &count, &refusal) ==
+           PCIV_BUFFER_TOO_SMALL);
+    EXPECT(is_refusal(&refusal, PCIV_BUFFER_TOO_SMALL, 0, 0));
+    EXPECT(is_dirty(out, sizeof out) && is_dirty(&count, sizeof count));
+    EXPECT(pciv_signed_difference(a, MAP_LEN, b, OTHER_LEN, out, N + 1, &count, &refusal) ==
+           PCIV_OK);
+    EXPECT(is_refusal(&refusal, PCIV_OK, 0, 0) && count == N);
+    EXPECT(memcmp(out, expected, sizeof expected) == 0 && is_dirty(&out[N], sizeof out[N]));
+}
+
+static void test_arithmetic(const uint8_t *a, const uint8_t *b)
+{
+    static const uint32_t minima[N] = {0, 1, 1, 300};
+    static const uint32_t maxima[N] = {1, 254, 255, 4294967295};
+    static const uint32_t differences[N] = {0, 253, 254, 0};
+    test_combine(pciv_minimum, a, b, 1, minima);
+    test_combine(pciv_maximum, a, b, 2, maxima);
+    test_combine(pciv_difference, a, b, 0, differences);
+    test_signed_difference(a, b);
+}
+
 static void test_report(const uint8_t *file)
 {
     const size_t len = strlen(REPORT);
-    uint8_t text[96];
+    uint8_t text[160];
     uint64_t count;
     pciv_refusal refusal;
     memset(text, DIRTY, sizeof text);
@@ -176,16 +323,21 @@ static void test_damage(const uint8_t *map, size_t at, uint8_t byte, uint64_t nu
 
 int main(void)
 {
-    uint8_t file[MAP_LEN];
-    uint8_t original[MAP_LEN];
+    uint8_t file[MAP_LEN], other[OTHER_LEN];
+    uint8_t original[MAP_LEN], other_original[OTHER_LEN];
     build_map(file);
     build_map(original);
+    build_other(other);
+    build_other(other_original);
     test_check(file);
     test_primary(file);
     test_lookup(file);
     test_lookup_list(file);
     test_scan(file);
     test_totals(file);
+    test_write(file);
+    test_close(file);
+    test_arithmetic(file, other);
     test_report(file);
     test_damage(file, 0, 'p', PCIV_BAD_MAGIC, 0);
     test_damage(file, 15, 1, PCIV_TOO_MANY_SLOTS, 0);
@@ -193,6 +345,7 @@ int main(void)
     test_damage(file, 56, 2, PCIV_BAD_OVERFLOW_ENTRY, 1);
     test_damage(file, 41, 255, PCIV_MISSING_OVERFLOW_ENTRY, 1);
     EXPECT(memcmp(file, original, MAP_LEN) == 0);
+    EXPECT(memcmp(other, other_original, OTHER_LEN) == 0);
     puts("c_smoke: ok");
     return 0;
 }

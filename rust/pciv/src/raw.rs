@@ -56,6 +56,36 @@ mod c {
             count: *mut u64,
             refusal: *mut Refusal,
         ) -> u64;
+        pub fn pciv_write(
+            distances: *const u32,
+            distances_len: usize,
+            out: *mut u8,
+            out_len: usize,
+            summary: *mut Summary,
+            refusal: *mut Refusal,
+        ) -> u64;
+        pub fn pciv_close(
+            primary: *const u8,
+            primary_len: usize,
+            slots: *const u64,
+            slots_len: usize,
+            distances: *const u32,
+            distances_len: usize,
+            out: *mut u8,
+            out_len: usize,
+            summary: *mut Summary,
+            refusal: *mut Refusal,
+        ) -> u64;
+        pub fn pciv_signed_difference(
+            a: *const u8,
+            a_len: usize,
+            b: *const u8,
+            b_len: usize,
+            out: *mut i64,
+            out_len: usize,
+            count: *mut u64,
+            refusal: *mut Refusal,
+        ) -> u64;
         pub fn pciv_report(
             input: *const u8,
             input_len: usize,
@@ -65,6 +95,26 @@ mod c {
             refusal: *mut Refusal,
         ) -> u64;
     }
+
+    /// The calls that combine two files into a third.
+    macro_rules! combining_calls {
+        ($($name:ident)*) => {
+            extern "C" {
+                $(pub fn $name(
+                    a: *const u8,
+                    a_len: usize,
+                    b: *const u8,
+                    b_len: usize,
+                    out: *mut u8,
+                    out_len: usize,
+                    summary: *mut Summary,
+                    refusal: *mut Refusal,
+                ) -> u64;)*
+            }
+        };
+    }
+
+    combining_calls!(pciv_minimum pciv_maximum pciv_difference);
 }
 
 // Every call below is sound for the same reason: references and slices give non-null, aligned
@@ -130,6 +180,107 @@ pub fn sum(file: &[u8], sum: &mut u64, refusal: &mut Refusal) -> u64 {
 /// `pciv_readings`.
 pub fn readings(file: &[u8], count: &mut u64, refusal: &mut Refusal) -> u64 {
     unsafe { c::pciv_readings(file.as_ptr(), file.len(), count, refusal) }
+}
+
+/// `pciv_write`.
+pub fn write(
+    distances: &[u32],
+    out: &mut [u8],
+    summary: &mut Summary,
+    refusal: &mut Refusal,
+) -> u64 {
+    unsafe {
+        c::pciv_write(
+            distances.as_ptr(),
+            distances.len(),
+            out.as_mut_ptr(),
+            out.len(),
+            summary,
+            refusal,
+        )
+    }
+}
+
+/// `pciv_close`.
+pub fn close(
+    primary: &[u8],
+    slots: &[u64],
+    distances: &[u32],
+    out: &mut [u8],
+    summary: &mut Summary,
+    refusal: &mut Refusal,
+) -> u64 {
+    unsafe {
+        c::pciv_close(
+            primary.as_ptr(),
+            primary.len(),
+            slots.as_ptr(),
+            slots.len(),
+            distances.as_ptr(),
+            distances.len(),
+            out.as_mut_ptr(),
+            out.len(),
+            summary,
+            refusal,
+        )
+    }
+}
+
+/// The calls that combine two files into a third, over slices.
+macro_rules! combining_functions {
+    ($($name:ident: $call:ident,)*) => {
+        $(
+            #[doc = concat!("`", stringify!($call), "`.")]
+            pub fn $name(
+                a: &[u8],
+                b: &[u8],
+                out: &mut [u8],
+                summary: &mut Summary,
+                refusal: &mut Refusal,
+            ) -> u64 {
+                unsafe {
+                    c::$call(
+                        a.as_ptr(),
+                        a.len(),
+                        b.as_ptr(),
+                        b.len(),
+                        out.as_mut_ptr(),
+                        out.len(),
+                        summary,
+                        refusal,
+                    )
+                }
+            }
+        )*
+    };
+}
+
+combining_functions! {
+    minimum: pciv_minimum,
+    maximum: pciv_maximum,
+    difference: pciv_difference,
+}
+
+/// `pciv_signed_difference`.
+pub fn signed_difference(
+    a: &[u8],
+    b: &[u8],
+    out: &mut [i64],
+    count: &mut u64,
+    refusal: &mut Refusal,
+) -> u64 {
+    unsafe {
+        c::pciv_signed_difference(
+            a.as_ptr(),
+            a.len(),
+            b.as_ptr(),
+            b.len(),
+            out.as_mut_ptr(),
+            out.len(),
+            count,
+            refusal,
+        )
+    }
 }
 
 /// `pciv_report`.

@@ -1,126 +1,134 @@
-//! Times the library beside the reference, a straightforward program, and a memcpy of the file.
+//! Times the library beside the reference, a straightforward program, and a memcpy.
 //!
 //! Contestants take turns, and each keeps its best round, so that the ratios of one run are
-//! comparable; differences of two are medians over the rounds. Every call includes its check of the file. Buffers are warm. One thread.
+//! comparable; differences of two are medians over the rounds. Every call includes its checks of
+//! the files. Buffers are warm, and as long as the result. One thread.
+
+mod table;
+mod timing;
 
 use compare::lists::{self, Spread};
 use compare::rng::Rng;
+use pciv::Summary;
 use std::hint::black_box;
-use std::time::{Duration, Instant};
+use table::Table;
+use timing::{best, keep, median, race, ROUNDS};
 
 const SIZES: [usize; 2] = [786_432, 19_200];
 /// Slots in overflow, in thousandths.
 const SHARES: [usize; 3] = [1, 10, 100];
 const LIST_LEN: usize = 1_000;
 
-const ROUNDS: u32 = 100;
-/// A round of a contestant takes at least about this long, so that the clock does not matter.
-const ROUND_TIME: Duration = Duration::from_micros(200);
-
 fn main() {
     println!(
-        "Microseconds a call, best of {ROUNDS} rounds; overflow slots are scattered at random."
+        "Microseconds a call, the best of {ROUNDS} rounds. Overflow slots are scattered at random. \
+         A call's traffic is the bytes that it has to read and to write; the memcpy copies half as \
+         many, so that it reads and writes as many in all."
     );
     for n in SIZES {
         for share in SHARES {
-            let map = Map::new(n, n * share / 1_000);
-            println!();
-            print_heading(&map);
-            whole_map_calls(&map);
-            lookups(&map);
+            let scene = Scene::new(n, n * share / 1_000);
+            let title = format!(
+                "n = {n}, k = {} ({} %), {} bytes",
+                scene.a.slots.len(),
+                share as f64 / 10.0,
+                scene.a.file.len()
+            );
+            let table = Table::new(&title, n);
+            reading(&table, &scene.a);
+            lookups(&table, &scene);
+            writing(&table, &scene.a);
+            arithmetic(&table, &scene);
         }
     }
 }
 
-/// A file and slots in overflow to ask for.
+/// A map and what it is made of.
 struct Map {
+    list: Vec<u32>,
     file: Vec<u8>,
-    n: usize,
-    k: usize,
+    /// Slots and distances of the overflow entries.
     slots: Vec<u64>,
+    distances: Vec<u32>,
 }
 
 impl Map {
-    fn new(n: usize, k: usize) -> Map {
-        let mut rng = Rng::new((n + k) as u64);
-        let distances = lists::with_overflow(&mut rng, n, k, Spread::Scattered);
-        let is_overflow = |&slot: &u64| distances[slot as usize] >= 255;
-        let overflow: Vec<u64> = (0..n as u64).filter(is_overflow).collect();
-        Map {
-            file: reference::encode(&distances).expect("few slots"),
+    /// A map with `k` slots in overflow.
+    fn new(rng: &mut Rng, n: usize, k: usize) -> Map {
+        let list = lists::placed(
+            rng,
             n,
             k,
-            slots: (0..LIST_LEN).map(|_| rng.pick(&overflow)).collect(),
+            Spread::Scattered,
+            |rng| 255 + rng.below(60_000) as u32,
+            |rng| rng.below(255) as u32,
+        );
+        let overflow = (0u64..).zip(list.iter().copied());
+        let (slots, distances) = overflow.filter(|&(_, distance)| distance >= 255).unzip();
+        Map {
+            file: reference::encode(&list).expect("few slots"),
+            list,
+            slots,
+            distances,
+        }
+    }
+
+    fn primary(&self) -> &[u8] {
+        reference::primary(&self.file)
+    }
+}
+
+/// The maps of one table.
+struct Scene {
+    a: Map,
+    /// Like the first one.
+    b: Map,
+    /// Slots of the first map in overflow.
+    asked: Vec<u64>,
+}
+
+impl Scene {
+    fn new(n: usize, k: usize) -> Scene {
+        let mut rng = Rng::new((n + k) as u64);
+        let a = Map::new(&mut rng, n, k);
+        Scene {
+            b: Map::new(&mut rng, n, k),
+            asked: (0..LIST_LEN).map(|_| rng.pick(&a.slots)).collect(),
+            a,
         }
     }
 }
 
-fn print_heading(map: &Map) {
-    let Map { n, k, file, .. } = map;
-    println!("n = {n}, k = {k}, {} bytes", file.len());
-    println!(
-        "{:<22}{:>10}{:>11}{:>9}{:>13}{:>19}{:>16}",
-        "call",
-        "library",
-        "reference",
-        "memcpy",
-        "ps per slot",
-        "reference/library",
-        "library/memcpy"
-    );
-}
-
 /// Check, scan, sum and readings.
-fn whole_map_calls(map: &Map) {
-    let file = &map.file[..];
-    let (mut ours, mut theirs) = (vec![0; map.n], vec![0; map.n]);
-    print_row(
-        map,
+fn reading(table: &Table, map: &Map) {
+    let (file, n) = (&map.file[..], map.list.len());
+    let (mut ours, mut theirs) = (vec![0; n], vec![0; n]);
+    let len = file.len();
+    table.row(
         "check",
+        len,
         || pciv::check(file),
         || reference::check(file),
     );
-    print_row(
-        map,
+    table.row(
         "scan",
+        len + 4 * n,
         || pciv::scan(file, black_box(&mut ours)),
         || reference::scan(file, black_box(&mut theirs)),
     );
-    print_row(map, "sum", || pciv::sum(file), || reference::sum(file));
-    print_row(
-        map,
+    table.row("sum", len, || pciv::sum(file), || reference::sum(file));
+    table.row(
         "readings",
+        len,
         || pciv::readings(file),
         || reference::readings(file),
     );
 }
 
-/// Times one call beside the reference's and a memcpy of the file, and prints the row.
-fn print_row<T, U>(
-    map: &Map,
-    call: &str,
-    mut library: impl FnMut() -> T,
-    mut reference: impl FnMut() -> U,
-) {
-    let mut copy = vec![0; map.file.len()];
-    let rounds = race([
-        &mut || keep(library()),
-        &mut || keep(reference()),
-        &mut || black_box(&mut copy[..]).copy_from_slice(black_box(&map.file)),
-    ]);
-    let [library, reference, memcpy] = best(&rounds);
-    println!(
-        "{call:<22}{library:>10.2}{reference:>11.2}{memcpy:>9.2}{:>13.0}{:>19.2}{:>16.2}",
-        library * 1e6 / map.n as f64,
-        reference / library,
-        library / memcpy
-    );
-}
-
 /// One overflow slot, and a list of overflow slots; of the list also the cost of each slot beyond
 /// that of the check.
-fn lookups(map: &Map) {
-    let (file, slots) = (&map.file[..], &map.slots[..]);
+fn lookups(table: &Table, scene: &Scene) {
+    let (file, slots) = (&scene.a.file[..], &scene.asked[..]);
     let (mut ours, mut theirs) = (vec![0; slots.len()], vec![0; slots.len()]);
     let rounds = race([
         &mut || keep(pciv::lookup(file, slots[0])),
@@ -131,66 +139,79 @@ fn lookups(map: &Map) {
         &mut || keep(reference::check(file)),
     ]);
     let [our_one, their_one, our_list, _, their_list, _] = best(&rounds);
-    print_pair("lookup", our_one, their_one);
-    print_pair("lookup_list of 1,000", our_list, their_list);
+    table.pair("lookup", our_one, their_one);
+    table.pair("lookup_list of 1,000", our_list, their_list);
     let ns_per_slot = |difference: f64| difference * 1e3 / LIST_LEN as f64;
-    print_pair(
-        "  ns a slot, no check",
+    table.pair(
+        "of these ns a slot, no check",
         ns_per_slot(median(rounds.iter().map(|round| round[2] - round[3]))),
         ns_per_slot(median(rounds.iter().map(|round| round[4] - round[5]))),
     );
 }
 
-fn print_pair(call: &str, library: f64, reference: f64) {
-    println!(
-        "{call:<22}{library:>10.2}{reference:>11.2}{:>9}{:>13}{:>19.2}",
-        "",
-        "",
-        reference / library
+/// Write and close, both to the same file.
+fn writing(table: &Table, map: &Map) {
+    let (list, primary) = (&map.list[..], map.primary());
+    let (slots, distances) = (&map.slots[..], &map.distances[..]);
+    let (n, k, len) = (list.len(), slots.len(), map.file.len());
+    let (mut ours, mut theirs) = (vec![0; len], vec![0; len]);
+    table.row(
+        "write",
+        4 * n + len,
+        || pciv::write(list, black_box(&mut ours)),
+        || reference::write(list, black_box(&mut theirs)),
+    );
+    table.row(
+        "close",
+        n + 12 * k + len,
+        || pciv::close(primary, slots, distances, black_box(&mut ours)),
+        || reference::close(primary, slots, distances, black_box(&mut theirs)),
     );
 }
 
-/// Microseconds a call of each contestant, round by round.
-fn race<const N: usize>(mut contestants: [&mut dyn FnMut(); N]) -> Vec<[f64; N]> {
-    let repeats = contestants.each_mut().map(|contestant| {
-        let mut repeats = 1;
-        while time(contestant, repeats) < ROUND_TIME {
-            repeats *= 2;
-        }
-        repeats
-    });
-    let mut round = || {
-        std::array::from_fn(|i| {
-            let elapsed = time(&mut contestants[i], repeats[i]).as_secs_f64();
-            elapsed * 1e6 / f64::from(repeats[i])
-        })
-    };
-    (0..ROUNDS).map(|_| round()).collect()
+/// What combines two files into a third, in the library and in the reference.
+type Ours = fn(&[u8], &[u8], &mut [u8]) -> Result<Summary, pciv::Refusal>;
+type Theirs = fn(&[u8], &[u8], &mut [u8]) -> Result<reference::Summary, reference::Refusal>;
+
+/// Minimum, maximum, difference and signed difference.
+fn arithmetic(table: &Table, scene: &Scene) {
+    let (a, b) = (&scene.a.file, &scene.b.file);
+    combine(table, "minimum", a, b, pciv::minimum, reference::minimum);
+    combine(table, "maximum", a, b, pciv::maximum, reference::maximum);
+    combine(
+        table,
+        "difference",
+        a,
+        b,
+        pciv::difference,
+        reference::difference,
+    );
+    let n = scene.a.list.len();
+    let (mut ours, mut theirs) = (vec![0; n], vec![0; n]);
+    table.row(
+        "signed_difference",
+        a.len() + b.len() + 8 * n,
+        || pciv::signed_difference(a, b, black_box(&mut ours)),
+        || reference::signed_difference(a, b, black_box(&mut theirs)),
+    );
 }
 
-/// The best round of each contestant.
-fn best<const N: usize>(rounds: &[[f64; N]]) -> [f64; N] {
-    std::array::from_fn(|i| {
-        let times = rounds.iter().map(|round| round[i]);
-        times.fold(f64::INFINITY, f64::min)
-    })
+fn combine(table: &Table, call: &str, a: &[u8], b: &[u8], ours: Ours, theirs: Theirs) {
+    let len = result_len(|out| theirs(a, b, out));
+    let (mut our_out, mut their_out) = (vec![0; len], vec![0; len]);
+    table.row(
+        call,
+        a.len() + b.len() + len,
+        || ours(a, b, black_box(&mut our_out)),
+        || theirs(a, b, black_box(&mut their_out)),
+    );
 }
 
-fn median(values: impl Iterator<Item = f64>) -> f64 {
-    let mut sorted: Vec<f64> = values.collect();
-    sorted.sort_by(f64::total_cmp);
-    sorted[sorted.len() / 2]
-}
-
-fn time(contestant: &mut dyn FnMut(), repeats: u32) -> Duration {
-    let start = Instant::now();
-    for _ in 0..repeats {
-        contestant();
-    }
-    start.elapsed()
-}
-
-/// Has the compiler believe that a result is used.
-fn keep<T>(result: T) {
-    black_box(result);
+/// The length of a file that the reference makes.
+fn result_len(
+    call: impl FnOnce(&mut [u8]) -> Result<reference::Summary, reference::Refusal>,
+) -> usize {
+    let longest = reference::file_len(reference::MAX_SLOTS, reference::MAX_SLOTS);
+    let summary = call(&mut vec![0; longest as usize]).expect("sound files");
+    summary.len as usize
 }

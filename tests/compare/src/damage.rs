@@ -198,7 +198,7 @@ fn primary(file: &[u8], layout: &Layout) -> Vec<Damage> {
 }
 
 /// The first, second, middle, last but one and last of `len` places.
-fn ends_and_middle(len: usize) -> Vec<usize> {
+pub fn ends_and_middle(len: usize) -> Vec<usize> {
     let mut places: Vec<usize> = [0, 1, len / 2, len.wrapping_sub(2), len.wrapping_sub(1)]
         .into_iter()
         .filter(|&place| place < len)

@@ -1,5 +1,6 @@
 //! Collects the verdicts of a run.
 
+use std::collections::HashSet;
 use std::fmt::{Debug, Display};
 
 /// How many differences are printed before the run is given up.
@@ -11,11 +12,20 @@ pub struct Judge {
     pub case: String,
     pub calls: u64,
     pub differences: u64,
-    /// How often the reference refused, by number.
-    pub refusals: [u64; 14],
+    /// What the reference answered: routine, refusal number or 0 when done, and map.
+    pub outcomes: HashSet<(&'static str, u64, u64)>,
+    /// Holds any file, for the reference alone.
+    scratch: Vec<u8>,
 }
 
 impl Judge {
+    /// Bytes for any file, out of the library's reach.
+    pub fn scratch(&mut self) -> &mut [u8] {
+        let longest = reference::file_len(reference::MAX_SLOTS, reference::MAX_SLOTS);
+        self.scratch.resize(longest as usize, 0);
+        &mut self.scratch
+    }
+
     /// Compares what a call left behind.
     pub fn same<T: PartialEq + Debug>(&mut self, call: &dyn Display, expected: T, actual: T) {
         if expected != actual {

@@ -2,10 +2,36 @@
 
 use crate::rng::Rng;
 
+/// The lists of the worked examples in `docs/FORMAT.md`.
+pub const EXAMPLES: [&[u32]; 4] = [
+    &[0, 254, 255, 300],
+    &[1, 1, 1, u32::MAX],
+    &[1, 1, 1, 1],
+    &[],
+];
+
 /// Distances next to a rule's border.
 const CORNERS: [u32; 7] = [0, 1, 254, 255, 256, 300, u32::MAX];
 
-/// How the overflow slots of a list lie.
+/// Numbers of overflow entries where the step of the sparse index changes.
+pub const STEP_BORDERS: [usize; 6] = [2_047, 2_048, 2_049, 4_095, 4_096, 4_097];
+
+/// Sizes next to those in which a program may work block by block.
+const BLOCK_BORDERS: [usize; 24] = [
+    1, 2, 3, 7, 8, 9, 63, 64, 65, 127, 128, 129, 191, 192, 193, 255, 256, 257, 1_023, 1_024, 1_025,
+    2_047, 2_048, 2_049,
+];
+
+/// A size up to 2,049, 0 included, often next to a block's border.
+pub fn size(rng: &mut Rng) -> usize {
+    match rng.below(4) {
+        0 => rng.below(700),
+        1 => rng.below(20),
+        _ => rng.pick(&BLOCK_BORDERS),
+    }
+}
+
+/// How the chosen slots of a list lie.
 #[derive(Clone, Copy, Debug)]
 pub enum Spread {
     /// They are the first slots.
@@ -35,22 +61,54 @@ pub fn mixed(rng: &mut Rng, n: usize) -> Vec<u32> {
 
 /// A list of `n` distances of which exactly `k` are in overflow.
 pub fn with_overflow(rng: &mut Rng, n: usize, k: usize, spread: Spread) -> Vec<u32> {
+    placed(rng, n, k, spread, overflow, inline)
+}
+
+/// A list of `n` distances, made by `chosen` at exactly `k` slots and by `other` elsewhere.
+pub fn placed(
+    rng: &mut Rng,
+    n: usize,
+    k: usize,
+    spread: Spread,
+    chosen: impl Fn(&mut Rng) -> u32,
+    other: impl Fn(&mut Rng) -> u32,
+) -> Vec<u32> {
     let mut left = k;
     (0..n)
         .map(|slot| {
-            let chosen = match spread {
+            let is_chosen = match spread {
                 Spread::Front => slot < k,
                 Spread::Back => slot >= n - k,
                 Spread::Scattered => rng.below(n - slot) < left,
             };
-            if chosen {
+            if is_chosen {
                 left -= 1;
-                overflow(rng)
+                chosen(rng)
             } else {
-                inline(rng)
+                other(rng)
             }
         })
         .collect()
+}
+
+/// A list that tells something beside another one: equal, next to it, with differences at the
+/// borders of overflow, or unrelated.
+pub fn beside(rng: &mut Rng, list: &[u32]) -> Vec<u32> {
+    match rng.below(4) {
+        0 => list.to_vec(),
+        1 => mixed(rng, list.len()),
+        _ => list.iter().map(|&x| distance_beside(rng, x)).collect(),
+    }
+}
+
+fn distance_beside(rng: &mut Rng, x: u32) -> u32 {
+    match rng.below(5) {
+        0 => x,
+        1 => x.saturating_add(1),
+        2 => x.saturating_add(255),
+        3 => x.saturating_sub(rng.pick(&[1, 253, 254, 255, 256])),
+        _ => corner(rng),
+    }
 }
 
 fn corner(rng: &mut Rng) -> u32 {

@@ -1,16 +1,17 @@
 //! The calls made for one file.
 
+use crate::call::capacities;
 use crate::judge::Judge;
+use crate::parts::Parts;
+use crate::run::Subject;
 use crate::trial::Trial;
+use crate::writing;
 use compare::rng::Rng;
 use reference::Summary;
 
-/// Files start anywhere up to here in their memory, so at any alignment.
-const MAX_SHIFT: usize = 16;
-
-/// Compares every routine on a file.
+/// Compares every routine on one file.
 pub fn compare_file(judge: &mut Judge, rng: &mut Rng, file: &[u8]) {
-    let mut trial = Trial::new(judge, file, rng.below(MAX_SHIFT));
+    let mut trial = Trial::new(judge, rng, file);
     trial.check();
     trial.primary();
     trial.sum();
@@ -24,10 +25,12 @@ pub fn compare_file(judge: &mut Judge, rng: &mut Rng, file: &[u8]) {
     }
 }
 
-/// Compares the reference with the list that a file was made of.
-pub fn compare_list(judge: &mut Judge, file: &[u8], distances: &[u32]) {
+/// Compares the reference with the list that a file was made of, and the routines that make it.
+pub fn compare_list(judge: &mut Judge, rng: &mut Rng, file: &[u8], distances: &[u32]) {
     let decoded = reference::decode(file).unwrap_or_default();
     judge.same_buffer(&"the reference's list", distances, &decoded);
+    writing::compare_write(judge, rng, distances);
+    Parts::of(distances).compare(judge, rng);
 }
 
 fn sound_file(trial: &mut Trial, rng: &mut Rng, summary: &Summary) {
@@ -48,16 +51,8 @@ fn refused_file(trial: &mut Trial, rng: &mut Rng) {
     trial.scan(trial.original().len());
     trial.lookup(0);
     trial.lookup(u64::MAX);
-    trial.lookup_list(&[0, u64::MAX, rng.word()], rng.below(5));
-}
-
-/// Capacities for a result of `len` elements: exact, generous, one short, none.
-fn capacities(rng: &mut Rng, len: usize) -> Vec<usize> {
-    let mut capacities = vec![len, len + 1 + rng.below(20)];
-    if len > 0 {
-        capacities.extend([len - 1, 0]);
-    }
-    capacities
+    let (slots, capacity) = ([0, u64::MAX, rng.word()], rng.below(5));
+    trial.lookup_list(rng, &slots, capacity);
 }
 
 /// Slots below n where a lookup may go wrong: both ends, random ones, and those about telling
@@ -106,16 +101,16 @@ fn lookup_lists(trial: &mut Trial, rng: &mut Rng, inside: &[u64], beyond: &[u64]
     let mut list = inside.to_vec();
     list.extend((0..inside.len()).map(|_| rng.pick(inside)));
     for capacity in capacities(rng, list.len()) {
-        trial.lookup_list(&list, capacity);
-        trial.lookup_list(&[], capacity);
+        trial.lookup_list(rng, &list, capacity);
+        trial.lookup_list(rng, &[], capacity);
     }
     for position in [0, list.len() / 2, list.len()] {
         let mut refused = list.clone();
         refused.insert(position, rng.pick(beyond));
-        trial.lookup_list(&refused, refused.len());
+        trial.lookup_list(rng, &refused, refused.len());
         refused.push(rng.pick(beyond));
         for capacity in capacities(rng, refused.len()) {
-            trial.lookup_list(&refused, capacity);
+            trial.lookup_list(rng, &refused, capacity);
         }
     }
 }

@@ -7,16 +7,19 @@
 //! itself below 255 and the sentinel 255 otherwise; an *overflow entry* (slot, distance) for each
 //! sentinel; and a *sparse index* over the overflow entries when there are many.
 
+mod arith;
+mod entries;
 pub mod examples;
 mod layout;
 mod map;
 mod report;
 mod write;
 
+pub use arith::{difference, maximum, minimum, signed_difference};
 pub use layout::{file_len, index_len, index_step, HEADER_LEN, MAX_SLOTS, SENTINEL};
 pub use map::{check, decode, lookup, lookup_list, primary, readings, scan, sum, Map};
 pub use report::{report, report_text, MAX_INPUT};
-pub use write::encode;
+pub use write::{close, encode, write};
 
 /// What a sound file's header says, and the file's length.
 #[derive(Clone, Copy, Debug, PartialEq, Eq)]
@@ -33,19 +36,32 @@ pub struct Summary {
     pub len: u64,
 }
 
+impl Summary {
+    /// The summary of a file with `n` slots and `k` overflow entries, `k <= n <= MAX_SLOTS`.
+    fn of(n: u64, k: u64) -> Summary {
+        Summary {
+            n,
+            k,
+            m: index_len(k),
+            step: index_step(k),
+            len: file_len(n, k),
+        }
+    }
+}
+
 /// Why a call was refused: the rule's number, the map at fault and the place.
 #[derive(Clone, Copy, Debug, PartialEq, Eq)]
 pub struct Refusal {
     /// Number of the rule, 1 to 13.
     pub number: u64,
-    /// 1 for a fault of the file, 0 for a fault of the call.
+    /// The file at fault, counted from 1; 0 for a fault of the call.
     pub map: u64,
     /// The place that the rule names, 0 where it names none.
     pub place: u64,
 }
 
 impl Refusal {
-    /// A refusal of the file.
+    /// A refusal of the first file, or of the parts that a file is made of.
     fn of_file(number: u64, place: u64) -> Refusal {
         Refusal {
             number,
@@ -62,6 +78,14 @@ impl Refusal {
             place,
         }
     }
+}
+
+/// Fails with refusal 3 for more than 1,048,576 slots.
+fn require_few_slots(n: usize) -> Result<(), Refusal> {
+    if n as u64 > MAX_SLOTS {
+        return Err(Refusal::of_file(3, 0));
+    }
+    Ok(())
 }
 
 /// Fails with refusal 12 unless a result of `len` elements fits into `capacity`.

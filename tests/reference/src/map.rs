@@ -1,9 +1,10 @@
 //! A checked file and the questions asked of it.
 
+use crate::entries::{check_entries, check_sentinels, Entry};
 use crate::layout::{
-    file_len, index_len, index_position, index_slot, index_step, le64, overflow_distance,
-    overflow_slot, IndexBytes, OverflowBytes, HEADER_LEN, INDEX_ENTRY_LEN, MAGIC, MAX_SLOTS,
-    OVERFLOW_ENTRY_LEN, SENTINEL,
+    index_len, index_position, index_slot, index_step, le64, overflow_distance, overflow_slot,
+    IndexBytes, OverflowBytes, HEADER_LEN, INDEX_ENTRY_LEN, MAGIC, MAX_SLOTS, OVERFLOW_ENTRY_LEN,
+    SENTINEL,
 };
 use crate::{require_capacity, Refusal, Summary};
 
@@ -24,8 +25,8 @@ impl<'a> Map<'a> {
             return Err(Refusal::of_file(5, 0));
         }
         let map = Map::split(file, summary);
-        map.check_overflow()?;
-        map.check_sentinels()?;
+        check_entries(map.primary, map.entries())?;
+        check_sentinels(map.primary, map.entries())?;
         map.check_index()?;
         Ok(map)
     }
@@ -42,38 +43,6 @@ impl<'a> Map<'a> {
         }
     }
 
-    /// Refusal 6: each overflow entry has a slot below n and above the one before, a distance of
-    /// at least 255, and the sentinel in the primary array.
-    fn check_overflow(&self) -> Result<(), Refusal> {
-        let mut least_slot = 0;
-        for (place, entry) in (0u64..).zip(self.overflow) {
-            let slot = overflow_slot(entry);
-            let sound = (least_slot..self.summary.n).contains(&slot)
-                && overflow_distance(entry) >= u32::from(SENTINEL)
-                && self.primary[slot as usize] == SENTINEL;
-            if !sound {
-                return Err(Refusal::of_file(6, place));
-            }
-            least_slot = slot + 1;
-        }
-        Ok(())
-    }
-
-    /// Refusal 7: each sentinel has an overflow entry. The entries have passed refusal 6.
-    fn check_sentinels(&self) -> Result<(), Refusal> {
-        let mut entries = self.overflow.iter().peekable();
-        for (slot, &byte) in (0u64..).zip(self.primary) {
-            let missing = byte == SENTINEL
-                && entries
-                    .next_if(|entry| overflow_slot(entry) == slot)
-                    .is_none();
-            if missing {
-                return Err(Refusal::of_file(7, slot));
-            }
-        }
-        Ok(())
-    }
-
     /// Refusal 8: index entry i is the slot of overflow entry i × step, then i × step.
     fn check_index(&self) -> Result<(), Refusal> {
         // Without an index there is nothing to compare, whatever the step of the walk.
@@ -85,6 +54,14 @@ impl<'a> Map<'a> {
             }
         }
         Ok(())
+    }
+
+    /// The overflow entries.
+    fn entries(&self) -> impl Iterator<Item = Entry> + 'a {
+        self.overflow.iter().map(|entry| Entry {
+            slot: overflow_slot(entry),
+            distance: overflow_distance(entry),
+        })
     }
 
     /// The header's counts and the file's length.
@@ -166,13 +143,7 @@ fn read_header(file: &[u8]) -> Result<Summary, Refusal> {
     if k > n || step != index_step(k) || m != index_len(k) {
         return Err(Refusal::of_file(4, 0));
     }
-    Ok(Summary {
-        n,
-        k,
-        m,
-        step,
-        len: file_len(n, k),
-    })
+    Ok(Summary::of(n, k))
 }
 
 /// The summary of a file.

@@ -1,59 +1,122 @@
-//! A list of distances to its file.
+//! Files written to a buffer: from a list of distances, or from a primary array and overflow
+//! entries.
 
-use crate::layout::{file_len, index_len, index_step, HEADER_LEN, MAGIC, MAX_SLOTS, SENTINEL};
-use crate::Refusal;
+use crate::entries::{check_entries, check_sentinels, Entry};
+use crate::layout::{file_len, HEADER_LEN, INDEX_ENTRY_LEN, MAGIC, OVERFLOW_ENTRY_LEN, SENTINEL};
+use crate::{require_capacity, require_few_slots, Refusal, Summary};
 
 /// The file of a list of distances. Refusal 3 for more than 1,048,576 of them.
 pub fn encode(distances: &[u32]) -> Result<Vec<u8>, Refusal> {
-    let n = distances.len() as u64;
-    if n > MAX_SLOTS {
-        return Err(Refusal::of_file(3, 0));
-    }
-    let k = distances.iter().filter(|&&d| is_overflow(d)).count() as u64;
-    let mut file = Vec::with_capacity(file_len(n, k) as usize);
-    push_header(&mut file, n, k);
-    file.extend(distances.iter().map(|&d| d.min(u32::from(SENTINEL)) as u8));
-    for (slot, distance) in overflow_of(distances) {
-        file.extend(slot.to_le_bytes());
-        file.extend(distance.to_le_bytes());
-    }
-    push_index(&mut file, distances, index_step(k));
+    let k = distances.iter().filter(|&&d| is_overflow(d)).count();
+    let mut file = vec![0; file_len(distances.len() as u64, k as u64) as usize];
+    write(distances, &mut file)?;
     Ok(file)
+}
+
+/// The file of a list of distances, to the front of `out`. Refusals 3, 12. Answers its summary.
+pub fn write(distances: &[u32], out: &mut [u8]) -> Result<Summary, Refusal> {
+    require_few_slots(distances.len())?;
+    write_distances(distances.iter().copied(), out)
+}
+
+/// The file of a primary array and of overflow entries, given as their slots and their distances,
+/// to the front of `out`. Refusals 3, 6, 7, 12. Answers its summary.
+///
+/// Where one list is longer, its first entry without a partner is wrong.
+pub fn close(
+    primary: &[u8],
+    slots: &[u64],
+    distances: &[u32],
+    out: &mut [u8],
+) -> Result<Summary, Refusal> {
+    require_few_slots(primary.len())?;
+    let pairs = slots.iter().zip(distances);
+    let entries = pairs.map(|(&slot, &distance)| Entry { slot, distance });
+    check_entries(primary, entries.clone())?;
+    if slots.len() != distances.len() {
+        return Err(Refusal::of_file(6, entries.len() as u64));
+    }
+    check_sentinels(primary, entries.clone())?;
+    write_parts(primary, entries, out)
 }
 
 fn is_overflow(distance: u32) -> bool {
     distance >= u32::from(SENTINEL)
 }
 
-/// The overflow entries of a list, slots rising.
-fn overflow_of(distances: &[u32]) -> impl Iterator<Item = (u64, u32)> + '_ {
-    (0u64..)
-        .zip(distances.iter().copied())
-        .filter(|&(_, distance)| is_overflow(distance))
+/// Writes the file of at most 1,048,576 distances to the front of `out`. Refusal 12.
+///
+/// One pass over the distances collects the primary array and the overflow entries; nothing is
+/// written before the refusal is ruled out.
+pub(crate) fn write_distances(
+    distances: impl Iterator<Item = u32>,
+    out: &mut [u8],
+) -> Result<Summary, Refusal> {
+    let mut overflow = Vec::new();
+    let primary: Vec<u8> = (0u64..)
+        .zip(distances)
+        .map(|(slot, distance)| {
+            if is_overflow(distance) {
+                overflow.push(Entry { slot, distance });
+                SENTINEL
+            } else {
+                distance as u8
+            }
+        })
+        .collect();
+    write_parts(&primary, overflow.iter().copied(), out)
 }
 
-fn push_header(file: &mut Vec<u8>, n: u64, k: u64) {
-    file.extend(MAGIC);
-    for count in [n, k, index_len(k), index_step(k)] {
-        file.extend(count.to_le_bytes());
-    }
-    debug_assert_eq!(file.len(), HEADER_LEN);
+/// Writes the file of a primary array and its overflow entries, which fit each other, to the front
+/// of `out`. Refusal 12.
+fn write_parts(
+    primary: &[u8],
+    overflow: impl ExactSizeIterator<Item = Entry> + Clone,
+    out: &mut [u8],
+) -> Result<Summary, Refusal> {
+    let summary = Summary::of(primary.len() as u64, overflow.len() as u64);
+    require_capacity(summary.len as usize, out.len())?;
+    let file = &mut out[..summary.len as usize];
+    let (header, rest) = file.split_at_mut(HEADER_LEN);
+    let (primary_out, rest) = rest.split_at_mut(primary.len());
+    let (overflow_out, index_out) = rest.split_at_mut(OVERFLOW_ENTRY_LEN * overflow.len());
+    write_header(header, &summary);
+    primary_out.copy_from_slice(primary);
+    write_overflow(overflow_out, overflow.clone());
+    write_index(index_out, overflow, summary.step);
+    Ok(summary)
 }
 
-fn push_index(file: &mut Vec<u8>, distances: &[u32], step: u64) {
-    if step == 0 {
-        return;
+fn write_header(out: &mut [u8], summary: &Summary) {
+    let Summary { n, k, m, step, .. } = *summary;
+    let counts = [n, k, m, step].map(u64::to_le_bytes);
+    let (magic, fields) = out.split_at_mut(MAGIC.len());
+    magic.copy_from_slice(&MAGIC);
+    fields.copy_from_slice(counts.as_flattened());
+}
+
+fn write_overflow(out: &mut [u8], entries: impl Iterator<Item = Entry>) {
+    let (out, _) = out.as_chunks_mut::<OVERFLOW_ENTRY_LEN>();
+    for (out, entry) in out.iter_mut().zip(entries) {
+        out[..8].copy_from_slice(&entry.slot.to_le_bytes());
+        out[8..].copy_from_slice(&entry.distance.to_le_bytes());
     }
-    let entries = (0u64..).zip(overflow_of(distances));
-    for (position, (slot, _)) in entries.step_by(step as usize) {
-        file.extend(slot.to_le_bytes());
-        file.extend(position.to_le_bytes());
+}
+
+fn write_index(out: &mut [u8], entries: impl Iterator<Item = Entry>, step: u64) {
+    // Without an index there is nothing to write, whatever the step of the walk.
+    let indexed = (0u64..).zip(entries).step_by(step.max(1) as usize);
+    let (out, _) = out.as_chunks_mut::<INDEX_ENTRY_LEN>();
+    for (out, (position, entry)) in out.iter_mut().zip(indexed) {
+        out[..8].copy_from_slice(&entry.slot.to_le_bytes());
+        out[8..].copy_from_slice(&position.to_le_bytes());
     }
 }
 
 #[cfg(test)]
 mod tests {
     use super::*;
+    use crate::MAX_SLOTS;
 
     #[test]
     fn map_a_byte_by_byte() {
@@ -86,8 +149,12 @@ mod tests {
 
     #[test]
     fn too_many_slots_are_refused() {
+        let refusal = Err(Refusal::of_file(3, 0));
         let distances = vec![0; MAX_SLOTS as usize + 1];
         assert!(encode(&distances[1..]).is_ok());
         assert_eq!(encode(&distances), Err(Refusal::of_file(3, 0)));
+        assert_eq!(write(&distances, &mut []), refusal);
+        let primary = vec![SENTINEL; MAX_SLOTS as usize + 1];
+        assert_eq!(close(&primary, &[7], &[], &mut []), refusal);
     }
 }

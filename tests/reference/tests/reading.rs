@@ -1,4 +1,4 @@
-//! The reference held to the small maps and rules of `docs/FORMAT.md`.
+//! Reading by the reference, held to the small maps and rules of `docs/FORMAT.md`.
 
 use reference::{
     check, decode, encode, lookup, lookup_list, primary, readings, scan, sum, Refusal, Summary,

@@ -1,0 +1,54 @@
+//! Writing a file from a list, or from its parts.
+
+use crate::{answer, raw, Refusal, Summary};
+
+/// The file of a list of distances, to the front of `out`. Answers its summary. Refusals 3 with
+/// map 1 for more than 1,048,576 distances, then 12.
+///
+/// ```
+/// let mut out = [7; 70];
+/// let summary = pciv::write(&[0, 254, 255, 300], &mut out)?;
+/// assert_eq!((summary.n, summary.k, summary.len), (4, 2, 68));
+/// assert_eq!(out[..68], *include_bytes!("../../../examples/map-a.pciv"));
+/// assert_eq!(out[68..], [7, 7]);
+/// # Ok::<(), pciv::Refusal>(())
+/// ```
+pub fn write(distances: &[u32], out: &mut [u8]) -> Result<Summary, Refusal> {
+    answer(|summary, refusal| raw::write(distances, out, summary, refusal))
+}
+
+/// The file of a primary array and its overflow entries, to the front of `out`. Entry j is
+/// `slots[j]` with `distances[j]`; where one list is shorter, the first entry that it lacks is
+/// wrong. Answers the summary. Refusals 3, 6 with the least entry as place and 7 with the least
+/// slot as place, all with map 1, then 12.
+///
+/// ```
+/// let mut out = [0; 68];
+/// pciv::close(&[0, 254, 255, 255], &[2, 3], &[255, 300], &mut out)?;
+/// assert_eq!(out, *include_bytes!("../../../examples/map-a.pciv"));
+///
+/// let missing = pciv::close(&[0, 254, 255, 255], &[3], &[300], &mut out).unwrap_err();
+/// assert_eq!((missing.number, missing.map, missing.place), (7, 1, 2));
+/// # Ok::<(), pciv::Refusal>(())
+/// ```
+pub fn close(
+    primary: &[u8],
+    slots: &[u64],
+    distances: &[u32],
+    out: &mut [u8],
+) -> Result<Summary, Refusal> {
+    answer(|summary, refusal| raw::close(primary, slots, distances, out, summary, refusal))
+}
+
+#[cfg(test)]
+mod tests {
+    use super::*;
+
+    #[test]
+    fn refused_buffers_are_unchanged() {
+        let mut out = [7; 43];
+        assert_eq!(write(&[1, 2, 3, 4], &mut out).unwrap_err().number, 12);
+        assert_eq!(close(&[255], &[0], &[], &mut out).unwrap_err().number, 6);
+        assert_eq!(out, [7; 43]);
+    }
+}

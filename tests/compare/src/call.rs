@@ -1,0 +1,194 @@
+//! One call of the library beside one of the reference: the number answered, the refusal, the
+//! result and every element of the buffer.
+
+use crate::judge::Judge;
+use compare::rng::Rng;
+use pciv::{Refusal, Summary};
+use std::fmt::{self, Debug, Display};
+
+/// Elements after a buffer's end that must survive every call; there are some before it too.
+const GUARD: usize = 4;
+
+/// The routine called and what tells this call from others.
+pub struct Call {
+    routine: &'static str,
+    with: String,
+}
+
+impl Call {
+    pub fn new(routine: &'static str, with: impl Into<String>) -> Call {
+        Call {
+            routine,
+            with: with.into(),
+        }
+    }
+
+    pub fn with_capacity(routine: &'static str, capacity: usize) -> Call {
+        Call::new(routine, format!(", capacity {capacity}"))
+    }
+}
+
+impl Display for Call {
+    fn fmt(&self, f: &mut fmt::Formatter) -> fmt::Result {
+        write!(f, "{}{}", self.routine, self.with)
+    }
+}
+
+/// What stands in results and buffers before a call; no two neighbours are the same.
+pub trait Dirty: PartialEq + Debug {
+    fn dirty(i: usize) -> Self;
+}
+
+impl Dirty for u8 {
+    fn dirty(i: usize) -> u8 {
+        0xA5 ^ i as u8
+    }
+}
+
+impl Dirty for u32 {
+    fn dirty(i: usize) -> u32 {
+        0xA5A5_3C3C ^ i as u32
+    }
+}
+
+impl Dirty for u64 {
+    fn dirty(i: usize) -> u64 {
+        0xA5A5_5A5A_C3C3_3C3C ^ i as u64
+    }
+}
+
+impl Dirty for i64 {
+    fn dirty(i: usize) -> i64 {
+        u64::dirty(i) as i64
+    }
+}
+
+impl Dirty for Summary {
+    fn dirty(i: usize) -> Summary {
+        Summary {
+            n: u64::dirty(i),
+            k: u64::dirty(i + 1),
+            m: u64::dirty(i + 2),
+            step: u64::dirty(i + 3),
+            len: u64::dirty(i + 4),
+        }
+    }
+}
+
+/// An answer of the reference.
+pub type Answer<T> = Result<T, reference::Refusal>;
+
+/// The reference's summary in the library's type.
+pub fn summary_of(summary: reference::Summary) -> Summary {
+    let reference::Summary { n, k, m, step, len } = summary;
+    Summary { n, k, m, step, len }
+}
+
+/// Capacities for a result of `len` elements: exact, generous, one short, none.
+pub fn capacities(rng: &mut Rng, len: usize) -> Vec<usize> {
+    let mut capacities = vec![len, len + 1 + rng.below(20)];
+    if len > 0 {
+        capacities.extend([len - 1, 0]);
+    }
+    capacities
+}
+
+/// Capacities for a result that is a file; none and some where the call is refused in any.
+pub fn file_capacities(rng: &mut Rng, answer: &Answer<reference::Summary>) -> Vec<usize> {
+    match answer {
+        Ok(summary) => capacities(rng, summary.len as usize),
+        Err(_) => vec![0, rng.pick(&[39, 41, 100, 3_000])],
+    }
+}
+
+/// What a call leaves behind: the number answered, the refusal written and the result.
+#[derive(Debug, PartialEq)]
+struct Outcome<T> {
+    number: u64,
+    refusal: Refusal,
+    result: T,
+}
+
+/// The outcome that the reference's answer asks for.
+fn expected<T: Dirty>(answer: Answer<T>) -> Outcome<T> {
+    match answer {
+        Ok(result) => Outcome {
+            number: 0,
+            refusal: Refusal::default(),
+            result,
+        },
+        Err(reference::Refusal { number, map, place }) => Outcome {
+            number,
+            refusal: Refusal { number, map, place },
+            result: T::dirty(0),
+        },
+    }
+}
+
+/// The outcome of a call of the library.
+fn observed<T: Dirty>(call: impl FnOnce(&mut T, &mut Refusal) -> u64) -> Outcome<T> {
+    let mut result = T::dirty(0);
+    let mut refusal = Refusal {
+        number: u64::dirty(1),
+        map: u64::dirty(2),
+        place: u64::dirty(3),
+    };
+    let number = call(&mut result, &mut refusal);
+    Outcome {
+        number,
+        refusal,
+        result,
+    }
+}
+
+impl Judge {
+    /// Compares a call with the reference's answer.
+    pub fn value<T: Dirty>(
+        &mut self,
+        call: &Call,
+        answer: Answer<T>,
+        library: impl FnOnce(&mut T, &mut Refusal) -> u64,
+    ) {
+        self.calls += 1;
+        let expected = expected(answer);
+        let Refusal { number, map, .. } = expected.refusal;
+        self.outcomes.insert((call.routine, number, map));
+        self.same(call, expected, observed(library));
+    }
+
+    /// Compares a call that writes a file to a buffer of `capacity` bytes.
+    pub fn file(
+        &mut self,
+        call: &Call,
+        capacity: usize,
+        reference: impl FnOnce(&mut [u8]) -> Answer<reference::Summary>,
+        library: impl FnOnce(&mut [u8], &mut Summary, &mut Refusal) -> u64,
+    ) {
+        let reference = |out: &mut [u8]| reference(out).map(summary_of);
+        self.buffer(call, capacity, reference, library);
+    }
+
+    /// Compares a call that writes to a buffer of `capacity` elements.
+    pub fn buffer<E: Dirty + Clone, T: Dirty>(
+        &mut self,
+        call: &Call,
+        capacity: usize,
+        reference: impl FnOnce(&mut [E]) -> Answer<T>,
+        library: impl FnOnce(&mut [E], &mut T, &mut Refusal) -> u64,
+    ) {
+        // Buffers of different capacities start at different alignments.
+        let start = 1 + capacity % 16;
+        let range = start..start + capacity;
+        let mut wanted: Vec<E> = (0..range.end + GUARD).map(E::dirty).collect();
+        let mut got = wanted.clone();
+        let answer = reference(&mut wanted[range.clone()]);
+        self.value(call, answer, |out, refusal| {
+            library(&mut got[range], out, refusal)
+        });
+        let (wanted_before, wanted) = wanted.split_at(start);
+        let (got_before, got) = got.split_at(start);
+        self.same_buffer(&format_args!("{call}: buffer"), wanted, got);
+        let before = format_args!("{call}: before the buffer");
+        self.same_buffer(&before, wanted_before, got_before);
+    }
+}
