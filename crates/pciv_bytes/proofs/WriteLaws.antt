@@ -8,7 +8,7 @@ use native.Mathlib.Omega.{arith}
 use native.Mathlib.Decide.{decLe}
 use mathlib.Core.List.{List, [], _∷_, _++_, append-assoc}
 use lib.ListN.{length, getD, take, drop, set, replicate, drop-of-length-le, length-append, length-set, List·getD-append}
-use lib.Seq.{sets, sets-eq, length-take-le, take-set-le, drop-cons, getD-append-add, set-getD, set-set, set-comm, set-append-left}
+use lib.Seq.{sets, sets-eq, length-take-le, take-set-le, drop-cons, getD-append-add, set-getD, set-set, set-comm, set-append-left, getD-set-other}
 use Rattle.pciv_bytes.specs.LittleEndian.{le}
 use Rattle.pciv_bytes.specs.Ranges.{table}
 use Rattle.pciv_bytes.proofs.RangesLaws.{table-rest, table-done}
@@ -153,10 +153,22 @@ pub sets-le-end : (d : List ℕ) (at w y i : ℕ) → w ≤ i → sets d (at + i
 unfolding le
 sets-le-end d at w y i h = let e : w - i ≡ 0 = omega arith in rw e
 
+-- ---- beside what is written
+
+pub getD-sets-below : (vs d : List ℕ) (i j : ℕ) → j < i → getD (sets d i vs) j 0 ≡ getD d j 0
+getD-sets-below [] d i j h = refl
+getD-sets-below (x ∷ vs) d i j h =
+    getD-sets-below vs (set d i x) (suc i) j (omega arith) ∙ getD-set-other d i j x 0 (λ q. omega arith)
+
+pub getD-sets-above : (vs d : List ℕ) (i j : ℕ) → i + length vs ≤ j → getD (sets d i vs) j 0 ≡ getD d j 0
+getD-sets-above [] d i j h = refl
+getD-sets-above (x ∷ vs) d i j h =
+    getD-sets-above vs (set d i x) (suc i) j (omega arith) ∙ getD-set-other d i j x 0 (λ q. omega arith)
+
 -- ---- a list written over another
 
 module _ {A : Type 0} where
-  set-before-sets : (g d : List A) (i j : ℕ) (x : A) → i < j → set (sets d j g) i x ≡ sets (set d i x) j g
+  pub set-before-sets : (g d : List A) (i j : ℕ) (x : A) → i < j → set (sets d j g) i x ≡ sets (set d i x) j g
   set-before-sets [] d i j x h = refl
   set-before-sets (a ∷ g) d i j x h =
       set-before-sets g (set d j a) i (suc j) x (omega arith)

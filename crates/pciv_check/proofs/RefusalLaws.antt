@@ -6,7 +6,7 @@ use mathlib.Core.Bool.{Bool, true, false, not, _||_}
 use mathlib.Core.List.{List}
 use lib.ListN.{length}
 use lib.Dec.{ltb, eqb}
-use borrow.Author.Tests.{lt-ltb, le-ltb}
+use borrow.Author.Tests.{lt-ltb, le-ltb, ltb-false}
 use Rattle.pciv_bytes.specs.LittleEndian.{get}
 use Rattle.pciv_bytes.specs.Ranges.{firstBelow}
 use Rattle.pciv_format.specs.Layout.{maxSlots, magic, indexStep, indexLen, countsOf}
@@ -14,11 +14,19 @@ use Rattle.pciv_format.specs.Refusals.{done, refuse}
 use Rattle.pciv_format.specs.Parts.{badEntry, badSlot}
 use Rattle.pciv_format.specs.Check.{nField, kField, mField, stepField, fileParts, badIndexEntry, badCounts, checkHeader, checkParts}
 use Rattle.pciv_format.specs.declared.Summary.{Summary}
-use Rattle.pciv_format.proofs.PartsLaws.{or-true, eqb-not, neb-not}
+use Rattle.pciv_format.proofs.PartsLaws.{or-true, not-eqb, eqb-not, neb-not}
 use Rattle.pciv_format.proofs.RefusalsLaws.{refuseFirst-none, refuseFirst-some}
 use Rattle.pciv_format.proofs.LayoutLaws.{fileLen-is}
 use Rattle.pciv_format.proofs.CheckLaws.{done-checkHeader}
 use Rattle.pciv_check.specs.Inside.{PartsInside}
+use Rattle.pciv_check.specs.Length.{wrongLength}
+
+-- ---- the length
+
+-- a file whose length is not wrong is inside the bytes
+pub wrongLength-fits : (whole : Bool) (len l : ℕ) → wrongLength whole len l ≡ false → l ≤ len
+wrongLength-fits true len l h = let same : len ≡ l = not-eqb len l h in omega arith
+wrongLength-fits false len l h = ltb-false len l h
 
 -- ---- the counts
 

@@ -1,4 +1,5 @@
-// The check of a whole file (docs/FORMAT.md, "Refusals"): refusals 1 to 8, first case first, else the summary.
+// The check of a whole file, and of the file at the front of a buffer (docs/FORMAT.md, "Refusals"): refusals 1 to 8,
+// first case first, else the summary.
 // One pass over the overflow entries and a count of the bytes 255 decide refusals 6 and 7; only where the
 // count is off does a walk over the slots look for the least one without an entry.
 ghost use mathlib.Core.Path.{_≡_};
@@ -9,8 +10,9 @@ ghost use Rattle.pciv_bytes.specs.Ranges.{firstBelow};
 ghost use Rattle.pciv_format.specs.Layout.{indexLen};
 ghost use Rattle.pciv_format.specs.Refusals.{refuse, fileAnswer};
 ghost use Rattle.pciv_format.specs.Parts.{lowestSlot, badEntry, badSlot};
-ghost use Rattle.pciv_format.specs.Check.{fileParts, badIndexEntry, checkHeader, checkParts, checkFile};
+ghost use Rattle.pciv_format.specs.Check.{fileParts, badIndexEntry, checkHeader, checkParts, checkWith, checkFile, checkBuffer};
 ghost use Rattle.pciv_check.specs.Inside.{PartsInside};
+ghost use Rattle.pciv_check.specs.Length.{wrongLength};
 use pciv_bytes::counts::count_byte;
 use pciv_bytes::little_endian::get32;
 use pciv_bytes::little_endian::get64;
@@ -199,10 +201,20 @@ fn check_header(file: &[u8], map: usize) -> FileAnswer
     })
 }
 
-// The summary of a whole file, or why it is none. `map` is handed on as the map's number in a refusal: 1, or 2
-// for the second map of a call.
-pub fn check(file: &[u8], map: usize) -> FileAnswer
-    ensures answer { λ r. ⌜ r ≡ fileAnswer (checkFile map (now (file .entry))) ⌝ }
+// A file of `len` bytes is wrong in a slice of `have`: a whole file has exactly its length, and a buffer to be edited
+// may be longer than the file at its front.
+fn wrong_length(whole: bool, have: usize, len: usize) -> bool
+    ensures { λ r. ⌜ r ≡ wrongLength whole have len ⌝ }
+{
+    if whole {
+        return have != len;
+    }
+    have < len
+}
+
+// Refusals 1 to 8, of a whole file or of the file at the front of a buffer.
+fn check_with(file: &[u8], map: usize, whole: bool) -> FileAnswer
+    ensures { λ r. ⌜ r ≡ fileAnswer (checkWith (wrongLength whole) map (now (file .entry))) ⌝ }
 {
     let counts = check_header(file, map);
     match counts {
@@ -211,10 +223,26 @@ pub fn check(file: &[u8], map: usize) -> FileAnswer
             let n = s.n;
             let k = s.k;
             let len = s.len;
-            if file.len() != len {
+            if wrong_length(whole, file.len(), len) {
                 return refused(BAD_LENGTH, map, 0);
             }
             check_parts(file, map, n, k)
         }
     }
+}
+
+// The summary of a whole file, or why it is none. `map` is handed on as the map's number in a refusal: 1, or 2
+// for the second map of a call.
+pub fn check(file: &[u8], map: usize) -> FileAnswer
+    ensures answer { λ r. ⌜ r ≡ fileAnswer (checkFile map (now (file .entry))) ⌝ }
+{
+    check_with(file, map, true)
+}
+
+// The same of the file at the front of a buffer that is to be edited: refusal 5 only where the buffer is shorter than
+// the file.
+pub fn check_buffer(buffer: &[u8], map: usize) -> FileAnswer
+    ensures answer { λ r. ⌜ r ≡ fileAnswer (checkBuffer map (now (buffer .entry))) ⌝ }
+{
+    check_with(buffer, map, false)
 }

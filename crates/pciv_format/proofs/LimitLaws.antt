@@ -17,6 +17,7 @@ use lib.Dec.{ltb, leb}
 use borrow.Author.Tests.{leb-true, leb-false}
 use Rattle.pciv_bytes.specs.LittleEndian.{le}
 use Rattle.pciv_bytes.proofs.LittleEndianLaws.{length-le}
+use Rattle.pciv_bytes.proofs.WriteLaws.{getD-sets-below, getD-sets-above}
 use Rattle.pciv_format.specs.Layout.{magic, fileLen, indexLen, indexStep, inOverflow, primaryByte, primary, overflowSlots, overflowCount, overflowPart, overflowEntry, indexPart, header, file, at, fileOf, summaryOf, Limits}
 use Rattle.pciv_format.specs.Refusals.{Outcome, done}
 use Rattle.pciv_format.specs.Check.{checkBuffer}
@@ -109,15 +110,7 @@ module _ (n : ℕ) (v w : ℕ → ℕ) (s : ℕ) (inside : s < n) (same : (i : �
               ]
         ]
 
--- ---- bytes beside those that are set
-
-getD-sets-below : (vs d : List ℕ) (i j : ℕ) → j < i → getD (sets d i vs) j 0 ≡ getD d j 0
-getD-sets-below [] d i j h = refl
-getD-sets-below (x ∷ vs) d i j h = getD-sets-below vs (set d i x) (suc i) j (omega arith) ∙ getD-set-other d i j x 0 (λ q. omega arith)
-
-getD-sets-above : (vs d : List ℕ) (i j : ℕ) → i + length vs ≤ j → getD (sets d i vs) j 0 ≡ getD d j 0
-getD-sets-above [] d i j h = refl
-getD-sets-above (x ∷ vs) d i j h = getD-sets-above vs (set d i x) (suc i) j (omega arith) ∙ getD-set-other d i j x 0 (λ q. omega arith)
+-- ---- bytes set in the first of two lists
 
 sets-part : (xs ys : List ℕ) (i : ℕ) (vs : List ℕ) → i + length vs ≤ length xs → sets (xs ++ ys) i vs ≡ sets xs i vs ++ ys
 sets-part xs ys i [] h = refl

@@ -1,19 +1,25 @@
 -- Laws of the overflow entries below a slot, and of the two tables of a checked map that a lookup searches.
 --   valueOf-entry                   a slot in overflow has its distance at entry `entriesBelow`
+--   entriesBelow-count              as many slots below are in overflow
 --   entries-table, index-table      the overflow entries and the index are sorted by their slots
 --   entriesBelow-part, index-block  the index names a part of the entries, and a search there finds the entry
 use mathlib.Core.Path.{_≡_, sym, ap, _∙_}
-use mathlib.Core.List.{List}
+use mathlib.Core.Bool.{Bool}
+use mathlib.Core.List.{List, _++_}
 use Prim.Native.Nat.{ℕ, _+_, _-_, _*_, _^_, _≤_, _<_}
-use native.Mathlib.Nat.{le-refl}
+use native.Mathlib.Nat.{le-refl, zero-add}
 use native.Mathlib.Omega.{arith}
 use native.Mathlib.Decide.{decLe}
-use lib.ListN.{length}
+use lib.ListN.{length, getD, length-append, List·getD-append}
+use lib.Seq.{getD-append-add}
+use Rattle.pciv_bytes.specs.Ranges.{table, positions}
 use Rattle.pciv_bytes.specs.LittleEndian.{get}
-use Rattle.pciv_format.specs.Layout.{indexStep, indexLen}
+use Rattle.pciv_bytes.proofs.RangesLaws.{length-table, getD-table}
+use Rattle.pciv_bytes.proofs.PositionsLaws.{positions-at, positions-append}
+use Rattle.pciv_format.specs.Layout.{indexStep, indexLen, inOverflow, overflowSlots, overflowCount}
 use Rattle.pciv_format.specs.Parts.{Parts, valueOf, SoundParts}
 use Rattle.pciv_format.specs.Check.{mField, stepField, fileParts, badIndexEntry, CheckedMap}
-use Rattle.pciv_format.proofs.PartsLaws.{or-false, not-eqb, entry-good, slots-rise, slot-entry, valueOf-slot}
+use Rattle.pciv_format.proofs.PartsLaws.{or-false, not-eqb, entry-good, slots-rise, slot-entry, valueOf-slot, overflowSlots-are}
 use Rattle.pciv_format.proofs.LayoutLaws.{index-inside, fileLen-is}
 use Rattle.pciv_map.specs.Lookup.{lowerBound, entriesBelow, blockStart, blockEnd, keyAt, Sorted, KeyTable}
 use Rattle.pciv_map.proofs.SearchLaws.{Between, lowerBound-is, between-part, Sample, sample-sorted, block-between}
@@ -47,6 +53,35 @@ module _ (P : Parts) (sound : SoundParts P) where
       let q = slot-entry P sound i h e in
       let at : entriesBelow P i ≡ q .0 = ap (entriesBelow P) (sym (q .2)) ∙ entriesBelow-slot (q .0) (q .1) in
       (omega (arith, q .1), rw at (ap (valueOf P) (sym (q .2)) ∙ valueOf-slot P sound (q .0) (q .1)))
+
+  -- they are the slots in overflow below i
+  pub entriesBelow-count : ((i : ℕ) → P .byte i < 256) → (i : ℕ) → i ≤ P .n → entriesBelow P i ≡ overflowCount i (valueOf P)
+  unfolding overflowCount overflowSlots
+  entriesBelow-count bytes i h =
+      let p : ℕ → Bool = λ s. inOverflow (valueOf P s) in
+      let low : List ℕ = positions p 0 i in
+      let high : List ℕ = positions p i (P .n - i) in
+      let all : table (P .slot) 0 (P .k) ≡ low ++ high =
+      sym (overflowSlots-are P sound bytes)
+      ∙ ap (positions p 0) (let e : P .n ≡ i + (P .n - i) = omega arith in e)
+      ∙ positions-append p 0 i (P .n - i)
+      ∙ ap (λ (s : ℕ). low ++ positions p s (P .n - i)) (zero-add i) in
+      let count : P .k ≡ length low + length high =
+      sym (length-table (P .slot) 0 (P .k)) ∙ ap length all ∙ length-append low high in
+      let slot-is : (j : ℕ) → j < P .k → P .slot j ≡ getD (low ++ high) j 0 =
+      λ j hj. sym (ap (λ (l : List ℕ). getD l j 0) (sym all) ∙ getD-table (P .slot) 0 0 (P .k) j hj ∙ ap (P .slot) (zero-add j)) in
+      lowerBound-is (P .slot) i (P .k) (length low) (omega arith)
+      (λ j hj.
+      omega (arith, slot-is j (omega arith), List·getD-append low high 0 j hj, positions-at p 0 i j hj .high))
+      (λ j hj hk.
+      (let e : length low + (j - length low) ≡ j = omega arith in
+      omega (
+        arith,
+        slot-is j hk,
+        ap (λ (t : ℕ). getD (low ++ high) t 0) e,
+        getD-append-add low high (j - length low) 0,
+        positions-at p i (P .n - i) (j - length low) (omega arith) .low,
+      )))
 
 -- ---- the two tables of a checked map
 

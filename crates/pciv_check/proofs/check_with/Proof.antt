@@ -1,16 +1,15 @@
--- Proves pciv_check::check: the header, the length, then the parts.
+-- Proves pciv_check::check_with: the header, the length, then the parts.
 use mathlib.Core.Path.{_≡_, refl, sym, ap, _∙_}
 use Prim.Native.Nat.{ℕ, _≤_}
 use native.Mathlib.Omega.{arith}
 use lib.ListN.{length}
 use Rattle.pciv_format.specs.Refusals.{done, refused, fileAnswer}
 use Rattle.pciv_format.specs.Check.{checkHeader, checkWith}
-use Rattle.pciv_format.proofs.PartsLaws.{eqb-not, neb-not}
 use Rattle.pciv_format.proofs.RefusalsLaws.{fileAnswer-done, fileAnswer-refused}
-use Rattle.pciv_check.proofs.RefusalLaws.{header-inside}
+use Rattle.pciv_check.proofs.RefusalLaws.{wrongLength-fits, header-inside}
 use borrow.Author.Needs.{needs}
-use Rattle.pciv_check.proofs.check.Statement.{statement}
-use Rattle.pciv_check.proofs.check.Tie as tie
+use Rattle.pciv_check.proofs.check_with.Statement.{statement}
+use Rattle.pciv_check.proofs.check_with.Tie as tie
 
 -- the header's counts
 header-done : (c : tie.After-counts2)
@@ -26,6 +25,9 @@ enum-known-counts c = search needs
 enum-known-counts-2 : tie.Need-enum-known-counts-2
 enum-known-counts-2 c = search needs
 
+wrong-length-requires : tie.Need-wrong-length-requires
+wrong-length-requires c κs = search needs
+
 refused-requires : tie.Need-refused-requires
 refused-requires c κs = search needs
 
@@ -33,13 +35,14 @@ returns : tie.Need-returns
 unfolding checkWith
 returns c =
     let t = c .before .before in
-    rw (header-done (t .before), neb-not _ _ (c .before .if1 .taken)) (c .refused .ensures)
+    rw (header-done (t .before .before), ← t .wrong-length .ensures, c .before .if1 .taken) (c .refused .ensures)
 
 check-parts-requires : tie.Need-check-parts-requires
 check-parts-requires c κs =
-    let t = c .before .before in
+    let t = c .before .before .before in
     let a = t .before .before .before .before .args in
-    header-inside (a .map) (a .file .now) _ (header-done (t)) (omega (arith, c .if1 .left))
+    header-inside (a .map) (a .file .now) _ (header-done t)
+    (wrongLength-fits (a .whole) _ _ (sym (c .before .wrong-length .ensures) ∙ c .if1 .left))
 
 returns-2 : tie.Need-returns-2
 unfolding checkWith
@@ -53,16 +56,17 @@ returns-2 c =
 returns-3 : tie.Need-returns-3
 unfolding checkWith
 returns-3 c =
-    let t = c .before .before .before in
-    rw (header-done t, eqb-not _ _ (c .before .if1 .left)) (c .check-parts .ensures)
+    let t = c .before .before in
+    rw (header-done (t .before .before), ← t .wrong-length .ensures, c .before .if1 .left) (c .check-parts .ensures)
 
-pub check-spec : {M : Type 1} → statement M
-check-spec =
+pub check-with-spec : {M : Type 1} → statement M
+check-with-spec =
     tie.close
     (tie.spec
     check-header-requires
     enum-known-counts
     enum-known-counts-2
+    wrong-length-requires
     refused-requires
     returns
     check-parts-requires
