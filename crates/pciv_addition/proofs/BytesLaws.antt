@@ -1,5 +1,6 @@
 -- The primary bytes of the result, from those of the two maps, and which of them are 255.
 --   added-byte     the sum of two primary bytes, at most 255, is the primary byte of the sum
+--   primaryByte-min    a primary byte is at most 255
 --   full-is        a primary byte is 255 where the distance is in overflow
 -- Axioms: none.
 use mathlib.Core.Path.{_≡_, refl, sym, _∙_}
@@ -16,7 +17,7 @@ use Rattle.pciv_addition.specs.declared.addend.Addend.{Addend}
 use Rattle.pciv_addition.specs.declared.addend.Addend.the-variants.{Map, Number}
 use Rattle.pciv_addition.proofs.PairOfParts.{SoundPair}
 
-primaryByte-min : (x : ℕ) → primaryByte x ≡ min 255 x
+pub primaryByte-min : (x : ℕ) → primaryByte x ≡ min 255 x
 primaryByte-min x =
     elim (decLe 255 x) [
       | yes d ↦ primaryByte-overflow x d ∙ omega arith

@@ -1,6 +1,7 @@
 -- A computed map written as a file: refusal 11 or none, and the primary bytes in the buffer.
 --   map-large, map-fits    what `mapInto` answers where a distance is too large, and where none is
 --   fits-none              no slot is too large
+--   mapInto-cong, mapBuffer-cong    the distances of the n slots alone count
 --   holds-primary          the primary bytes stand in a buffer where they were written
 -- Axioms: none.
 use mathlib.Core.Path.{_≡_, sym, ap, _∙_}
@@ -14,13 +15,14 @@ use lib.Dec.{ltb}
 use borrow.Author.Tests.{le-ltb, ltb-false}
 use Rattle.pciv_bytes.specs.Ranges.{firstBelow, table}
 use Rattle.pciv_bytes.specs.Counts.{byteAt}
-use Rattle.pciv_bytes.proofs.RangesLaws.{firstBelow-all, getD-table}
+use Rattle.pciv_bytes.proofs.RangesLaws.{firstBelow-all, firstBelow-cong, getD-table}
 use Rattle.pciv_bytes.proofs.WriteLaws.{sets-at}
 use Rattle.pciv_format.specs.Layout.{maxDistance, primaryByte, primary}
-use Rattle.pciv_format.specs.Refusals.{refuse}
-use Rattle.pciv_format.specs.Write.{fileInto, mapInto}
+use Rattle.pciv_format.specs.Refusals.{Outcome, refuse, written}
+use Rattle.pciv_format.specs.Write.{fileInto, mapInto, fileBuffer}
+use Rattle.pciv_format.specs.declared.Summary.{Summary}
 use Rattle.pciv_format.proofs.RefusalsLaws.{refuseFirst-none, refuseFirst-some}
-use Rattle.pciv_format.proofs.LayoutLaws.{length-primary}
+use Rattle.pciv_format.proofs.LayoutLaws.{length-primary, file-cong, summary-cong}
 use Rattle.pciv_addition.specs.Addition.{Fits, HoldsPrimary}
 
 module _ (n : ℕ) (v : ℕ → ℕ) where
@@ -45,3 +47,18 @@ module _ (n : ℕ) (v : ℕ → ℕ) where
       ∙ sets-at d (primary n v) 40 i 0 (rw l room) (rw l h)
       ∙ getD-table (λ (j : ℕ). primaryByte (v j)) 0 0 n i h
       ∙ ap (λ (j : ℕ). primaryByte (v j)) (zero-add i)
+
+-- ---- the distances of the n slots alone count
+
+module _ (n : ℕ) (v w : ℕ → ℕ) (same : (i : ℕ) → i < n → v i ≡ w i) where
+  pub mapInto-cong : (room : ℕ) → mapInto n v room ≡ mapInto n w room
+  mapInto-cong room =
+      rw (
+        firstBelow-cong (λ (i : ℕ). ltb maxDistance (v i)) (λ (i : ℕ). ltb maxDistance (w i)) n
+            (λ i h. ap (ltb maxDistance) (same i h)),
+        file-cong n v w same,
+        summary-cong n v w same,
+      )
+
+  pub mapBuffer-cong : (o : Outcome Summary) (out : List ℕ) → fileBuffer o n v out ≡ fileBuffer o n w out
+  mapBuffer-cong o out = ap (λ (f : List ℕ). written o f out) (file-cong n v w same)

@@ -1,14 +1,14 @@
 -- Laws of `sets`, which writes a list over another from a place on, and of lists written one element a turn.
 -- A loop's invariant is the work that remains: writing all from the start equals writing the rest from here.
-use mathlib.Core.Path.{_≡_, refl, sym, ap, _∙_}
+use mathlib.Core.Path.{_≡_, refl, sym, ap, ap₂, _∙_}
 use Prim.Native.Nat.{ℕ, suc, _+_, _-_, _/_, _%_, _≤_, _<_}
-use native.Mathlib.Nat.{add-zero, zero-add, sub-zero}
+use native.Mathlib.Nat.{add-zero, zero-add, sub-zero, le-refl}
 use native.Mathlib.Numerals.{add-one}
 use native.Mathlib.Omega.{arith}
 use native.Mathlib.Decide.{decLe}
 use mathlib.Core.List.{List, [], _∷_, _++_, append-assoc}
 use lib.ListN.{length, getD, take, drop, set, replicate, drop-of-length-le, length-append, length-set, List·getD-append}
-use lib.Seq.{sets, sets-eq, length-take-le, take-set-le, drop-cons, getD-append-add, set-getD, set-set, set-comm, set-append-left, getD-set-other}
+use lib.Seq.{sets, length-sets, drop-at, sets-eq, length-take-le, take-set-le, drop-cons, getD-append-add, set-getD, set-set, set-comm, set-append-left, getD-set-other}
 use Rattle.pciv_bytes.specs.LittleEndian.{le}
 use Rattle.pciv_bytes.specs.Ranges.{table}
 use Rattle.pciv_bytes.proofs.RangesLaws.{table-rest, table-done}
@@ -61,6 +61,19 @@ module _ {A : Type 0} where
       ∙ set-behind (take p d) (l ++ rest) i x
       ∙ ap (λ (m : List A). take p d ++ m) (set-append-left l rest i x h)
       ∙ sym (sets-split d (set l i x) p (rw same room) ∙ rw same)
+
+  -- the second of two lists of one length, written to the same place
+  pub sets-again : (d l l' : List A) (p : ℕ) → length l ≡ length l' → p + length l ≤ length d
+      → sets (sets d p l) p l' ≡ sets d p l'
+  sets-again d l l' p same room =
+      let at : ℕ = p + length l' in
+      let front : length (take p d ++ l) ≡ at = simp (length-append, length-take-le p d (omega arith)) (omega arith) in
+      let behind : drop at (sets d p l) ≡ drop at d =
+      ap (drop at) (sets-eq l d p room) ∙ drop-at (take p d ++ l) (drop (p + length l) d) at front
+      ∙ ap (λ (c : ℕ). drop (p + c) d) same in
+      sets-eq l' (sets d p l) p (rw length-sets (omega arith))
+      ∙ ap₂ (λ (x y : List A). x ++ l' ++ y) (take-sets p l d p (le-refl p)) behind
+      ∙ sym (sets-eq l' d p (omega arith))
 
   -- the first element of what is left to write
   pub sets-cons : (d l : List A) (x : A) (rest : List A) (i next : ℕ) → l ≡ x ∷ rest → next ≡ i + 1

@@ -74,7 +74,7 @@ module _ {A : Type 0} (f : ℕ → ℕ → A) where
   unfoldable pub patched : Parts → ℕ → List A
   patched P j = table (λ (i : ℕ). f i (patchedAt P j i)) 0 (P .n)
 
-  length-patched : (P : Parts) (j : ℕ) → length (patched P j) ≡ P .n
+  pub length-patched : (P : Parts) (j : ℕ) → length (patched P j) ≡ P .n
   unfolding patched
   length-patched P j = length-table (λ (i : ℕ). f i (patchedAt P j i)) 0 (P .n)
 
