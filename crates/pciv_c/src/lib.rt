@@ -7,8 +7,8 @@ ghost use lib.ListN.{length};
 ghost use Rattle.pciv_format.specs.Check.{checkFile};
 ghost use Rattle.pciv_format.specs.Read.{lookupOutcome, lookupListOutcome, lookupListBuffer, scanOutcome, scanBuffer, sumOutcome, readingsOutcome};
 ghost use Rattle.pciv_format.specs.Write.{writeOutcome, writeBuffer, closeOutcome, closeBuffer};
-ghost use Rattle.pciv_format.specs.Arith.{combineMapsOutcome, combineMapsBuffer, signedDifferenceOutcome, signedDifferenceList};
-ghost use Rattle.pciv_format.specs.declared.SlotOp.the-variants.{Minimum, Maximum, Difference};
+ghost use Rattle.pciv_format.specs.Arith.{combineMapsOutcome, combineMapsBuffer, shiftOutcome, shiftBuffer, signedDifferenceOutcome, signedDifferenceList};
+ghost use Rattle.pciv_format.specs.declared.SlotOp.the-variants.{Minimum, Maximum, Difference, Sum};
 ghost use Rattle.pciv_format.specs.Report.{reportOutcome, reportBuffer};
 ghost use Rattle.pciv_c.specs.Cells.{ToldNumber, ToldFile, spanCells, spanLength, fileOutcome, numberOutcome, distanceOutcome};
 use pciv_arith::difference;
@@ -27,6 +27,8 @@ use pciv_read::readings;
 use pciv_read::scan;
 use pciv_read::sum;
 use pciv_report::report;
+use pciv_shift::shift;
+use pciv_sum::sum_maps;
 use pciv_write::write;
 
 // ---- answers, told to C
@@ -239,6 +241,34 @@ pub extern "C" fn pciv_difference(
     ensures buffer { λ _. ⌜ now (out .exit) ≡ combineMapsBuffer Difference (now (a .entry)) (now (b .entry)) (now (out .entry)) ⌝ }
 {
     tell_file(difference(a, b, out), summary, refusal)
+}
+
+#[no_mangle]
+pub extern "C" fn pciv_sum_maps(
+    a: &[u8],
+    b: &[u8],
+    out: &mut [u8],
+    summary: &mut [usize; 5],
+    refusal: &mut [usize; 3],
+) -> usize
+    ensures told { λ r. ⌜ ToldFile (combineMapsOutcome Sum (now (a .entry)) (now (b .entry)) (length (now (out .entry)))) r (now (summary .entry)) (now (summary .exit)) (now (refusal .exit)) ⌝ }
+    ensures buffer { λ _. ⌜ now (out .exit) ≡ combineMapsBuffer Sum (now (a .entry)) (now (b .entry)) (now (out .entry)) ⌝ }
+{
+    tell_file(sum_maps(a, b, out), summary, refusal)
+}
+
+#[no_mangle]
+pub extern "C" fn pciv_shift(
+    file: &[u8],
+    by: i32,
+    out: &mut [u8],
+    summary: &mut [usize; 5],
+    refusal: &mut [usize; 3],
+) -> usize
+    ensures told { λ r. ⌜ ToldFile (shiftOutcome (now (file .entry)) by (length (now (out .entry)))) r (now (summary .entry)) (now (summary .exit)) (now (refusal .exit)) ⌝ }
+    ensures buffer { λ _. ⌜ now (out .exit) ≡ shiftBuffer (now (file .entry)) by (now (out .entry)) ⌝ }
+{
+    tell_file(shift(file, by, out), summary, refusal)
 }
 
 #[no_mangle]

@@ -52,7 +52,13 @@ fn put_primary(out: &mut [u8], file: &[u8], n: usize, k: usize, m: u32)
     ensures { λ _. ⌜ now (out .exit) ≡ sets (now (out .entry)) 40 (primary n (loweredAt (fileParts (now (file .entry)) n k) m)) ⌝ }
 {
     let end = HEADER_LEN + n;
-    map_into(ByteOp::Sub, &file[HEADER_LEN..end], primary_byte(m), out, HEADER_LEN);
+    map_into(
+        ByteOp::Sub,
+        &file[HEADER_LEN..end],
+        primary_byte(m),
+        out,
+        HEADER_LEN,
+    );
     let mut j = 0;
     while j < k {
         let slot = entry_slot(file, n, j);

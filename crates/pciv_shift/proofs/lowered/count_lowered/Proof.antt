@@ -63,8 +63,7 @@ loop-again c =
     let d = c .before .before .before in
     let k = d .before .before in
     let s = k .before in
-    let l = d .before .loop in
-    (
+    let l = d .before .loop in (
       omega arith,
       lowered-counted (parts s) (s .pre .parts) (bytes k) (s .args .m) (d .loop-test .taken) (l .inv .1) (omega (arith, low (c .before), c .if1 .taken)),
     )
@@ -77,8 +76,7 @@ loop-again-2 c =
     let d = c .before .before .before in
     let k = d .before .before in
     let s = k .before in
-    let l = d .before .loop in
-    (
+    let l = d .before .loop in (
       omega arith,
       lowered-uncounted (parts s) (s .pre .parts) (bytes k) (s .args .m) (d .loop-test .taken) (l .inv .1) (omega (arith, low (c .before), c .if1 .left)),
     )

@@ -122,11 +122,10 @@ returns c =
     let e = b .before .before in
     let s = entry e in
     let o = is-refused k in
-    let same = into e in
-    (
+    let same = into e in (
       ap fileAnswer (sym (same ∙ o)),
       built-refused (s .args .n) (e .count-lowered .result) (v s) (e .count-lowered .ensures) (s .pre .header .small) _ _ _ o (b .begin .ensures .1)
-      ∙ ap (buffer s) (begin-into e ∙ sym same),
+          ∙ ap (buffer s) (begin-into e ∙ sym same),
     )
 
 same-length-2 : tie.Need-same-length-2
@@ -142,12 +141,11 @@ returns-2 c =
     let e = b .before .before in
     let s = entry e in
     let o = is-done k in
-    let same = into e in
-    (
+    let same = into e in (
       ap fileAnswer (sym (same ∙ o)),
       built-done (s .args .n) (e .count-lowered .result) (v s) (e .count-lowered .ensures) (s .pre .header .small) _ _ _ _ _ _ o
-      (b .begin .ensures .1) (p .put-primary .ensures) (q .put-entries .ensures) (f .finish .ensures)
-      ∙ ap (buffer s) (begin-into e ∙ sym same),
+          (b .begin .ensures .1) (p .put-primary .ensures) (q .put-entries .ensures) (f .finish .ensures)
+          ∙ ap (buffer s) (begin-into e ∙ sym same),
     )
 
 pub lowered-into-spec : {M : Type 1} → statement M

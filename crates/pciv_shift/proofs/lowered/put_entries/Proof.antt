@@ -80,11 +80,10 @@ loop-again c =
     let d = t .before .before .before .before in
     let s = start d in
     let l = d .before .loop in
-    let put = rw (t .before .before .before .entry-slot .ensures) at (e .put-entry .ensures .1) in
-    (
+    let put = rw (t .before .before .before .entry-slot .ensures) at (e .put-entry .ensures .1) in (
       omega arith,
       left-more (parts s) (s .pre .0 .parts) (bytes d) (s .args .m) (d .loop-test .taken) (l .inv .1) _ _ (t .before .lower .result) (low (t .before))
-      (t .if1 .taken) put (e .put-entry .ensures .0),
+          (t .if1 .taken) put (e .put-entry .ensures .0),
     )
 
 loop-less-2 : tie.Need-loop-less-2 Inv-loop μ-loop
@@ -94,8 +93,7 @@ loop-again-2 : tie.Need-loop-again-2 Inv-loop μ-loop
 loop-again-2 c =
     let d = c .before .before .before .before in
     let s = start d in
-    let l = d .before .loop in
-    (
+    let l = d .before .loop in (
       omega arith,
       left-skip (parts s) (s .pre .0 .parts) (bytes d) (s .args .m) (d .loop-test .taken) (l .inv .1) (omega (arith, low (c .before), c .if1 .left)),
     )
