@@ -40,7 +40,7 @@ fn combine(
 ) -> Result<Summary, Refusal> {
     let (a, b) = open_pair(a, b)?;
     let pairs = a.distances().zip(b.distances());
-    write_distances(pairs.map(|(x, y)| operation(x, y)), out)
+    write_distances(pairs.map(|(x, y)| Some(operation(x, y))), out)
 }
 
 /// Checks two files: refusals 1 to 8 of the first, then of the second, then 10.

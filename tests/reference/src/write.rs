@@ -16,7 +16,7 @@ pub fn encode(distances: &[u32]) -> Result<Vec<u8>, Refusal> {
 /// The file of a list of distances, to the front of `out`. Refusals 3, 12. Answers its summary.
 pub fn write(distances: &[u32], out: &mut [u8]) -> Result<Summary, Refusal> {
     require_few_slots(distances.len())?;
-    write_distances(distances.iter().copied(), out)
+    write_distances(distances.iter().copied().map(Some), out)
 }
 
 /// The file of a primary array and of overflow entries, given as their slots and their distances,
@@ -44,26 +44,34 @@ fn is_overflow(distance: u32) -> bool {
     distance >= u32::from(SENTINEL)
 }
 
-/// Writes the file of at most 1,048,576 distances to the front of `out`. Refusal 12.
+/// Writes the file of at most 1,048,576 distances to the front of `out`; `None` is a distance above
+/// 4,294,967,295. Refusals 11, 12.
 ///
 /// One pass over the distances collects the primary array and the overflow entries; nothing is
-/// written before the refusal is ruled out.
+/// written before the last refusal is ruled out.
 pub(crate) fn write_distances(
-    distances: impl Iterator<Item = u32>,
+    distances: impl Iterator<Item = Option<u32>>,
     out: &mut [u8],
 ) -> Result<Summary, Refusal> {
     let mut overflow = Vec::new();
+    let mut too_large = None;
     let primary: Vec<u8> = (0u64..)
         .zip(distances)
-        .map(|(slot, distance)| {
-            if is_overflow(distance) {
+        .map(|(slot, distance)| match distance {
+            Some(distance) if is_overflow(distance) => {
                 overflow.push(Entry { slot, distance });
                 SENTINEL
-            } else {
-                distance as u8
+            }
+            Some(distance) => distance as u8,
+            None => {
+                too_large.get_or_insert(slot);
+                SENTINEL
             }
         })
         .collect();
+    if let Some(slot) = too_large {
+        return Err(Refusal::of_call(11, slot));
+    }
     write_parts(&primary, overflow.iter().copied(), out)
 }
 
