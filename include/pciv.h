@@ -196,6 +196,14 @@ uint64_t pciv_minimum(const uint8_t *a, size_t a_len, const uint8_t *b, size_t b
 uint64_t pciv_maximum(const uint8_t *a, size_t a_len, const uint8_t *b, size_t b_len, uint8_t *out,
                       size_t out_len, pciv_summary *summary, pciv_refusal *refusal);
 
+/* The file of the sums a + b of two maps.
+   Refusals: 1 to 8 of a, 1 to 8 of b, 10 where the maps differ in n, 11 where a sum is above
+   4,294,967,295, with the least such slot as place, then 12 where the result is longer than
+   out_len.
+   Buffers as pciv_minimum. */
+uint64_t pciv_sum_maps(const uint8_t *a, size_t a_len, const uint8_t *b, size_t b_len, uint8_t *out,
+                       size_t out_len, pciv_summary *summary, pciv_refusal *refusal);
+
 /* The file of the differences a - b of two maps, 0 where a - b is negative. Refusals and buffers as
    pciv_minimum. */
 uint64_t pciv_difference(const uint8_t *a, size_t a_len, const uint8_t *b, size_t b_len,

@@ -232,13 +232,11 @@ static void test_close(const uint8_t *file)
     EXPECT(is_refusal(&refusal, PCIV_OK, 0, 0) && is_map(out, sizeof out, &summary, file));
 }
 
-/* The map with the other one, to a file of k overflow entries; damaged files, one of another size
-   and a short buffer. */
+/* The map with the other one, to a file of k overflow entries; damaged files and a short buffer. */
 static void test_combine(combine *call, const uint8_t *a, const uint8_t *b, uint64_t k,
                          const uint32_t expected[N])
 {
     const uint64_t len = 40 + N + 12 * k;
-    uint8_t empty[40] = "PCIV";
     uint8_t out[100];
     pciv_summary summary;
     pciv_refusal refusal;
@@ -248,8 +246,6 @@ static void test_combine(combine *call, const uint8_t *a, const uint8_t *b, uint
     EXPECT(is_refusal(&refusal, PCIV_TRUNCATED_HEADER, 1, 0));
     EXPECT(call(a, MAP_LEN, b, 55, out, sizeof out, &summary, &refusal) == PCIV_BAD_LENGTH);
     EXPECT(is_refusal(&refusal, PCIV_BAD_LENGTH, 2, 0));
-    EXPECT(call(a, MAP_LEN, empty, 40, out, 3, &summary, &refusal) == PCIV_SIZE_MISMATCH);
-    EXPECT(is_refusal(&refusal, PCIV_SIZE_MISMATCH, 0, 0));
     EXPECT(call(a, MAP_LEN, b, OTHER_LEN, out, len - 1, &summary, &refusal) ==
            PCIV_BUFFER_TOO_SMALL);
     EXPECT(is_refusal(&refusal, PCIV_BUFFER_TOO_SMALL, 0, 0));
@@ -257,6 +253,26 @@ static void test_combine(combine *call, const uint8_t *a, const uint8_t *b, uint
     EXPECT(call(a, MAP_LEN, b, OTHER_LEN, out, sizeof out, &summary, &refusal) == PCIV_OK);
     EXPECT(is_refusal(&refusal, PCIV_OK, 0, 0) && is_summary(&summary, N, k, len));
     EXPECT(is_file_of(out, sizeof out, &summary, expected));
+}
+
+static void test_sum_maps(const uint8_t *a, const uint8_t *b)
+{
+    static const uint32_t doubled[N] = {0, 508, 510, 600};
+    uint8_t empty[40] = "PCIV";
+    uint8_t out[100];
+    pciv_summary summary;
+    pciv_refusal refusal;
+    memset(out, DIRTY, sizeof out);
+    memset(&summary, DIRTY, sizeof summary);
+    EXPECT(pciv_sum_maps(a, MAP_LEN, empty, 40, out, 3, &summary, &refusal) == PCIV_SIZE_MISMATCH);
+    EXPECT(is_refusal(&refusal, PCIV_SIZE_MISMATCH, 0, 0));
+    EXPECT(pciv_sum_maps(a, MAP_LEN, b, OTHER_LEN, out, 3, &summary, &refusal) ==
+           PCIV_DISTANCE_OVERFLOW);
+    EXPECT(is_refusal(&refusal, PCIV_DISTANCE_OVERFLOW, 0, 3));
+    EXPECT(is_dirty(out, sizeof out) && is_dirty(&summary, sizeof summary));
+    EXPECT(pciv_sum_maps(a, MAP_LEN, a, MAP_LEN, out, sizeof out, &summary, &refusal) == PCIV_OK);
+    EXPECT(is_refusal(&refusal, PCIV_OK, 0, 0) && is_summary(&summary, N, 3, 80));
+    EXPECT(is_file_of(out, sizeof out, &summary, doubled));
 }
 
 static void test_signed_difference(const uint8_t *a, const uint8_t *b)
@@ -288,6 +304,7 @@ static void test_arithmetic(const uint8_t *a, const uint8_t *b)
     test_combine(pciv_minimum, a, b, 1, minima);
     test_combine(pciv_maximum, a, b, 2, maxima);
     test_combine(pciv_difference, a, b, 0, differences);
+    test_sum_maps(a, b);
     test_signed_difference(a, b);
 }
 

@@ -43,6 +43,25 @@ pub fn maximum(a: &[u8], b: &[u8], out: &mut [u8]) -> Result<Summary, Refusal> {
     answer(|summary, refusal| raw::maximum(a, b, out, summary, refusal))
 }
 
+/// The sum of two maps' distances at each slot, as [`minimum`], and before 12 refusal 11 with the
+/// least slot whose sum is above 4,294,967,295 as place.
+///
+/// ```
+/// let a = include_bytes!("../../../examples/map-a.pciv");
+/// let mut ones = [0; 44];
+/// pciv::write(&[1; 4], &mut ones)?;
+///
+/// let mut out = [0; 80];
+/// pciv::sum_maps(a, &ones, &mut out)?;
+/// let mut distances = [0; 4];
+/// pciv::scan(&out, &mut distances)?;
+/// assert_eq!(distances, [1, 255, 256, 301]);
+/// # Ok::<(), pciv::Refusal>(())
+/// ```
+pub fn sum_maps(a: &[u8], b: &[u8], out: &mut [u8]) -> Result<Summary, Refusal> {
+    answer(|summary, refusal| raw::sum_maps(a, b, out, summary, refusal))
+}
+
 /// The distance of `a` less that of `b` at each slot, 0 where that would be negative, as
 /// [`minimum`].
 ///

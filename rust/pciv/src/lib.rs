@@ -27,7 +27,7 @@ mod read;
 mod refusal;
 mod write;
 
-pub use arith::{difference, maximum, minimum, signed_difference};
+pub use arith::{difference, maximum, minimum, signed_difference, sum_maps};
 pub use read::{check, lookup, lookup_list, primary, readings, report, scan, sum};
 pub use refusal::Refusal;
 pub use write::{close, write};

@@ -114,7 +114,7 @@ mod c {
         };
     }
 
-    combining_calls!(pciv_minimum pciv_maximum pciv_difference);
+    combining_calls!(pciv_minimum pciv_maximum pciv_sum_maps pciv_difference);
 }
 
 // Every call below is sound for the same reason: references and slices give non-null, aligned
@@ -258,6 +258,7 @@ macro_rules! combining_functions {
 combining_functions! {
     minimum: pciv_minimum,
     maximum: pciv_maximum,
+    sum_maps: pciv_sum_maps,
     difference: pciv_difference,
 }
 

@@ -53,15 +53,15 @@ struct Map {
 }
 
 impl Map {
-    /// A map with `k` slots in overflow.
-    fn new(rng: &mut Rng, n: usize, k: usize) -> Map {
+    /// A map with `k` slots in overflow and inline distances below `inline`.
+    fn new(rng: &mut Rng, n: usize, k: usize, inline: usize) -> Map {
         let list = lists::placed(
             rng,
             n,
             k,
             Spread::Scattered,
             |rng| 255 + rng.below(60_000) as u32,
-            |rng| rng.below(255) as u32,
+            |rng| rng.below(inline) as u32,
         );
         let overflow = (0u64..).zip(list.iter().copied());
         let (slots, distances) = overflow.filter(|&(_, distance)| distance >= 255).unzip();
@@ -81,8 +81,10 @@ impl Map {
 /// The maps of one table.
 struct Scene {
     a: Map,
-    /// Like the first one.
+    /// Like the first one: half of the sums become overflow.
     b: Map,
+    /// With small inline distances: few sums become overflow.
+    small: Map,
     /// Slots of the first map in overflow.
     asked: Vec<u64>,
 }
@@ -90,9 +92,10 @@ struct Scene {
 impl Scene {
     fn new(n: usize, k: usize) -> Scene {
         let mut rng = Rng::new((n + k) as u64);
-        let a = Map::new(&mut rng, n, k);
+        let a = Map::new(&mut rng, n, k, 255);
         Scene {
-            b: Map::new(&mut rng, n, k),
+            b: Map::new(&mut rng, n, k, 255),
+            small: Map::new(&mut rng, n, k, 3),
             asked: (0..LIST_LEN).map(|_| rng.pick(&a.slots)).collect(),
             a,
         }
@@ -174,11 +177,14 @@ fn writing(table: &Table, map: &Map) {
 type Ours = fn(&[u8], &[u8], &mut [u8]) -> Result<Summary, pciv::Refusal>;
 type Theirs = fn(&[u8], &[u8], &mut [u8]) -> Result<reference::Summary, reference::Refusal>;
 
-/// Minimum, maximum, difference and signed difference.
+/// Minimum, maximum, sum, difference and signed difference.
 fn arithmetic(table: &Table, scene: &Scene) {
-    let (a, b) = (&scene.a.file, &scene.b.file);
+    let (a, b, small) = (&scene.a.file, &scene.b.file, &scene.small.file);
     combine(table, "minimum", a, b, pciv::minimum, reference::minimum);
     combine(table, "maximum", a, b, pciv::maximum, reference::maximum);
+    let (ours, theirs): (Ours, Theirs) = (pciv::sum_maps, reference::sum_maps);
+    combine(table, "sum_maps, few to overflow", a, small, ours, theirs);
+    combine(table, "sum_maps, half to overflow", a, b, ours, theirs);
     combine(
         table,
         "difference",

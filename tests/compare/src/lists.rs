@@ -91,22 +91,30 @@ pub fn placed(
         .collect()
 }
 
-/// A list that tells something beside another one: equal, next to it, with differences at the
-/// borders of overflow, or unrelated.
+/// A list that tells something beside another one: equal, next to it, with sums and differences at
+/// the borders of overflow, or unrelated. Mostly all sums are within the largest distance.
 pub fn beside(rng: &mut Rng, list: &[u32]) -> Vec<u32> {
-    match rng.below(4) {
+    let mut other = match rng.below(4) {
         0 => list.to_vec(),
         1 => mixed(rng, list.len()),
         _ => list.iter().map(|&x| distance_beside(rng, x)).collect(),
+    };
+    if rng.below(4) > 0 {
+        for (y, x) in other.iter_mut().zip(list) {
+            *y = (*y).min(u32::MAX - x);
+        }
     }
+    other
 }
 
 fn distance_beside(rng: &mut Rng, x: u32) -> u32 {
-    match rng.below(5) {
+    match rng.below(7) {
         0 => x,
         1 => x.saturating_add(1),
         2 => x.saturating_add(255),
         3 => x.saturating_sub(rng.pick(&[1, 253, 254, 255, 256])),
+        4 => rng.pick(&[253, 254, 255, 256u32]).saturating_sub(x),
+        5 => u32::MAX - x,
         _ => corner(rng),
     }
 }

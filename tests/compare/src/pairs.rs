@@ -1,4 +1,4 @@
-//! Cases about two files: minimum, maximum, difference and signed difference.
+//! Cases about two files: minimum, maximum, sum, difference and signed difference.
 
 use crate::call::{capacities, file_capacities, Answer, Call};
 use crate::damage::{self, Damage};
@@ -14,6 +14,7 @@ use pciv::{raw, Refusal, Summary};
 pub fn run_all(run: &mut Run) {
     worked_examples(run);
     small_pairs(run);
+    sums_above(run);
     overflow_counts(run);
     largest_pairs(run);
     unequal_sizes(run);
@@ -30,7 +31,7 @@ struct Combining {
 type Theirs = fn(&[u8], &[u8], &mut [u8]) -> Answer<reference::Summary>;
 type Ours = fn(&[u8], &[u8], &mut [u8], &mut Summary, &mut Refusal) -> u64;
 
-const COMBINING: [Combining; 3] = [
+const COMBINING: [Combining; 4] = [
     Combining {
         name: "minimum",
         reference: reference::minimum,
@@ -40,6 +41,11 @@ const COMBINING: [Combining; 3] = [
         name: "maximum",
         reference: reference::maximum,
         library: raw::maximum,
+    },
+    Combining {
+        name: "sum_maps",
+        reference: reference::sum_maps,
+        library: raw::sum_maps,
     },
     Combining {
         name: "difference",
@@ -170,33 +176,57 @@ fn small_pairs(run: &mut Run) {
     }
 }
 
+/// Sums above the largest distance at one slot or several: the first, the last, random ones, all.
+fn sums_above(run: &mut Run) {
+    for number in 0..2_000 {
+        run.case("sums above", number, |rng| {
+            let n = lists::size(rng).max(1);
+            let mut a = lists::mixed(rng, n);
+            let mut b: Vec<u32> = a.iter().map(|x| (u32::MAX - x).min(256)).collect();
+            let slots = match rng.below(5) {
+                0 => vec![0],
+                1 => vec![n - 1],
+                2 => (0..n).collect(),
+                _ => (0..2 + rng.below(3)).map(|_| rng.below(n)).collect(),
+            };
+            for &slot in &slots {
+                let least = 1 + rng.pick(&[0, 1, 253, 254, 255, u32::MAX - 1]);
+                a[slot] = a[slot].max(least);
+                b[slot] = u32::MAX - rng.below(a[slot] as usize) as u32;
+            }
+            Pair::of_lists(format!("above at slots {slots:?}"), &a, &b)
+        });
+    }
+}
+
 /// Makes the two distances of a slot.
 type Kind = fn(&mut Rng) -> (u32, u32);
 
 /// Kinds of slots, by the results that are in overflow there.
-const KINDS: [Kind; 5] = [
-    |rng| (600 + wide(rng), 255 + below(rng, 90)), // minimum, maximum, difference
-    |rng| (255 + below(rng, 255), 255),            // minimum, maximum
-    |rng| (510 + wide(rng), below(rng, 255)),      // maximum, difference
-    |rng| (below(rng, 255), 255 + wide(rng)),      // maximum
-    |rng| (below(rng, 255), below(rng, 255)),      // none
+const KINDS: [Kind; 6] = [
+    |rng| (600 + wide(rng), 255 + below(rng, 90)), // minimum, maximum, sum, difference
+    |rng| (255 + below(rng, 255), 255),            // minimum, maximum, sum
+    |rng| (510 + wide(rng), below(rng, 255)),      // maximum, sum, difference
+    |rng| (below(rng, 255), 255 + wide(rng)),      // maximum, sum
+    |rng| (128 + below(rng, 127), 127 + below(rng, 128)), // sum
+    |rng| (below(rng, 128), below(rng, 127)),      // none
 ];
 
-/// The kinds of slots where the results of minimum, maximum and difference are in overflow.
-const IN_OVERFLOW: [&[usize]; 3] = [&[0, 1], &[0, 1, 2, 3], &[0, 2]];
+/// The kinds of slots where the results of minimum, maximum, sum and difference are in overflow.
+const IN_OVERFLOW: [&[usize]; 4] = [&[0, 1], &[0, 1, 2, 3], &[0, 1, 2, 3, 4], &[0, 2]];
 
 fn below(rng: &mut Rng, bound: usize) -> u32 {
     rng.below(bound) as u32
 }
 
-/// A number of any size below 2^30.
+/// A number of any size whose double is a distance.
 fn wide(rng: &mut Rng) -> u32 {
     let bits = rng.below(31);
     below(rng, 1 << bits)
 }
 
 /// Results with as many overflow entries as change the step: a minimum or difference of maps with
-/// more, a maximum of maps with fewer.
+/// more, a maximum or sum of maps with fewer.
 fn overflow_counts(run: &mut Run) {
     let mut number = 0;
     for kinds in IN_OVERFLOW {
@@ -231,19 +261,25 @@ fn counted_pair(rng: &mut Rng, kinds: &[usize], k: usize, others: usize, scatter
 fn largest_pairs(run: &mut Run) {
     let n = reference::MAX_SLOTS as usize;
     run.case("largest pair", 0, |_| {
-        Pair::of_lists("all at 300 and all at 1", &vec![300; n], &vec![1; n])
+        Pair::of_lists("all at 254 and all at 1", &vec![254; n], &vec![1; n])
     });
     run.case("largest pair", 1, |rng| {
         let a = lists::with_overflow(rng, n, n / 100, Spread::Scattered);
         let b = lists::beside(rng, &a);
         Pair::of_lists("1 % in overflow", &a, &b)
     });
-    run.case("largest pair", 2, |_| {
+    run.case("largest pair", 2, |rng| {
+        let mut a = lists::with_overflow(rng, n, 0, Spread::Front);
+        a[n - 1] = u32::MAX;
+        let b = vec![1; n];
+        Pair::of_lists("a sum above at the last slot", &a, &b)
+    });
+    run.case("largest pair", 3, |_| {
         Pair::of_lists("sizes differ by one", &vec![9; n], &vec![9; n - 1])
     });
 }
 
-/// Sound maps of different sizes.
+/// Sound maps of different sizes, some with sums above the largest distance.
 fn unequal_sizes(run: &mut Run) {
     const SIZES: [(usize, usize); 8] = [
         (0, 1),

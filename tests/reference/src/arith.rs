@@ -6,18 +6,23 @@ use crate::{require_capacity, Map, Refusal, Summary};
 /// The smaller distance at each slot, as a file to the front of `out`. Refusals 1 to 8 of either
 /// file, then 10, 12. Answers the summary of the result.
 pub fn minimum(a: &[u8], b: &[u8], out: &mut [u8]) -> Result<Summary, Refusal> {
-    combine(a, b, out, u32::min)
+    combine(a, b, out, |x, y| Some(x.min(y)))
 }
 
 /// The larger distance at each slot, as [`minimum`].
 pub fn maximum(a: &[u8], b: &[u8], out: &mut [u8]) -> Result<Summary, Refusal> {
-    combine(a, b, out, u32::max)
+    combine(a, b, out, |x, y| Some(x.max(y)))
+}
+
+/// The sum of the distances at each slot, as [`minimum`], and refusal 11 before 12.
+pub fn sum_maps(a: &[u8], b: &[u8], out: &mut [u8]) -> Result<Summary, Refusal> {
+    combine(a, b, out, u32::checked_add)
 }
 
 /// The first file's distance less the second's at each slot, 0 where that would be negative, as
 /// [`minimum`].
 pub fn difference(a: &[u8], b: &[u8], out: &mut [u8]) -> Result<Summary, Refusal> {
-    combine(a, b, out, u32::saturating_sub)
+    combine(a, b, out, |x, y| Some(x.saturating_sub(y)))
 }
 
 /// The second file's distance less the first's at each slot, to the front of `out`. Refusals 1 to 8
@@ -31,16 +36,17 @@ pub fn signed_difference(a: &[u8], b: &[u8], out: &mut [i64]) -> Result<u64, Ref
     Ok(a.summary().n)
 }
 
-/// An operation on the two distances of each slot.
+/// An operation on the two distances of each slot; `None` stands for a distance above
+/// 4,294,967,295.
 fn combine(
     a: &[u8],
     b: &[u8],
     out: &mut [u8],
-    operation: impl Fn(u32, u32) -> u32,
+    operation: impl Fn(u32, u32) -> Option<u32>,
 ) -> Result<Summary, Refusal> {
     let (a, b) = open_pair(a, b)?;
     let pairs = a.distances().zip(b.distances());
-    write_distances(pairs.map(|(x, y)| Some(operation(x, y))), out)
+    write_distances(pairs.map(|(x, y)| operation(x, y)), out)
 }
 
 /// Checks two files: refusals 1 to 8 of the first, then of the second, then 10.

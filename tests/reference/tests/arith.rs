@@ -2,7 +2,7 @@
 //! arithmetic on lists.
 
 use reference::{
-    decode, difference, encode, maximum, minimum, signed_difference, Refusal, Summary,
+    decode, difference, encode, maximum, minimum, signed_difference, sum_maps, Refusal, Summary,
 };
 
 const A: [u32; 4] = [0, 254, 255, 300];
@@ -52,11 +52,15 @@ fn corner_pairs() -> (Vec<u32>, Vec<u32>) {
 
 #[test]
 fn worked_examples() {
-    let [a, b] = [A, B].map(|list| encode(&list).unwrap());
+    let [a, b, ones] = [A, B, [1; 4]].map(|list| encode(&list).unwrap());
     let minima = list_of(|out| minimum(&a, &b, out));
     assert_eq!(minima, Ok(vec![0, 1, 1, 300]));
     let maxima = list_of(|out| maximum(&a, &b, out));
     assert_eq!(maxima, Ok(vec![1, 254, 255, 4_294_967_295]));
+    assert_eq!(list_of(|out| sum_maps(&a, &b, out)), Err(refused(11, 0, 3)));
+    let sums = list_of(|out| sum_maps(&a, &ones, out));
+    assert_eq!(sums, Ok(vec![1, 255, 256, 301]));
+    assert_eq!(sum_maps(&a, &ones, &mut [0; 80]).unwrap().len, 80);
     let differences = list_of(|out| difference(&a, &b, out));
     assert_eq!(differences, Ok(vec![0, 253, 254, 0]));
     assert_eq!(difference(&a, &b, &mut [0; 44]).unwrap().len, 44);
@@ -88,16 +92,37 @@ fn pairs_agree_with_plain_arithmetic() {
 }
 
 #[test]
+fn sums_agree_with_plain_arithmetic() {
+    for (slot, (&x, &y)) in corner_pairs().0.iter().zip(&corner_pairs().1).enumerate() {
+        let [a, b] = [x, y].map(|distance| {
+            let mut list = vec![3; 200];
+            list[slot] = distance;
+            encode(&list).unwrap()
+        });
+        let expected = match x.checked_add(y) {
+            Some(sum) => {
+                let mut list = vec![6; 200];
+                list[slot] = sum;
+                Ok(list)
+            }
+            None => Err(refused(11, 0, slot as u64)),
+        };
+        assert_eq!(list_of(|out| sum_maps(&a, &b, out)), expected);
+    }
+}
+
+#[test]
 fn refusals_in_their_order() {
     let [a, b, longer] = [&A[..], &B, &[9; 5]].map(|list| encode(list).unwrap());
     let (bad_a, bad_b) = (&a[..39], &b[1..]);
     let mut out = [7; 3];
-    let mut refusal = |a, b| maximum(a, b, &mut out).unwrap_err();
+    let mut refusal = |a, b| sum_maps(a, b, &mut out).unwrap_err();
     assert_eq!(refusal(bad_a, bad_b), refused(1, 1, 0));
     assert_eq!(refusal(bad_b, bad_a), refused(2, 1, 0));
     assert_eq!(refusal(&longer, bad_b), refused(2, 2, 0));
     assert_eq!(refusal(&longer, &b), refused(10, 0, 0));
-    assert_eq!(refusal(&a, &b), refused(12, 0, 0));
+    assert_eq!(refusal(&a, &b), refused(11, 0, 3));
+    assert_eq!(refusal(&a, &a), refused(12, 0, 0));
     assert_eq!(out, [7; 3]);
     let mut changes = [7; 3];
     let mut refusal = |a, b| signed_difference(a, b, &mut changes).unwrap_err();
