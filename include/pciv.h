@@ -210,6 +210,15 @@ uint64_t pciv_difference(const uint8_t *a, size_t a_len, const uint8_t *b, size_
                          uint8_t *out, size_t out_len, pciv_summary *summary,
                          pciv_refusal *refusal);
 
+/* The file of a map whose distances are shifted: each becomes distance + by, or 0 where that is
+   negative.
+   Refusals: 1 to 8, 11 where a shifted distance is above 4,294,967,295, with the least such slot as
+   place, then 12 where the result is longer than out_len.
+   When done the first summary->len bytes of out are the result, the bytes behind it are unchanged,
+   and *summary is its summary. After a refusal out and *summary are unchanged. */
+uint64_t pciv_shift(const uint8_t *file, size_t file_len, int32_t by, uint8_t *out, size_t out_len,
+                    pciv_summary *summary, pciv_refusal *refusal);
+
 /* The exact signed differences b - a of two maps, in order of their slots.
    Refusals: 1 to 8 of a, 1 to 8 of b, 10 where the maps differ in n, then 12 where out_len is below
    n.

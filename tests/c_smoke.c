@@ -275,6 +275,27 @@ static void test_sum_maps(const uint8_t *a, const uint8_t *b)
     EXPECT(is_file_of(out, sizeof out, &summary, doubled));
 }
 
+static void test_shift(const uint8_t *a, const uint8_t *b)
+{
+    static const uint32_t nearer[N] = {0, 0, 1, 46};
+    static const uint32_t farther[N] = {1, 255, 256, 301};
+    uint8_t out[100];
+    pciv_summary summary;
+    pciv_refusal refusal;
+    memset(out, DIRTY, sizeof out);
+    memset(&summary, DIRTY, sizeof summary);
+    EXPECT(pciv_shift(b, OTHER_LEN, 1, out, 3, &summary, &refusal) == PCIV_DISTANCE_OVERFLOW);
+    EXPECT(is_refusal(&refusal, PCIV_DISTANCE_OVERFLOW, 0, 3));
+    EXPECT(pciv_shift(a, MAP_LEN, 1, out, 79, &summary, &refusal) == PCIV_BUFFER_TOO_SMALL);
+    EXPECT(is_refusal(&refusal, PCIV_BUFFER_TOO_SMALL, 0, 0));
+    EXPECT(is_dirty(out, sizeof out) && is_dirty(&summary, sizeof summary));
+    EXPECT(pciv_shift(a, MAP_LEN, -254, out, sizeof out, &summary, &refusal) == PCIV_OK);
+    EXPECT(is_refusal(&refusal, PCIV_OK, 0, 0) && is_summary(&summary, N, 0, 44));
+    EXPECT(is_file_of(out, sizeof out, &summary, nearer));
+    EXPECT(pciv_shift(a, MAP_LEN, 1, out, sizeof out, &summary, &refusal) == PCIV_OK);
+    EXPECT(is_summary(&summary, N, 3, 80) && is_file_of(out, sizeof out, &summary, farther));
+}
+
 static void test_signed_difference(const uint8_t *a, const uint8_t *b)
 {
     static const int64_t expected[N] = {1, -253, -254, 4294966995};
@@ -305,6 +326,7 @@ static void test_arithmetic(const uint8_t *a, const uint8_t *b)
     test_combine(pciv_maximum, a, b, 2, maxima);
     test_combine(pciv_difference, a, b, 0, differences);
     test_sum_maps(a, b);
+    test_shift(a, b);
     test_signed_difference(a, b);
 }
 

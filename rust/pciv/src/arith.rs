@@ -79,6 +79,21 @@ pub fn difference(a: &[u8], b: &[u8], out: &mut [u8]) -> Result<Summary, Refusal
     answer(|summary, refusal| raw::difference(a, b, out, summary, refusal))
 }
 
+/// Each distance plus `by`, 0 where that would be negative, as a file to the front of `out`.
+/// Answers its summary. Refusals 1 to 8, then 11 with the least slot whose distance would be above
+/// 4,294,967,295 as place, then 12.
+///
+/// ```
+/// let file = include_bytes!("../../../examples/map-a.pciv");
+/// let mut out = [0; 44];
+/// pciv::shift(file, -100, &mut out)?;
+/// assert_eq!(pciv::primary(&out), [0, 154, 155, 200]);
+/// # Ok::<(), pciv::Refusal>(())
+/// ```
+pub fn shift(file: &[u8], by: i32, out: &mut [u8]) -> Result<Summary, Refusal> {
+    answer(|summary, refusal| raw::shift(file, by, out, summary, refusal))
+}
+
 /// The exact signed difference b - a at each slot, to the front of `out`. Answers how many there
 /// are. Refusals 1 to 8 of `a` with map 1, then of `b` with map 2, then 10 where the maps differ in
 /// n, then 12.
@@ -116,6 +131,7 @@ mod tests {
     fn refused_buffers_are_unchanged() {
         let mut out = [7; 67];
         assert_eq!(maximum(MAP_A, MAP_A, &mut out).unwrap_err().number, 12);
+        assert_eq!(shift(MAP_A, i32::MAX, &mut out).unwrap_err().number, 12);
         assert_eq!(out, [7; 67]);
         let mut out = [7; 3];
         let refusal = signed_difference(MAP_A, MAP_A, &mut out).unwrap_err();

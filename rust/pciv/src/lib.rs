@@ -11,10 +11,8 @@
 //! pciv::scan(file, &mut distances)?;
 //! assert_eq!(distances, [0, 254, 255, 300]);
 //!
-//! let mut fifty = [0; 44];
-//! pciv::write(&[50; 4], &mut fifty)?;
 //! let mut nearer = [0; 68];
-//! let summary = pciv::difference(file, &fifty, &mut nearer)?;
+//! let summary = pciv::shift(file, -50, &mut nearer)?;
 //! assert_eq!(summary.len, 44);
 //! pciv::scan(&nearer[..44], &mut distances)?;
 //! assert_eq!(distances, [0, 204, 205, 250]);
@@ -27,7 +25,7 @@ mod read;
 mod refusal;
 mod write;
 
-pub use arith::{difference, maximum, minimum, signed_difference, sum_maps};
+pub use arith::{difference, maximum, minimum, shift, signed_difference, sum_maps};
 pub use read::{check, lookup, lookup_list, primary, readings, report, scan, sum};
 pub use refusal::Refusal;
 pub use write::{close, write};

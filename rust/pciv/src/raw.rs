@@ -76,6 +76,15 @@ mod c {
             summary: *mut Summary,
             refusal: *mut Refusal,
         ) -> u64;
+        pub fn pciv_shift(
+            file: *const u8,
+            file_len: usize,
+            by: i32,
+            out: *mut u8,
+            out_len: usize,
+            summary: *mut Summary,
+            refusal: *mut Refusal,
+        ) -> u64;
         pub fn pciv_signed_difference(
             a: *const u8,
             a_len: usize,
@@ -260,6 +269,27 @@ combining_functions! {
     maximum: pciv_maximum,
     sum_maps: pciv_sum_maps,
     difference: pciv_difference,
+}
+
+/// `pciv_shift`.
+pub fn shift(
+    file: &[u8],
+    by: i32,
+    out: &mut [u8],
+    summary: &mut Summary,
+    refusal: &mut Refusal,
+) -> u64 {
+    unsafe {
+        c::pciv_shift(
+            file.as_ptr(),
+            file.len(),
+            by,
+            out.as_mut_ptr(),
+            out.len(),
+            summary,
+            refusal,
+        )
+    }
 }
 
 /// `pciv_signed_difference`.

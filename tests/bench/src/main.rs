@@ -177,7 +177,7 @@ fn writing(table: &Table, map: &Map) {
 type Ours = fn(&[u8], &[u8], &mut [u8]) -> Result<Summary, pciv::Refusal>;
 type Theirs = fn(&[u8], &[u8], &mut [u8]) -> Result<reference::Summary, reference::Refusal>;
 
-/// Minimum, maximum, sum, difference and signed difference.
+/// Minimum, maximum, sum, difference, shift and signed difference.
 fn arithmetic(table: &Table, scene: &Scene) {
     let (a, b, small) = (&scene.a.file, &scene.b.file, &scene.small.file);
     combine(table, "minimum", a, b, pciv::minimum, reference::minimum);
@@ -193,6 +193,8 @@ fn arithmetic(table: &Table, scene: &Scene) {
         pciv::difference,
         reference::difference,
     );
+    shift(table, a, -50);
+    shift(table, a, 10);
     let n = scene.a.list.len();
     let (mut ours, mut theirs) = (vec![0; n], vec![0; n]);
     table.row(
@@ -211,6 +213,17 @@ fn combine(table: &Table, call: &str, a: &[u8], b: &[u8], ours: Ours, theirs: Th
         a.len() + b.len() + len,
         || ours(a, b, black_box(&mut our_out)),
         || theirs(a, b, black_box(&mut their_out)),
+    );
+}
+
+fn shift(table: &Table, file: &[u8], by: i32) {
+    let len = result_len(|out| reference::shift(file, by, out));
+    let (mut ours, mut theirs) = (vec![0; len], vec![0; len]);
+    table.row(
+        &format!("shift by {by}"),
+        file.len() + len,
+        || pciv::shift(file, by, black_box(&mut ours)),
+        || reference::shift(file, by, black_box(&mut theirs)),
     );
 }
 

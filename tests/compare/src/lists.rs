@@ -119,6 +119,48 @@ fn distance_beside(rng: &mut Rng, x: u32) -> u32 {
     }
 }
 
+/// Distances which, shifted, are next to 0, 255 or the largest distance; some lists have one above
+/// that.
+pub fn about_shift(rng: &mut Rng, n: usize, by: i32) -> Vec<u32> {
+    let largest = i64::from(u32::MAX);
+    let above = rng.below(3) == 0;
+    let shifted = [
+        -1,
+        0,
+        1,
+        253,
+        254,
+        255,
+        256,
+        largest - 1,
+        largest,
+        largest + 1,
+    ];
+    let distances: Vec<u32> = shifted
+        .into_iter()
+        .filter(|&result| above || result <= largest)
+        .filter_map(|result| u32::try_from(result - i64::from(by)).ok())
+        .collect();
+    (0..n)
+        .map(|_| match rng.below(3) {
+            0 => inline(rng),
+            _ => rng.pick(&distances),
+        })
+        .collect()
+}
+
+/// Distances of which exactly `k`, shifted, are in overflow, and `others` that are not, if there can
+/// be such.
+pub fn shifted_to(rng: &mut Rng, by: i32, k: usize, others: usize, spread: Spread) -> Vec<u32> {
+    /// The results are at most so far from the border of overflow.
+    const REACH: usize = 600;
+    let border = 255 - i64::from(by);
+    let others = if border > 0 { others } else { 0 };
+    let overflow = |rng: &mut Rng| (border.max(0) as usize + rng.below(REACH)) as u32;
+    let inline = |rng: &mut Rng| (border - 1 - rng.below(REACH) as i64).max(0) as u32;
+    placed(rng, k + others, k, spread, overflow, inline)
+}
+
 fn corner(rng: &mut Rng) -> u32 {
     rng.pick(&CORNERS)
 }

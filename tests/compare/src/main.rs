@@ -12,6 +12,7 @@ mod pairs;
 mod parts;
 mod routines;
 mod run;
+mod shifts;
 mod trial;
 mod writing;
 
@@ -23,5 +24,6 @@ fn main() {
     files::run_all(&mut run);
     writing::run_all(&mut run);
     pairs::run_all(&mut run);
+    shifts::run_all(&mut run);
     process::exit(run.conclude());
 }

@@ -4,6 +4,7 @@ use crate::call::capacities;
 use crate::judge::Judge;
 use crate::parts::Parts;
 use crate::run::Subject;
+use crate::shifts::SHIFTS;
 use crate::trial::Trial;
 use crate::writing;
 use compare::rng::Rng;
@@ -43,6 +44,8 @@ fn sound_file(trial: &mut Trial, rng: &mut Rng, summary: &Summary) {
         trial.lookup(slot);
     }
     lookup_lists(trial, rng, &inside, &beyond);
+    let by = rng.pick(&SHIFTS);
+    trial.shift(rng, by);
 }
 
 /// Calls whose own faults must not come before those of the file.
@@ -53,6 +56,8 @@ fn refused_file(trial: &mut Trial, rng: &mut Rng) {
     trial.lookup(u64::MAX);
     let (slots, capacity) = ([0, u64::MAX, rng.word()], rng.below(5));
     trial.lookup_list(rng, &slots, capacity);
+    let by = rng.pick(&SHIFTS);
+    trial.shift(rng, by);
 }
 
 /// Slots below n where a lookup may go wrong: both ends, random ones, and those about telling

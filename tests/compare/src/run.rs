@@ -11,7 +11,7 @@ const DEFAULT_SEED: u64 = 0x5043_4956_0000_0001;
 type Routine = (&'static str, u64, &'static [(u64, u64)]);
 
 /// What each routine can be refused with. Each must occur in a run.
-const ROUTINES: [Routine; 14] = [
+const ROUTINES: [Routine; 15] = [
     ("check", 1, &[]),
     ("lookup", 1, &[(9, 0)]),
     ("lookup_list", 1, &[(9, 0), (12, 0)]),
@@ -24,6 +24,7 @@ const ROUTINES: [Routine; 14] = [
     ("maximum", 2, &[(10, 0), (12, 0)]),
     ("sum_maps", 2, &[(10, 0), (11, 0), (12, 0)]),
     ("difference", 2, &[(10, 0), (12, 0)]),
+    ("shift", 1, &[(11, 0), (12, 0)]),
     ("signed_difference", 2, &[(10, 0), (12, 0)]),
     ("report", 0, &[(12, 0)]),
 ];

@@ -1,6 +1,6 @@
 //! Calls on one file.
 
-use crate::call::{summary_of, Call};
+use crate::call::{file_capacities, summary_of, Call};
 use crate::judge::Judge;
 use crate::lent::Lent;
 use compare::rng::Rng;
@@ -111,6 +111,21 @@ impl<'a> Trial<'a> {
             |out, count, refusal| raw::report(self.file.lent(), out, count, refusal),
         );
         self.settle(&call);
+    }
+
+    /// In buffers of several capacities.
+    pub fn shift(&mut self, rng: &mut Rng, by: i32) {
+        let answer = reference::shift(self.file.original(), by, self.judge.scratch());
+        for capacity in file_capacities(rng, &answer) {
+            let call = Call::new("shift", format!(" by {by}, capacity {capacity}"));
+            self.judge.file(
+                &call,
+                capacity,
+                |out| reference::shift(self.file.original(), by, out),
+                |out, summary, refusal| raw::shift(self.file.lent(), by, out, summary, refusal),
+            );
+            self.settle(&call);
+        }
     }
 
     fn settle(&mut self, call: &Call) {

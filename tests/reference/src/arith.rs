@@ -25,6 +25,17 @@ pub fn difference(a: &[u8], b: &[u8], out: &mut [u8]) -> Result<Summary, Refusal
     combine(a, b, out, |x, y| Some(x.saturating_sub(y)))
 }
 
+/// Each distance plus `by`, 0 where that would be negative, as a file to the front of `out`.
+/// Refusals 1 to 8, then 11, 12. Answers the summary of the result.
+pub fn shift(file: &[u8], by: i32, out: &mut [u8]) -> Result<Summary, Refusal> {
+    let map = Map::open(file)?;
+    let shifted = |distance| {
+        let sum = i64::from(distance) + i64::from(by);
+        u32::try_from(sum.max(0)).ok()
+    };
+    write_distances(map.distances().map(shifted), out)
+}
+
 /// The second file's distance less the first's at each slot, to the front of `out`. Refusals 1 to 8
 /// of either file, then 10, 12. Answers how many there are.
 pub fn signed_difference(a: &[u8], b: &[u8], out: &mut [i64]) -> Result<u64, Refusal> {

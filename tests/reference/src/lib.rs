@@ -15,7 +15,7 @@ mod map;
 mod report;
 mod write;
 
-pub use arith::{difference, maximum, minimum, signed_difference, sum_maps};
+pub use arith::{difference, maximum, minimum, shift, signed_difference, sum_maps};
 pub use layout::{file_len, index_len, index_step, HEADER_LEN, MAX_SLOTS, SENTINEL};
 pub use map::{check, decode, lookup, lookup_list, primary, readings, scan, sum, Map};
 pub use report::{report, report_text, MAX_INPUT};

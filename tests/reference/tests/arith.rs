@@ -2,7 +2,8 @@
 //! arithmetic on lists.
 
 use reference::{
-    decode, difference, encode, maximum, minimum, signed_difference, sum_maps, Refusal, Summary,
+    decode, difference, encode, maximum, minimum, shift, signed_difference, sum_maps, Refusal,
+    Summary,
 };
 
 const A: [u32; 4] = [0, 254, 255, 300];
@@ -112,6 +113,20 @@ fn sums_agree_with_plain_arithmetic() {
 }
 
 #[test]
+fn shifts_agree_with_plain_arithmetic() {
+    let shifts = [0, 1, 127, 254, 255, 300, i32::MAX];
+    for by in shifts.into_iter().flat_map(|by| [by, -by, -by - 1]) {
+        let shifted = CORNERS.map(|distance| i64::from(distance) + i64::from(by));
+        let expected = match shifted.iter().position(|&sum| sum > u32::MAX.into()) {
+            Some(slot) => Err(refused(11, 0, slot as u64)),
+            None => Ok(shifted.map(|sum| sum.max(0) as u32).to_vec()),
+        };
+        let file = encode(&CORNERS).unwrap();
+        assert_eq!(list_of(|out| shift(&file, by, out)), expected);
+    }
+}
+
+#[test]
 fn refusals_in_their_order() {
     let [a, b, longer] = [&A[..], &B, &[9; 5]].map(|list| encode(list).unwrap());
     let (bad_a, bad_b) = (&a[..39], &b[1..]);
@@ -123,6 +138,10 @@ fn refusals_in_their_order() {
     assert_eq!(refusal(&longer, &b), refused(10, 0, 0));
     assert_eq!(refusal(&a, &b), refused(11, 0, 3));
     assert_eq!(refusal(&a, &a), refused(12, 0, 0));
+    assert_eq!(out, [7; 3]);
+    assert_eq!(shift(bad_a, 1, &mut out), Err(refused(1, 1, 0)));
+    assert_eq!(shift(&b, 1, &mut out), Err(refused(11, 0, 3)));
+    assert_eq!(shift(&b, -1, &mut out), Err(refused(12, 0, 0)));
     assert_eq!(out, [7; 3]);
     let mut changes = [7; 3];
     let mut refusal = |a, b| signed_difference(a, b, &mut changes).unwrap_err();
