@@ -2,3 +2,7 @@ pub mod CloseLaws
 pub mod SearchLaws
 pub mod SoundLaws
 pub mod OutcomeLaws
+pub mod EntriesLaws
+pub mod StepLaws
+mod Again
+mod Rest

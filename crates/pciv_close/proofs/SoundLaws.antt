@@ -1,8 +1,7 @@
 -- The file of sound parts: its primary array is the bytes, and its overflow part the entries in their order.
 --   primary-close, overflowPart-close, overflowCount-close
 --                                these, for the parts that close is given
---   EntriesLeft                  the invariant of a loop that writes the entries: those from j on are left
---   entries-start, -more, -end   before the first entry, one entry on, after the last
+--   entries-start, -more, -end   writing them: before the first entry, one entry on, after the last
 use mathlib.Core.Path.{_≡_, refl, sym, ap, ap₂, _∙_}
 use Prim.Native.Nat.{ℕ, zero, suc, _+_, _-_, _*_, max, _≤_, _<_}
 use native.Mathlib.Nat.{add-zero, sub-zero, zero-add, max-eq-left}
@@ -18,7 +17,7 @@ use Rattle.pciv_format.specs.Layout.{at, primaryByte, primary, overflowCount, o
 use Rattle.pciv_format.specs.Parts.{Parts, valueOf, SoundParts}
 use Rattle.pciv_format.specs.Write.{closeParts}
 use Rattle.pciv_format.proofs.PartsLaws.{valueOf-slot, primaryByte-valueOf, overflowSlots-are, overflowCount-is}
-use Rattle.pciv_close.specs.Close.{entriesFrom}
+use Rattle.pciv_close.specs.Close.{entriesFrom, EntriesLeft}
 use Rattle.pciv_close.proofs.CloseLaws.{slot-is, lengths-same}
 
 -- ---- the parts of the file
@@ -74,11 +73,7 @@ module _ (bytes slots distances : List ℕ) (sound : SoundParts (closeParts byte
   pub overflowCount-close : length slots ≡ overflowCount (length bytes) (valueOf (closeParts bytes slots distances))
   overflowCount-close = sym (overflowCount-is (closeParts bytes slots distances) sound each ∙ k-is)
 
--- ---- a loop that writes k entries: d₀ had them all left, from `start` on; d has those from j on left
-
-pub record EntriesLeft (slot distance : ℕ → ℕ) (k start : ℕ) (d₀ : List ℕ) (j : ℕ) (d : List ℕ) : Type 0 where
-  pub size : length d ≡ length d₀
-  pub rest : sets d₀ start (entriesFrom slot distance 0 k) ≡ sets d (start + 12 * j) (entriesFrom slot distance j (k - j))
+-- ---- a loop that writes the entries
 
 module _ (slot distance : ℕ → ℕ) (k start : ℕ) (d₀ : List ℕ) where
   pub entries-start : EntriesLeft slot distance k start d₀ 0 d₀

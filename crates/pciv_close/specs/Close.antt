@@ -7,14 +7,16 @@
 --   EntriesRight P       every entry of P is right
 --   entriesFrom slot distance j c
 --                        the bytes of c entries from entry j on
+--   EntriesLeft          a loop that writes k entries: d₀ had them all left, from `start` on; d has those from j on left
 --   partsOutcome P capacity, partsBuffer P out
 --                        writing the file of sound parts: the answer, and the buffer
 -- Laws are in proofs/CloseLaws.antt, SearchLaws.antt and SoundLaws.antt. Axioms: none.
 use mathlib.Core.Path.{_≡_}
-use Prim.Native.Nat.{ℕ, _<_}
+use Prim.Native.Nat.{ℕ, _+_, _-_, _*_, _<_}
 use mathlib.Core.Bool.{Bool, false, not, _&&_, _||_}
 use mathlib.Core.List.{List, _++_}
 use lib.ListN.{length}
+use lib.Seq.{sets}
 use lib.Dec.{ltb, leb, eqb}
 use Rattle.pciv_bytes.specs.Ranges.{firstBelow, table, joined}
 use Rattle.pciv_bytes.specs.LittleEndian.{le}
@@ -40,6 +42,10 @@ EntriesRight P = (j : ℕ) → j < P .k → badEntry P j ≡ false
 
 unfoldable pub entriesFrom : (ℕ → ℕ) → (ℕ → ℕ) → ℕ → ℕ → List ℕ
 entriesFrom slot distance j c = joined (λ (i : ℕ). le 8 (slot i) ++ le 4 (distance i)) (table (λ (i : ℕ). i) j c)
+
+pub record EntriesLeft (slot distance : ℕ → ℕ) (k start : ℕ) (d₀ : List ℕ) (j : ℕ) (d : List ℕ) : Type 0 where
+  pub size : length d ≡ length d₀
+  pub rest : sets d₀ start (entriesFrom slot distance 0 k) ≡ sets d (start + 12 * j) (entriesFrom slot distance j (k - j))
 
 abbrev pub partsOutcome : Parts → ℕ → Outcome Summary
 partsOutcome P capacity = fileInto (P .n) (valueOf P) capacity

@@ -4,7 +4,8 @@ use Prim.Native.Nat.{_-_}
 use native.Mathlib.Omega.{arith}
 use lib.ListN.{length}
 use Rattle.pciv_format.specs.Layout.{at}
-use Rattle.pciv_close.proofs.SoundLaws.{EntriesLeft, entries-start, entries-more, entries-end}
+use Rattle.pciv_close.specs.Close.{EntriesLeft}
+use Rattle.pciv_close.proofs.SoundLaws.{entries-start, entries-more, entries-end}
 use borrow.Author.Needs.{needs}
 use Rattle.pciv_close.proofs.put_entries.Statement.{statement}
 use Rattle.pciv_close.proofs.put_entries.Tie as tie
