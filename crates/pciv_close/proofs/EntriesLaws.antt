@@ -129,8 +129,7 @@ module _ (bytes : List ℕ) (call : Call) where
       module _ (good : wrongEntry bytes (job .lowest) (e .slot) (e .distance) ≡ false) where
         pub checking-inside : e .slot < length bytes
         checking-inside =
-            omega
-            (
+            omega (
               arith,
               goodEntry-of-test (partsOf bytes (call .entries)) (job .next) (tested ∙ good) .inside,
               slot-is-next,
@@ -227,8 +226,7 @@ module _ (bytes : List ℕ) (call : Call) where
     module _ (each : Bytes bytes) (out : List ℕ) (c : Writing bytes call job out) where
       pub writing-few : k ≤ length bytes
       writing-few =
-          omega
-          (
+          omega (
             arith,
             count-sound bytes (call .entries) (c .sound) each,
             overflowCount-le (length bytes) (valueOf (partsOf bytes (call .entries))),

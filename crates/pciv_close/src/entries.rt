@@ -153,7 +153,12 @@ fn write_next(out: &mut [u8], primary: &[u8], k: usize, job: Job, e: Entry) -> J
     ensures { λ r. ⌜ Advances (now (primary .entry)) k job e (now (out .entry)) r (now (out .exit)) ⌝ }
 {
     let n = primary.len();
-    put_entry(out, HEADER_LEN + n + 12 * job.next, e.slot as usize, e.distance);
+    put_entry(
+        out,
+        HEADER_LEN + n + 12 * job.next,
+        e.slot as usize,
+        e.distance,
+    );
     let then = onward(job, k, 0);
     if then.next < k {
         return then;

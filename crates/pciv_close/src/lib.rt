@@ -2,6 +2,7 @@
 // One pass over the entries and a count of the bytes 255 decide refusals 6 and 7; only where the count is off
 // does a search between the entries look for the least slot without one. Then the file is written.
 pub mod entries;
+
 ghost use mathlib.Core.Path.{_≡_};
 ghost use Prim.Native.Nat.{_+_, _*_, min, max, _≤_};
 ghost use lib.ListN.{length};

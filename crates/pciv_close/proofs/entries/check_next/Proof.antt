@@ -54,11 +54,10 @@ add-onward : tie.Need-add-onward
 add-onward c =
     let s = c .before .before .before .before in
     let p = s .pre .0 in
-    omega
-    (
+    omega (
       arith,
       checking-inside (s .args .primary .now) (p .0) (s .args .k) (s .args .job) (s .args .e) (p .1) (s .args .out .now)
-      (checking s (p .0) (p .1) (p .2)) (good c),
+          (checking s (p .0) (p .1) (p .2)) (good c),
     )
 
 onward-requires : tie.Need-onward-requires
@@ -80,10 +79,11 @@ checked-requires c κs =
     let l = c .before in
     let g = l .before .before .before in
     let s = g .before .before .before .before in
-    let p = s .pre .0 in
-    (p .0,
-    checking-all (s .args .primary .now) (p .0) (s .args .k) (s .args .job) (s .args .e) (p .1) (s .args .out .now)
-    (checking s (p .0) (p .1) (p .2)) (good g) (last l))
+    let p = s .pre .0 in (
+      p .0,
+      checking-all (s .args .primary .now) (p .0) (s .args .k) (s .args .job) (s .args .e) (p .1) (s .args .out .now)
+          (checking s (p .0) (p .1) (p .2)) (good g) (last l),
+    )
 
 same-length : tie.Need-same-length
 same-length c = search needs

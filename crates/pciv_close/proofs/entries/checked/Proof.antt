@@ -13,10 +13,11 @@ count-byte-requires c κs = search needs
 open-requires : tie.Need-open-requires
 open-requires c κs =
     let t = c .before in
-    let s = t .before .before .before .before in
-    (s .pre .0,
-    right-sound (s .args .primary .now) (s .pre .0) (s .args .k) (s .args .out .now) (s .pre .1)
-    (sym (t .before .count-byte .ensures) ∙ t .if1 .taken))
+    let s = t .before .before .before .before in (
+      s .pre .0,
+      right-sound (s .args .primary .now) (s .pre .0) (s .args .k) (s .args .out .now) (s .pre .1)
+          (sym (t .before .count-byte .ensures) ∙ t .if1 .taken),
+    )
 
 same-length : tie.Need-same-length
 same-length c = search needs
@@ -39,7 +40,7 @@ returns-2 c =
     let s = c .before .before .before .before .before in
     λ call a. (
       doing-going (s .args .primary .now) call _ _ (omega (arith, a .count, a .more))
-      (right-search (s .args .primary .now) call (s .args .k) (s .args .out .now) a _ refl refl),
+          (right-search (s .args .primary .now) call (s .args .k) (s .args .out .now) a _ refl refl),
       omega arith,
     )
 

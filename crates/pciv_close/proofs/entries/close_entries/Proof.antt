@@ -77,9 +77,10 @@ use Rattle.pciv_close.proofs.entries.close_entries.Code as code
 use Rattle.pciv_close.proofs.entries.close_entries.Code.Mir as mir
 
 abbrev stayed : Stays (close-entries.ended .signature .params) (close-entries.ended .kept)
-stayed =
-    (stay-none-slice (0 ∷ []) tt (plain (λ _. u8)) yes,
-    (stay-none-slice (1 ∷ []) tt (plain (λ _. T.the-row)) yes, (stay-slice (2 ∷ []) tt (plain (λ _. u8)), tt)))
+stayed = (
+  stay-none-slice (0 ∷ []) tt (plain (λ _. u8)) yes,
+  (stay-none-slice (1 ∷ []) tt (plain (λ _. T.the-row)) yes, (stay-slice (2 ∷ []) tt (plain (λ _. u8)), tt)),
+)
 
 -- the machine values of an entry, a job and an answer
 abbrev vals : Entry → List Val

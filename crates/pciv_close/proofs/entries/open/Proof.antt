@@ -58,7 +58,7 @@ returns c =
     let refusal = fileAnswer-refused _ (u .begun .given .0 .0) (sym (u .begun .given .1) ∙ b .begin .ensures .0) in
     λ call sound. (
       doing-ended (a .primary .now) call (a .k) _ (c .ended .result) _ (sound .count) (c .ended .ensures)
-      (sound-refused (a .primary .now) call (a .k) (a .out .now) (bytes p) sound _ _ refusal (b .begin .ensures .1)),
+          (sound-refused (a .primary .now) call (a .k) (a .out .now) (bytes p) sound _ _ refusal (b .begin .ensures .1)),
       rw (c .ended .ensures) (omega arith),
     )
 
@@ -74,8 +74,8 @@ returns-2 c =
     let a = p .before .before .args in
     λ call sound. (
       doing-going (a .primary .now) call _ _ (omega (arith, sound .count, sound .more))
-      (sound-begun (a .primary .now) call (a .k) (a .out .now) (bytes p) sound _ (b .begin .last .0) _ _ (begun-done o)
-      (b .begin .ensures .1) (y .copy-bytes .ensures) refl refl),
+          (sound-begun (a .primary .now) call (a .k) (a .out .now) (bytes p) sound _ (b .begin .last .0) _ _ (begun-done o)
+          (b .begin .ensures .1) (y .copy-bytes .ensures) refl refl),
       omega arith,
     )
 

@@ -106,11 +106,12 @@ open-requires c κs =
     let f = g .before in
     let s = f .before .before .before in
     let a = s .args in
-    let p = s .pre .0 in
-    (p .0,
-    searching-none (a .primary .now) (p .0) (a .k) (a .job) (a .e) (p .1) (a .out .now) (searching s (p .0) (p .1) (p .2))
-    (f .first-full .result) (f .first-full .ensures) (g .if1 .left) (over l) (z .first-full2 .result) (z .first-full2 .ensures)
-    (t .if3 .left))
+    let p = s .pre .0 in (
+      p .0,
+      searching-none (a .primary .now) (p .0) (a .k) (a .job) (a .e) (p .1) (a .out .now) (searching s (p .0) (p .1) (p .2))
+          (f .first-full .result) (f .first-full .ensures) (g .if1 .left) (over l) (z .first-full2 .result) (z .first-full2 .ensures)
+          (t .if3 .left),
+    )
 
 same-length : tie.Need-same-length
 same-length c = search needs

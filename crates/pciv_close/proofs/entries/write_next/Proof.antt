@@ -68,12 +68,10 @@ finish-requires c κs =
     let s = p .before .before in
     let a = s .args in
     let q = s .pre .0 in
-    let w = writing s (q .0) (q .1) (q .2) in
-    (
+    let w = writing s (q .0) (q .1) (q .2) in (
       w .few,
       writing-few (a .primary .now) (q .0) (a .k) (a .job) (a .e) (q .1) (bytes p) (a .out .now) w,
-      omega
-      (
+      omega (
         arith,
         writing-fits (a .primary .now) (q .0) (a .k) (a .job) (a .e) (q .1) (bytes p) (a .out .now) w,
         y .put-entry .kept .0,
