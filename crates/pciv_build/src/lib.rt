@@ -24,7 +24,7 @@ use pciv_format::Refusal;
 use pciv_format::Summary;
 
 // The summary of a file with n slots and k overflow entries.
-fn counts(n: usize, k: usize) -> Summary
+pub fn counts(n: usize, k: usize) -> Summary
     requires { ⌜ (n ≤ maxSlots) × (k ≤ n) ⌝ }
     ensures { λ r. ⌜ r ≡ countsOf n k ⌝ }
 {

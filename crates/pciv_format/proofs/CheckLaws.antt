@@ -125,12 +125,24 @@ pub accepted-length : (b : List ℕ) (n k : ℕ) (s : Summary) → Accepted othe
 accepted-length b n k s a = not-eqb (length b) (fileLen n k) (a .right)
 
 -- the same facts at the counts of a summary
-pub done-counts : (mp : ℕ) (b : List ℕ) (s : Summary) → checkFile mp b ≡ done s
-    → CheckedMap b (s .n) (s .k) × (length b ≡ fileLen (s .n) (s .k)) × (s ≡ countsOf (s .n) (s .k))
+accepted-counts : (wrong : ℕ → ℕ → Bool) (b : List ℕ) (s : Summary) → Accepted wrong b (nField b) (kField b) s
+    → Accepted wrong b (s .n) (s .k) s
 unfolding countsOf
-done-counts mp b s e =
-    let a = done-checkFile mp b s e in
+accepted-counts wrong b s a =
     let q = a .counts in
     let n : s .n ≡ nField b = ap (λ (z : Summary). z .n) q in
     let k : s .k ≡ kField b = ap (λ (z : Summary). z .k) q in
-    (rw (n, k) (a .checked), rw (n, k) (accepted-length b (nField b) (kField b) s a), q ∙ ap₂ countsOf (sym n) (sym k))
+    record {
+      checked = rw (n, k) (a .checked);
+      right = rw (n, k) (a .right);
+      counts = q ∙ ap₂ countsOf (sym n) (sym k);
+    }
+
+pub done-counts : (mp : ℕ) (b : List ℕ) (s : Summary) → checkFile mp b ≡ done s
+    → CheckedMap b (s .n) (s .k) × (length b ≡ fileLen (s .n) (s .k)) × (s ≡ countsOf (s .n) (s .k))
+done-counts mp b s e =
+    let a = accepted-counts otherLength b s (done-checkFile mp b s e) in
+    (a .checked, accepted-length b (s .n) (s .k) s a, a .counts)
+
+pub done-buffer : (mp : ℕ) (b : List ℕ) (s : Summary) → checkBuffer mp b ≡ done s → CheckedMap b (s .n) (s .k)
+done-buffer mp b s e = accepted-counts ltb b s (done-checkWith ltb (λ len l q. ltb-false len l q) mp b s e) .checked

@@ -4,7 +4,7 @@
 --   file-overflow    both in overflow: the four distance bytes of the slot's entry
 --   entries-in       into overflow: the entry of s is put in behind p entries
 --   entries-out      out of overflow: it is taken out
---   count-in         into overflow: one entry more;  count-below  p is at most k
+--   count-in         into overflow: one entry more;  count-stays  else as many;  count-below  p is at most k
 use mathlib.Core.Path.{_≡_, refl, sym, ap, ap₂, _∙_}
 use Prim.Native.Nat.{ℕ, zero, suc, _+_, _-_, _*_, _≤_, _<_}
 use native.Mathlib.Nat.{zero-add}
@@ -168,6 +168,10 @@ module _ (n : ℕ) (v w : ℕ → ℕ) (s : ℕ) (inside : s < n) (same : (i : �
   -- the slots in overflow stay where s stays inline, or in overflow
   slots-stay : inOverflow (v s) ≡ inOverflow (w s) → overflowSlots n v ≡ overflowSlots n w
   slots-stay e = around v ∙ ap₂ (λ (a b : List ℕ). a ++ b) below-same (ap₂ (λ (c : Bool) (l : List ℕ). keepIf c s l) e above-same) ∙ sym (around w)
+
+  pub count-stays : inOverflow (v s) ≡ inOverflow (w s) → overflowCount n w ≡ overflowCount n v
+  unfolding overflowCount
+  count-stays e = ap length (sym (slots-stay e))
 
   -- ---- both inline
 

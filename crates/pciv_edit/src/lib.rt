@@ -1,0 +1,33 @@
+// The editor (docs/FORMAT.md, "The editor"): one slot of the file at the front of the caller's buffer gets a new
+// distance, in place. What it answers and leaves is defined in pciv_format, specs/Edit.antt.
+mod change;
+mod checked;
+
+ghost use mathlib.Core.Path.{_≡_};
+ghost use Rattle.pciv_format.specs.Edit.{editOutcome, editAnswer, editBuffer};
+use crate::checked::edit_checked;
+use pciv_check::check_buffer;
+use pciv_format::EditAnswer;
+use pciv_format::FileAnswer;
+
+// Sets the slot to the distance, and answers the new file's summary. Refusals: 1 to 8, with map 1 and 5 only where the
+// buffer is shorter than the file; then 9 and 12. Only the new file's length is compared with the buffer.
+// A refused call changes no byte. Where the file gets shorter, what it leaves becomes 0; bytes past both files stay.
+pub fn edit(buffer: &mut [u8], slot: usize, distance: u32) -> EditAnswer
+    ensures answer { λ r. ⌜ r ≡ editAnswer (editOutcome (now (buffer .entry)) (record { slot = slot; distance = distance })) ⌝ }
+    ensures buffer { λ _. ⌜ now (buffer .exit) ≡ editBuffer (now (buffer .entry)) (record { slot = slot; distance = distance }) ⌝ }
+{
+    let checked = check_buffer(buffer, 1);
+    match checked {
+        FileAnswer::Refused(r) => EditAnswer {
+            outcome: FileAnswer::Refused(r),
+        },
+        FileAnswer::Done(s) => {
+            let n = s.n;
+            let k = s.k;
+            EditAnswer {
+                outcome: edit_checked(buffer, n, k, slot, distance),
+            }
+        }
+    }
+}
