@@ -16,7 +16,7 @@ use lib.Dec.{leb, ltb, eqb}
 use borrow.Author.Tests.{lt-ltb, le-ltb, eqb-true, eqb-false}
 use Rattle.pciv_bytes.specs.LittleEndian.{le, Bytes}
 use Rattle.pciv_bytes.proofs.LittleEndianLaws.{length-le}
-use Rattle.pciv_bytes.proofs.WriteLaws.{sets-append, sets-front, set-sets}
+use Rattle.pciv_bytes.proofs.WriteLaws.{sets-append, sets-front, set-before-sets}
 use Rattle.pciv_format.specs.Layout.{fileLen, primaryByte, primary, overflowSlots, overflowCount, overflowEntry, overflowPart, indexPart, header, file, at, fileOf}
 use Rattle.pciv_format.specs.Check.{fileParts}
 use Rattle.pciv_format.specs.Refusals.{done}
@@ -36,7 +36,7 @@ use Rattle.pciv_edit.proofs.CaseLaws.{held, holds, new-at, others, file
 pub sets-swap : (e x d : List ℕ) (i j : ℕ) → i + length e ≤ j → sets (sets d j x) i e ≡ sets (sets d i e) j x
 sets-swap [] x d i j h = refl
 sets-swap (a ∷ e) x d i j h =
-    ap (λ (l : List ℕ). sets l (suc i) e) (set-sets x d i j a (omega arith))
+    ap (λ (l : List ℕ). sets l (suc i) e) (set-before-sets x d i j a (omega arith))
     ∙ sets-swap e x (set d i a) (suc i) j (omega arith)
 
 -- d₁: what stands from `from` on, moved; d₂: an entry written there
