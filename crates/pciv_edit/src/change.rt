@@ -40,7 +40,14 @@ fn take_out(buffer: &mut [u8], n: usize, k: usize, j: usize, slot: usize, distan
 }
 
 // The one or the other, by the distance.
-pub fn change_entries(buffer: &mut [u8], n: usize, k: usize, j: usize, slot: usize, distance: u32)
+pub(crate) fn change_entries(
+    buffer: &mut [u8],
+    n: usize,
+    k: usize,
+    j: usize,
+    slot: usize,
+    distance: u32,
+)
     requires { ⌜ Changes (length (now buffer)) n k j slot distance ⌝ }
     ensures { λ _. ⌜ now (buffer .exit) ≡ changed (now (buffer .entry)) n k j slot distance ⌝ }
 {
@@ -62,7 +69,7 @@ fn clear_freed(buffer: &mut [u8], len: usize, old: usize)
 }
 
 // The index of the `count` entries that stand there now, and zeros where the file of k entries was longer.
-pub fn finish_change(buffer: &mut [u8], n: usize, k: usize, count: usize)
+pub(crate) fn finish_change(buffer: &mut [u8], n: usize, k: usize, count: usize)
     requires { ⌜ (n ≤ maxSlots) × (k ≤ n) × (count ≤ n) ⌝ }
     requires { ⌜ (fileLen n k ≤ length (now buffer)) × (fileLen n count ≤ length (now buffer)) ⌝ }
     ensures { λ _. ⌜ now (buffer .exit) ≡ sets (sets (now (buffer .entry)) (40 + n + 12 * count) (indexFrom (now (buffer .entry)) n count)) (fileLen n count) (replicate (fileLen n k - fileLen n count) 0) ⌝ }

@@ -82,7 +82,13 @@ fn cross(
 }
 
 // One edit, with no check of the file: refusals 9, then 12.
-pub fn edit_checked(buffer: &mut [u8], n: usize, k: usize, slot: usize, distance: u32) -> FileAnswer
+pub(crate) fn edit_checked(
+    buffer: &mut [u8],
+    n: usize,
+    k: usize,
+    slot: usize,
+    distance: u32,
+) -> FileAnswer
     requires { ⌜ CheckedMap (now buffer) n k ⌝ }
     ensures answer { λ r. ⌜ r ≡ fileAnswer (editOutcome (now (buffer .entry)) (record { slot = slot; distance = distance })) ⌝ }
     ensures buffer { λ _. ⌜ now (buffer .exit) ≡ editBuffer (now (buffer .entry)) (record { slot = slot; distance = distance }) ⌝ }
