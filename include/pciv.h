@@ -1,5 +1,5 @@
 /*
- * pciv.h - reading, writing and combining PCIV depth maps
+ * pciv.h - reading, writing, combining and editing PCIV depth maps
  *
  * A PCIV file stores a map: a list of 0 to 1,048,576 distances in whole centimetres, 32 bits each,
  * one for each slot. docs/FORMAT.md describes the layout, the rules and the terms used here.
@@ -17,8 +17,9 @@
  *   - Results are written only when the call is done. After a refusal every other byte of the
  *     caller is unchanged. What follows a result in a longer buffer is unchanged too, and so is
  *     what a call only reads.
- *   - A call checks each whole file it is given, which must be exactly as long as its header says.
- *     A fault of a file is refused before a fault of the call.
+ *   - A call checks each whole file it is given, which must be exactly as long as its header says;
+ *     bytes may follow it only in a buffer to be edited. A fault of a file is refused before a fault
+ *     of the call.
  *   - Nothing is allocated or kept between calls; calls may run in parallel.
  *
  * For x86-64 only (System V calling convention): size_t has 64 bits.
@@ -50,7 +51,8 @@ enum pciv_refusal_number {
     PCIV_BAD_MAGIC = 2,              /* the first eight bytes are not "PCIV" and four zeros */
     PCIV_TOO_MANY_SLOTS = 3,         /* n is above 1,048,576 */
     PCIV_BAD_COUNTS = 4,             /* k is above n, or step or m is not the one that k gives */
-    PCIV_BAD_LENGTH = 5,             /* the file is not as long as n, k and m say */
+    PCIV_BAD_LENGTH = 5,             /* the file is not as long as n, k and m say; for a buffer to be
+                                        edited, the buffer is shorter than that */
     PCIV_BAD_OVERFLOW_ENTRY = 6,     /* an overflow entry's slot is n or more or not above the one
                                         before, its distance is below 255, or the primary byte of
                                         its slot is not 255; place: the least such entry */
@@ -227,6 +229,145 @@ uint64_t pciv_shift(const uint8_t *file, size_t file_len, int32_t by, uint8_t *o
 uint64_t pciv_signed_difference(const uint8_t *a, size_t a_len, const uint8_t *b, size_t b_len,
                                 int64_t *out, size_t out_len, uint64_t *count,
                                 pciv_refusal *refusal);
+
+/* ---- Masks ------------------------------------------------------------------------------------
+ *
+ * A mask of n slots is PCIV_MASK_LEN(n) words of 64 bits: slot i is bit i % 64 of word i / 64, the
+ * lowest bit first, and bits past n are 0.
+ */
+#define PCIV_MASK_LEN(n) ((n) / 64 + ((n) % 64 != 0))
+
+/* The mask of the slots whose distance is below t.
+   Refusals: 1 to 8, then 12 where out_len is below PCIV_MASK_LEN(n).
+   When done the first PCIV_MASK_LEN(n) words of out are the mask, the words behind it are
+   unchanged, and *count is PCIV_MASK_LEN(n). After a refusal out and *count are unchanged. */
+uint64_t pciv_mask_below(const uint8_t *file, size_t file_len, uint32_t t, uint64_t *out,
+                         size_t out_len, uint64_t *count, pciv_refusal *refusal);
+
+/* The mask of the slots whose distance is at most t; as pciv_mask_below. */
+uint64_t pciv_mask_at_most(const uint8_t *file, size_t file_len, uint32_t t, uint64_t *out,
+                           size_t out_len, uint64_t *count, pciv_refusal *refusal);
+
+/* The mask of the slots whose distance is above t; as pciv_mask_below. */
+uint64_t pciv_mask_above(const uint8_t *file, size_t file_len, uint32_t t, uint64_t *out,
+                         size_t out_len, uint64_t *count, pciv_refusal *refusal);
+
+/* The mask of the slots whose distance is at least t; as pciv_mask_below. */
+uint64_t pciv_mask_at_least(const uint8_t *file, size_t file_len, uint32_t t, uint64_t *out,
+                            size_t out_len, uint64_t *count, pciv_refusal *refusal);
+
+/* The near mask at t: the slots whose distance is at most t; as pciv_mask_below. */
+uint64_t pciv_near_mask(const uint8_t *file, size_t file_len, uint32_t t, uint64_t *out,
+                        size_t out_len, uint64_t *count, pciv_refusal *refusal);
+
+/* The slots in both of two masks of n slots.
+   Refusals: 3 with map 1 where n is above 1,048,576; 13 where a or b is no mask of n slots; then 12
+   where out_len is below PCIV_MASK_LEN(n).
+   When done the first PCIV_MASK_LEN(n) words of out are the mask, the words behind it are
+   unchanged, and *count is PCIV_MASK_LEN(n). After a refusal out and *count are unchanged. */
+uint64_t pciv_mask_and(size_t n, const uint64_t *a, size_t a_len, const uint64_t *b, size_t b_len,
+                       uint64_t *out, size_t out_len, uint64_t *count, pciv_refusal *refusal);
+
+/* The slots in at least one of two masks; as pciv_mask_and. */
+uint64_t pciv_mask_or(size_t n, const uint64_t *a, size_t a_len, const uint64_t *b, size_t b_len,
+                      uint64_t *out, size_t out_len, uint64_t *count, pciv_refusal *refusal);
+
+/* The slots in exactly one of two masks; as pciv_mask_and. */
+uint64_t pciv_mask_xor(size_t n, const uint64_t *a, size_t a_len, const uint64_t *b, size_t b_len,
+                       uint64_t *out, size_t out_len, uint64_t *count, pciv_refusal *refusal);
+
+/* The slots that are not in a mask of n slots; refusals and buffers as pciv_mask_and. */
+uint64_t pciv_mask_not(size_t n, const uint64_t *mask, size_t mask_len, uint64_t *out,
+                       size_t out_len, uint64_t *count, pciv_refusal *refusal);
+
+/* The number of slots in a mask of n slots: its set bits.
+   Refusals: 3 with map 1 where n is above 1,048,576, then 13 where mask is no mask of n slots.
+   When done *count holds it; after a refusal it is unchanged. */
+uint64_t pciv_set_bits(size_t n, const uint64_t *mask, size_t mask_len, uint64_t *count,
+                       pciv_refusal *refusal);
+
+/* The file of a mask of n slots as a map: distance 1 where the mask is 1, else 0.
+   Refusals: 3 with map 1 where n is above 1,048,576; 13 where mask is no mask of n slots; then 12
+   where the file is longer than out_len.
+   When done the first summary->len bytes of out are the file, the bytes behind it are unchanged,
+   and *summary is its summary. After a refusal out and *summary are unchanged. */
+uint64_t pciv_map_of_mask(size_t n, const uint64_t *mask, size_t mask_len, uint8_t *out,
+                          size_t out_len, pciv_summary *summary, pciv_refusal *refusal);
+
+/* The file of a map whose distances stay where the mask is 1 and become 0 elsewhere.
+   Refusals: 1 to 8; 13 where mask is no mask of n slots; then 12 where the result is longer than
+   out_len.
+   When done the first summary->len bytes of out are the result, the bytes behind it are unchanged,
+   and *summary is its summary. After a refusal out and *summary are unchanged. */
+uint64_t pciv_keep_masked(const uint8_t *file, size_t file_len, const uint64_t *mask,
+                          size_t mask_len, uint8_t *out, size_t out_len, pciv_summary *summary,
+                          pciv_refusal *refusal);
+
+/* The file of a map whose distances are one more where the mask is 1.
+   Refusals: 1 to 8; 13 where mask is no mask of n slots; 11 where a distance would be above
+   4,294,967,295, with the least such slot as place; then 12 where the result is longer than
+   out_len.
+   Buffers as pciv_keep_masked. */
+uint64_t pciv_increment_masked(const uint8_t *file, size_t file_len, const uint64_t *mask,
+                               size_t mask_len, uint8_t *out, size_t out_len,
+                               pciv_summary *summary, pciv_refusal *refusal);
+
+/* ---- Comparison figures -----------------------------------------------------------------------
+ *
+ * A figure is the quotient of two whole numbers of at most 2^53, rounded once to the nearest double;
+ * 0.0 where the divisor is 0.
+ */
+
+/* Bray-Curtis: the sum of |a - b| over all slots, divided by the sum of a + b.
+   Refusals: 1 to 8 of a, 1 to 8 of b, then 10 where the maps differ in n.
+   When done *figure holds it; after a refusal it is unchanged. */
+uint64_t pciv_bray_curtis(const uint8_t *a, size_t a_len, const uint8_t *b, size_t b_len,
+                          double *figure, pciv_refusal *refusal);
+
+/* Threshold Jaccard: the number of slots at t or above in exactly one map, divided by the number of
+   those at t or above in either; refusals and figure as pciv_bray_curtis. */
+uint64_t pciv_jaccard(const uint8_t *a, size_t a_len, const uint8_t *b, size_t b_len, uint32_t t,
+                      double *figure, pciv_refusal *refusal);
+
+/* ---- Editing ----------------------------------------------------------------------------------
+ *
+ * A buffer to be edited has a file at its front and any bytes behind it. 32,808 + 13n bytes have
+ * space for any file of n slots.
+ */
+
+/* Sets a slot of the file at the front of buffer to a distance, in place.
+   Refusals: 1 to 8, where 5 means that buffer_len is below the file's length; 9; then 12 where the
+   new file is longer than buffer_len. One overflow entry fewer may need a longer file.
+   When done the front of buffer is the file of the edited list, byte for byte the one that
+   pciv_write writes, and *summary is its summary. Where it is shorter than before, the bytes up to
+   the old length are 0; bytes past both lengths are unchanged. After a refusal buffer and *summary
+   are unchanged. */
+uint64_t pciv_edit(uint8_t *buffer, size_t buffer_len, uint64_t slot, uint32_t distance,
+                   pciv_summary *summary, pciv_refusal *refusal);
+
+/* The answer to one edit of a list: the refusal is all zero where the edit was made, and the summary
+   where it was refused. */
+typedef struct {
+    pciv_refusal refusal;
+    pciv_summary summary;
+} pciv_edit_answer;
+
+/* How many numbers of 64 bits a pciv_edit_answer has. */
+#define PCIV_ANSWER_LEN 8
+
+/* Makes a list of edits on one buffer, in order: slots[j] gets distances[j]. The file is checked
+   once. An edit that is refused (9 or 12, with place 0) changes nothing, and those after it are
+   made.
+   Refusals of the call: 1 to 8 as pciv_edit; 9 where the lists differ in length, with the first
+   position that only one of them has as place; then 12 where answers_len is below PCIV_ANSWER_LEN
+   times the number of edits.
+   When done buffer is as calls of pciv_edit in this order leave it, the first PCIV_ANSWER_LEN times
+   slots_len elements of answers are their answers, each laid out as a pciv_edit_answer, the
+   elements behind them are unchanged, and *count is slots_len. After a refusal of the call buffer,
+   answers and *count are unchanged. */
+uint64_t pciv_edit_list(uint8_t *buffer, size_t buffer_len, const uint64_t *slots, size_t slots_len,
+                        const uint32_t *distances, size_t distances_len, uint64_t *answers,
+                        size_t answers_len, uint64_t *count, pciv_refusal *refusal);
 
 /* ---- Report ----------------------------------------------------------------------------------- */
 

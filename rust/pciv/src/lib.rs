@@ -1,4 +1,4 @@
-//! Reading, writing and combining PCIV depth maps with the verified library, over slices.
+//! Reading, writing, combining and editing PCIV depth maps with the verified library, over slices.
 //!
 //! A PCIV file stores a list of 0 to 1,048,576 distances in centimetres; `docs/FORMAT.md` describes
 //! it. Every function checks each whole file it is given first, and answers a [`Refusal`] where the
@@ -20,12 +20,21 @@
 //! ```
 
 mod arith;
+mod edit;
+mod figures;
+mod mask;
 pub mod raw;
 mod read;
 mod refusal;
 mod write;
 
 pub use arith::{difference, maximum, minimum, shift, signed_difference, sum_maps};
+pub use edit::{edit, edit_list, EditAnswer, ANSWER_LEN};
+pub use figures::{bray_curtis, jaccard};
+pub use mask::{
+    increment_masked, keep_masked, map_of_mask, mask_above, mask_and, mask_at_least, mask_at_most,
+    mask_below, mask_len, mask_not, mask_or, mask_xor, near_mask, set_bits,
+};
 pub use read::{check, lookup, lookup_list, primary, readings, report, scan, sum};
 pub use refusal::Refusal;
 pub use write::{close, write};

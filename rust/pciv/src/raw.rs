@@ -6,7 +6,8 @@
 
 #![allow(unsafe_code)]
 
-use crate::{Refusal, Summary};
+use crate::{EditAnswer, Refusal, Summary, ANSWER_LEN};
+use std::slice;
 
 mod c {
     use crate::{Refusal, Summary};
@@ -95,6 +96,68 @@ mod c {
             count: *mut u64,
             refusal: *mut Refusal,
         ) -> u64;
+        pub fn pciv_mask_not(
+            n: u64,
+            mask: *const u64,
+            mask_len: usize,
+            out: *mut u64,
+            out_len: usize,
+            count: *mut u64,
+            refusal: *mut Refusal,
+        ) -> u64;
+        pub fn pciv_set_bits(
+            n: u64,
+            mask: *const u64,
+            mask_len: usize,
+            count: *mut u64,
+            refusal: *mut Refusal,
+        ) -> u64;
+        pub fn pciv_map_of_mask(
+            n: u64,
+            mask: *const u64,
+            mask_len: usize,
+            out: *mut u8,
+            out_len: usize,
+            summary: *mut Summary,
+            refusal: *mut Refusal,
+        ) -> u64;
+        pub fn pciv_bray_curtis(
+            a: *const u8,
+            a_len: usize,
+            b: *const u8,
+            b_len: usize,
+            figure: *mut f64,
+            refusal: *mut Refusal,
+        ) -> u64;
+        pub fn pciv_jaccard(
+            a: *const u8,
+            a_len: usize,
+            b: *const u8,
+            b_len: usize,
+            t: u32,
+            figure: *mut f64,
+            refusal: *mut Refusal,
+        ) -> u64;
+        pub fn pciv_edit(
+            buffer: *mut u8,
+            buffer_len: usize,
+            slot: u64,
+            distance: u32,
+            summary: *mut Summary,
+            refusal: *mut Refusal,
+        ) -> u64;
+        pub fn pciv_edit_list(
+            buffer: *mut u8,
+            buffer_len: usize,
+            slots: *const u64,
+            slots_len: usize,
+            distances: *const u32,
+            distances_len: usize,
+            answers: *mut u64,
+            answers_len: usize,
+            count: *mut u64,
+            refusal: *mut Refusal,
+        ) -> u64;
         pub fn pciv_report(
             input: *const u8,
             input_len: usize,
@@ -124,6 +187,67 @@ mod c {
     }
 
     combining_calls!(pciv_minimum pciv_maximum pciv_sum_maps pciv_difference);
+
+    /// The calls that make a mask of a file.
+    macro_rules! selecting_calls {
+        ($($name:ident)*) => {
+            extern "C" {
+                $(pub fn $name(
+                    file: *const u8,
+                    file_len: usize,
+                    t: u32,
+                    out: *mut u64,
+                    out_len: usize,
+                    count: *mut u64,
+                    refusal: *mut Refusal,
+                ) -> u64;)*
+            }
+        };
+    }
+
+    selecting_calls!(pciv_mask_below pciv_mask_at_most pciv_mask_above pciv_mask_at_least);
+    selecting_calls!(pciv_near_mask);
+
+    /// The calls that combine two masks into a third.
+    macro_rules! mask_calls {
+        ($($name:ident)*) => {
+            extern "C" {
+                $(pub fn $name(
+                    n: u64,
+                    a: *const u64,
+                    a_len: usize,
+                    b: *const u64,
+                    b_len: usize,
+                    out: *mut u64,
+                    out_len: usize,
+                    count: *mut u64,
+                    refusal: *mut Refusal,
+                ) -> u64;)*
+            }
+        };
+    }
+
+    mask_calls!(pciv_mask_and pciv_mask_or pciv_mask_xor);
+
+    /// The calls that make a file of a file and a mask.
+    macro_rules! masked_calls {
+        ($($name:ident)*) => {
+            extern "C" {
+                $(pub fn $name(
+                    file: *const u8,
+                    file_len: usize,
+                    mask: *const u64,
+                    mask_len: usize,
+                    out: *mut u8,
+                    out_len: usize,
+                    summary: *mut Summary,
+                    refusal: *mut Refusal,
+                ) -> u64;)*
+            }
+        };
+    }
+
+    masked_calls!(pciv_keep_masked pciv_increment_masked);
 }
 
 // Every call below is sound for the same reason: references and slices give non-null, aligned
@@ -312,6 +436,223 @@ pub fn signed_difference(
             refusal,
         )
     }
+}
+
+/// The calls that make a mask of a file, over slices.
+macro_rules! selecting_functions {
+    ($($name:ident: $call:ident,)*) => {
+        $(
+            #[doc = concat!("`", stringify!($call), "`.")]
+            pub fn $name(
+                file: &[u8],
+                t: u32,
+                out: &mut [u64],
+                count: &mut u64,
+                refusal: &mut Refusal,
+            ) -> u64 {
+                unsafe {
+                    c::$call(
+                        file.as_ptr(),
+                        file.len(),
+                        t,
+                        out.as_mut_ptr(),
+                        out.len(),
+                        count,
+                        refusal,
+                    )
+                }
+            }
+        )*
+    };
+}
+
+selecting_functions! {
+    mask_below: pciv_mask_below,
+    mask_at_most: pciv_mask_at_most,
+    mask_above: pciv_mask_above,
+    mask_at_least: pciv_mask_at_least,
+    near_mask: pciv_near_mask,
+}
+
+/// The calls that combine two masks into a third, over slices.
+macro_rules! mask_functions {
+    ($($name:ident: $call:ident,)*) => {
+        $(
+            #[doc = concat!("`", stringify!($call), "`.")]
+            pub fn $name(
+                n: u64,
+                a: &[u64],
+                b: &[u64],
+                out: &mut [u64],
+                count: &mut u64,
+                refusal: &mut Refusal,
+            ) -> u64 {
+                unsafe {
+                    c::$call(
+                        n,
+                        a.as_ptr(),
+                        a.len(),
+                        b.as_ptr(),
+                        b.len(),
+                        out.as_mut_ptr(),
+                        out.len(),
+                        count,
+                        refusal,
+                    )
+                }
+            }
+        )*
+    };
+}
+
+mask_functions! {
+    mask_and: pciv_mask_and,
+    mask_or: pciv_mask_or,
+    mask_xor: pciv_mask_xor,
+}
+
+/// `pciv_mask_not`.
+pub fn mask_not(
+    n: u64,
+    mask: &[u64],
+    out: &mut [u64],
+    count: &mut u64,
+    refusal: &mut Refusal,
+) -> u64 {
+    unsafe {
+        c::pciv_mask_not(
+            n,
+            mask.as_ptr(),
+            mask.len(),
+            out.as_mut_ptr(),
+            out.len(),
+            count,
+            refusal,
+        )
+    }
+}
+
+/// `pciv_set_bits`.
+pub fn set_bits(n: u64, mask: &[u64], count: &mut u64, refusal: &mut Refusal) -> u64 {
+    unsafe { c::pciv_set_bits(n, mask.as_ptr(), mask.len(), count, refusal) }
+}
+
+/// `pciv_map_of_mask`.
+pub fn map_of_mask(
+    n: u64,
+    mask: &[u64],
+    out: &mut [u8],
+    summary: &mut Summary,
+    refusal: &mut Refusal,
+) -> u64 {
+    unsafe {
+        c::pciv_map_of_mask(
+            n,
+            mask.as_ptr(),
+            mask.len(),
+            out.as_mut_ptr(),
+            out.len(),
+            summary,
+            refusal,
+        )
+    }
+}
+
+/// The calls that make a file of a file and a mask, over slices.
+macro_rules! masked_functions {
+    ($($name:ident: $call:ident,)*) => {
+        $(
+            #[doc = concat!("`", stringify!($call), "`.")]
+            pub fn $name(
+                file: &[u8],
+                mask: &[u64],
+                out: &mut [u8],
+                summary: &mut Summary,
+                refusal: &mut Refusal,
+            ) -> u64 {
+                unsafe {
+                    c::$call(
+                        file.as_ptr(),
+                        file.len(),
+                        mask.as_ptr(),
+                        mask.len(),
+                        out.as_mut_ptr(),
+                        out.len(),
+                        summary,
+                        refusal,
+                    )
+                }
+            }
+        )*
+    };
+}
+
+masked_functions! {
+    keep_masked: pciv_keep_masked,
+    increment_masked: pciv_increment_masked,
+}
+
+/// `pciv_bray_curtis`.
+pub fn bray_curtis(a: &[u8], b: &[u8], figure: &mut f64, refusal: &mut Refusal) -> u64 {
+    unsafe { c::pciv_bray_curtis(a.as_ptr(), a.len(), b.as_ptr(), b.len(), figure, refusal) }
+}
+
+/// `pciv_jaccard`.
+pub fn jaccard(a: &[u8], b: &[u8], t: u32, figure: &mut f64, refusal: &mut Refusal) -> u64 {
+    unsafe { c::pciv_jaccard(a.as_ptr(), a.len(), b.as_ptr(), b.len(), t, figure, refusal) }
+}
+
+/// `pciv_edit`.
+pub fn edit(
+    buffer: &mut [u8],
+    slot: u64,
+    distance: u32,
+    summary: &mut Summary,
+    refusal: &mut Refusal,
+) -> u64 {
+    unsafe {
+        c::pciv_edit(
+            buffer.as_mut_ptr(),
+            buffer.len(),
+            slot,
+            distance,
+            summary,
+            refusal,
+        )
+    }
+}
+
+/// `pciv_edit_list`.
+pub fn edit_list(
+    buffer: &mut [u8],
+    slots: &[u64],
+    distances: &[u32],
+    answers: &mut [u64],
+    count: &mut u64,
+    refusal: &mut Refusal,
+) -> u64 {
+    unsafe {
+        c::pciv_edit_list(
+            buffer.as_mut_ptr(),
+            buffer.len(),
+            slots.as_ptr(),
+            slots.len(),
+            distances.as_ptr(),
+            distances.len(),
+            answers.as_mut_ptr(),
+            answers.len(),
+            count,
+            refusal,
+        )
+    }
+}
+
+/// Answers to edits as the numbers that they consist of.
+pub fn answer_numbers(answers: &mut [EditAnswer]) -> &mut [u64] {
+    const { assert!(size_of::<EditAnswer>() == ANSWER_LEN * size_of::<u64>()) };
+    let len = ANSWER_LEN * answers.len();
+    // An EditAnswer consists of that many u64, without gaps, and any of them may be any number.
+    unsafe { slice::from_raw_parts_mut(answers.as_mut_ptr().cast(), len) }
 }
 
 /// `pciv_report`.

@@ -44,7 +44,7 @@ impl fmt::Display for Refusal {
             8 => write!(f, "index entry {place} is wrong"),
             9 => write!(
                 f,
-                "the slot at position {place} of those asked is n or more"
+                "the slot at position {place} of those asked for is n or more, or has no distance beside it"
             ),
             10 => f.write_str("the two maps differ in their number of slots"),
             11 => write!(

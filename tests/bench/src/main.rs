@@ -9,7 +9,8 @@ mod timing;
 
 use compare::lists::{self, Spread};
 use compare::rng::Rng;
-use pciv::Summary;
+use pciv::{EditAnswer, Summary};
+use reference::Comparison;
 use std::hint::black_box;
 use table::Table;
 use timing::{best, keep, median, race, ROUNDS};
@@ -39,6 +40,10 @@ fn main() {
             lookups(&table, &scene);
             writing(&table, &scene.a);
             arithmetic(&table, &scene);
+            masks(&table, &scene);
+            masked(&table, &scene);
+            figures(&table, &scene);
+            edits(&table, &scene);
         }
     }
 }
@@ -87,6 +92,9 @@ struct Scene {
     small: Map,
     /// Slots of the first map in overflow.
     asked: Vec<u64>,
+    /// Masks with half of their bits set.
+    mask: Vec<u64>,
+    other_mask: Vec<u64>,
 }
 
 impl Scene {
@@ -97,9 +105,35 @@ impl Scene {
             b: Map::new(&mut rng, n, k, 255),
             small: Map::new(&mut rng, n, k, 3),
             asked: (0..LIST_LEN).map(|_| rng.pick(&a.slots)).collect(),
+            mask: random_mask(&mut rng, n),
+            other_mask: random_mask(&mut rng, n),
             a,
         }
     }
+
+    /// The first slot from the middle on that is stored inline.
+    fn inline_slot(&self) -> u64 {
+        let middle = self.a.list.len() / 2;
+        let inline = self.a.list[middle..].iter().position(|&d| d < 255);
+        (middle + inline.expect("an inline slot")) as u64
+    }
+
+    /// The middle one of the slots in overflow.
+    fn overflow_slot(&self) -> u64 {
+        self.a.slots[self.a.slots.len() / 2]
+    }
+
+    /// The first map's file, with space for a longer one behind it.
+    fn edit_buffer(&self) -> Vec<u8> {
+        let mut buffer = self.a.file.clone();
+        buffer.resize(buffer.len() + 40_000, 0);
+        buffer
+    }
+}
+
+/// A mask of `n` slots, a multiple of 64, with half of its bits set.
+fn random_mask(rng: &mut Rng, n: usize) -> Vec<u64> {
+    (0..n / 64).map(|_| rng.word()).collect()
 }
 
 /// Check, scan, sum and readings.
@@ -224,6 +258,158 @@ fn shift(table: &Table, file: &[u8], by: i32) {
         file.len() + len,
         || pciv::shift(file, by, black_box(&mut ours)),
         || reference::shift(file, by, black_box(&mut theirs)),
+    );
+}
+
+/// Masks of a map, where the bytes decide and where the overflow entries do; masks of masks.
+fn masks(table: &Table, scene: &Scene) {
+    let (file, n) = (&scene.a.file[..], scene.a.list.len());
+    let words = reference::mask_len(n);
+    let (mut ours, mut theirs) = (vec![0; words], vec![0; words]);
+    for t in [200, 300] {
+        table.row(
+            &format!("mask_below {t}"),
+            file.len() + 8 * words,
+            || pciv::mask_below(file, t, black_box(&mut ours)),
+            || reference::threshold(file, Comparison::Below, t, black_box(&mut theirs)),
+        );
+    }
+    let (a, b) = (&scene.mask[..], &scene.other_mask[..]);
+    let slots = n as u64;
+    table.row(
+        "mask_and",
+        24 * words,
+        || pciv::mask_and(slots, a, b, black_box(&mut ours)),
+        || reference::mask_and(n, a, b, black_box(&mut theirs)),
+    );
+    table.row(
+        "mask_or",
+        24 * words,
+        || pciv::mask_or(slots, a, b, black_box(&mut ours)),
+        || reference::mask_or(n, a, b, black_box(&mut theirs)),
+    );
+    table.row(
+        "mask_xor",
+        24 * words,
+        || pciv::mask_xor(slots, a, b, black_box(&mut ours)),
+        || reference::mask_xor(n, a, b, black_box(&mut theirs)),
+    );
+    table.row(
+        "mask_not",
+        16 * words,
+        || pciv::mask_not(slots, a, black_box(&mut ours)),
+        || reference::mask_not(n, a, black_box(&mut theirs)),
+    );
+    table.row(
+        "set_bits",
+        16 * words,
+        || pciv::set_bits(slots, a),
+        || reference::set_bits(n, a),
+    );
+}
+
+/// Files from a mask with half of its bits set.
+fn masked(table: &Table, scene: &Scene) {
+    let (file, mask, n) = (&scene.a.file[..], &scene.mask[..], scene.a.list.len());
+    let mut buffers = |len| (vec![0; len], vec![0; len]);
+    let len = result_len(|out| reference::map_of_mask(n, mask, out));
+    let (mut ours, mut theirs) = buffers(len);
+    table.row(
+        "map_of_mask",
+        n / 8 + len,
+        || pciv::map_of_mask(n as u64, mask, black_box(&mut ours)),
+        || reference::map_of_mask(n, mask, black_box(&mut theirs)),
+    );
+    let len = result_len(|out| reference::keep_masked(file, mask, out));
+    let (mut ours, mut theirs) = buffers(len);
+    table.row(
+        "keep_masked",
+        file.len() + n / 8 + len,
+        || pciv::keep_masked(file, mask, black_box(&mut ours)),
+        || reference::keep_masked(file, mask, black_box(&mut theirs)),
+    );
+    let len = result_len(|out| reference::increment_masked(file, mask, out));
+    let (mut ours, mut theirs) = buffers(len);
+    table.row(
+        "increment_masked",
+        file.len() + n / 8 + len,
+        || pciv::increment_masked(file, mask, black_box(&mut ours)),
+        || reference::increment_masked(file, mask, black_box(&mut theirs)),
+    );
+}
+
+/// Bray-Curtis, and Jaccard at a threshold below and above 255.
+fn figures(table: &Table, scene: &Scene) {
+    let (a, b) = (&scene.a.file, &scene.b.file);
+    let copied = 2 * (a.len() + b.len());
+    table.row(
+        "bray_curtis",
+        copied,
+        || pciv::bray_curtis(a, b),
+        || reference::bray_curtis(a, b),
+    );
+    for t in [200, 300] {
+        table.row(
+            &format!("jaccard at {t}"),
+            copied,
+            || pciv::jaccard(a, b, t),
+            || reference::jaccard(a, b, t),
+        );
+    }
+}
+
+/// One edit with its check, to one distance and back: inline, in overflow, into and out of
+/// overflow. Then lists of edits, and of these the cost of each edit beyond that of the check.
+fn edits(table: &Table, scene: &Scene) {
+    let (inline, overflow) = (scene.inline_slot(), scene.overflow_slot());
+    edit(table, scene, "edit, inline", inline, [7, 9]);
+    edit(table, scene, "edit, in overflow", overflow, [700, 900]);
+    edit(table, scene, "edit, into and out", inline, [7, 900]);
+    edit_list(table, scene, "inline", &[inline], [7, 9]);
+    edit_list(table, scene, "in overflow", &scene.asked, [700, 900]);
+    edit_list(table, scene, "into and out", &[inline], [7, 900]);
+}
+
+fn edit(table: &Table, scene: &Scene, call: &str, slot: u64, distances: [u32; 2]) {
+    let [mut ours, mut theirs] = [0; 2].map(|_| scene.edit_buffer());
+    let [mut our_turn, mut their_turn] = [0; 2];
+    let next = |turn: &mut usize| {
+        *turn ^= 1;
+        distances[*turn]
+    };
+    table.row(
+        call,
+        2 * scene.a.file.len(),
+        || pciv::edit(&mut ours, slot, next(&mut our_turn)),
+        || reference::edit(&mut theirs, slot, next(&mut their_turn)),
+    );
+}
+
+fn edit_list(table: &Table, scene: &Scene, what: &str, slots: &[u64], distances: [u32; 2]) {
+    let slots: Vec<u64> = slots.iter().copied().cycle().take(LIST_LEN).collect();
+    let distances: Vec<u32> = distances.into_iter().cycle().take(LIST_LEN).collect();
+    let [mut ours, mut theirs] = [0; 2].map(|_| scene.edit_buffer());
+    let mut answers = vec![EditAnswer::default(); LIST_LEN];
+    let mut their_answers = vec![0; reference::ANSWER_LEN * LIST_LEN];
+    let file = &scene.a.file[..];
+    let rounds = race([
+        &mut || keep(pciv::edit_list(&mut ours, &slots, &distances, &mut answers)),
+        &mut || keep(pciv::check(file)),
+        &mut || {
+            keep(reference::edit_list(
+                &mut theirs,
+                &slots,
+                &distances,
+                &mut their_answers,
+            ))
+        },
+    ]);
+    let [our_list, _, their_list] = best(&rounds);
+    table.pair(&format!("edit_list, 1,000 {what}"), our_list, their_list);
+    let checked = median(rounds.iter().map(|round| round[0] - round[1]));
+    table.alone(
+        "of these ns an edit, no check",
+        checked * 1e3 / LIST_LEN as f64,
     );
 }
 

@@ -66,6 +66,11 @@ impl Table {
             "",
         ]);
     }
+
+    /// A row of one time.
+    pub fn alone(&self, call: &str, library: f64) {
+        print_row([call, &decimal(library), "", "", "", "", ""]);
+    }
 }
 
 fn decimal(number: f64) -> String {

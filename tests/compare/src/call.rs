@@ -5,6 +5,7 @@ use crate::judge::Judge;
 use compare::rng::Rng;
 use pciv::{Refusal, Summary};
 use std::fmt::{self, Debug, Display};
+use std::ops::Range;
 
 /// Elements after a buffer's end that must survive every call; there are some before it too.
 const GUARD: usize = 4;
@@ -176,19 +177,64 @@ impl Judge {
         reference: impl FnOnce(&mut [E]) -> Answer<T>,
         library: impl FnOnce(&mut [E], &mut T, &mut Refusal) -> u64,
     ) {
+        let mut wanted = Guarded::dirty(capacity);
+        let mut got = wanted.clone();
+        let answer = reference(wanted.lent());
+        self.value(call, answer, |out, refusal| {
+            library(got.lent(), out, refusal)
+        });
+        self.same_guarded(call, "buffer", &wanted, &got);
+    }
+
+    /// Compares what a call left in a buffer and around it.
+    pub fn same_guarded<E: Dirty>(
+        &mut self,
+        call: &Call,
+        what: &str,
+        wanted: &Guarded<E>,
+        got: &Guarded<E>,
+    ) {
+        let (wanted_before, wanted) = wanted.memory.split_at(wanted.range.start);
+        let (got_before, got) = got.memory.split_at(got.range.start);
+        self.same_buffer(&format_args!("{call}: {what}"), wanted, got);
+        let before = format_args!("{call}: before the {what}");
+        self.same_buffer(&before, wanted_before, got_before);
+    }
+}
+
+/// A buffer to write to, between elements that must survive every call.
+#[derive(Clone)]
+pub struct Guarded<E> {
+    memory: Vec<E>,
+    range: Range<usize>,
+}
+
+impl<E: Dirty + Clone> Guarded<E> {
+    /// A buffer of dirty elements.
+    pub fn dirty(capacity: usize) -> Guarded<E> {
         // Buffers of different capacities start at different alignments.
         let start = 1 + capacity % 16;
         let range = start..start + capacity;
-        let mut wanted: Vec<E> = (0..range.end + GUARD).map(E::dirty).collect();
-        let mut got = wanted.clone();
-        let answer = reference(&mut wanted[range.clone()]);
-        self.value(call, answer, |out, refusal| {
-            library(&mut got[range], out, refusal)
-        });
-        let (wanted_before, wanted) = wanted.split_at(start);
-        let (got_before, got) = got.split_at(start);
-        self.same_buffer(&format_args!("{call}: buffer"), wanted, got);
-        let before = format_args!("{call}: before the buffer");
-        self.same_buffer(&before, wanted_before, got_before);
+        Guarded {
+            memory: (0..range.end + GUARD).map(E::dirty).collect(),
+            range,
+        }
+    }
+
+    /// A buffer that holds these elements.
+    pub fn with(contents: &[E]) -> Guarded<E> {
+        let mut guarded = Guarded::dirty(contents.len());
+        guarded.lent().clone_from_slice(contents);
+        guarded
+    }
+
+    /// What a call gets.
+    pub fn lent(&mut self) -> &mut [E] {
+        &mut self.memory[self.range.clone()]
+    }
+
+    /// What it holds.
+    pub fn contents(&self) -> &[E] {
+        &self.memory[self.range.clone()]
     }
 }

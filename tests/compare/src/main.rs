@@ -1,13 +1,16 @@
 //! Compares the verified library with the independent implementation: every routine on random
-//! lists, on files and parts damaged in every field, on pairs of files, and on random bytes.
+//! lists, on files and parts damaged in every field, on pairs of files, on masks, on runs of edits,
+//! and on random bytes.
 //!
 //! `PCIV_SEED` sets the seed of the run, `PCIV_CASE` picks the one case with that seed.
 
 mod call;
 mod damage;
+mod edits;
 mod files;
 mod judge;
 mod lent;
+mod masks;
 mod pairs;
 mod parts;
 mod routines;
@@ -25,5 +28,7 @@ fn main() {
     writing::run_all(&mut run);
     pairs::run_all(&mut run);
     shifts::run_all(&mut run);
+    masks::run_all(&mut run);
+    edits::run_all(&mut run);
     process::exit(run.conclude());
 }

@@ -1,10 +1,11 @@
-//! Cases about two files: minimum, maximum, sum, difference and signed difference.
+//! Cases about two files: minimum, maximum, sum, difference, signed difference and figures.
 
 use crate::call::{capacities, file_capacities, Answer, Call};
 use crate::damage::{self, Damage};
 use crate::files::encode;
 use crate::judge::Judge;
 use crate::lent::Lent;
+use crate::masks::THRESHOLDS;
 use crate::run::{Run, Subject};
 use compare::lists::{self, Spread};
 use compare::rng::{case_seed, Rng};
@@ -83,6 +84,7 @@ impl Subject for Pair {
             pair.combine(judge, rng, routine);
         }
         pair.signed_difference(judge, rng);
+        pair.figures(judge, rng.pick(&THRESHOLDS));
     }
 }
 
@@ -142,6 +144,35 @@ impl LentPair {
             );
             self.settle(judge, &call);
         }
+    }
+
+    /// The figures, to the bit, beside the nearest floats to their fractions.
+    fn figures(&mut self, judge: &mut Judge, t: u32) {
+        let ((a, b), (lent_a, lent_b)) = (self.original(), self.lent());
+        let calls = [
+            Call::new("bray_curtis", ""),
+            Call::new("jaccard", format!(" at {t}")),
+        ];
+        let parts = [
+            reference::bray_curtis_parts(a, b),
+            reference::jaccard_parts(a, b, t),
+        ];
+        let plain = [reference::bray_curtis(a, b), reference::jaccard(a, b, t)];
+        let library: [&dyn Fn(&mut f64, &mut Refusal) -> u64; 2] = [
+            &|figure, refusal| raw::bray_curtis(lent_a, lent_b, figure, refusal),
+            &|figure, refusal| raw::jaccard(lent_a, lent_b, t, figure, refusal),
+        ];
+        for (i, call) in calls.iter().enumerate() {
+            let answer = parts[i].map(|parts| reference::nearest_quotient(parts).to_bits());
+            judge.same(call, answer, plain[i].map(f64::to_bits));
+            judge.value(call, answer, |bits, refusal| {
+                let mut figure = f64::from_bits(*bits);
+                let number = library[i](&mut figure, refusal);
+                *bits = figure.to_bits();
+                number
+            });
+        }
+        calls.iter().for_each(|call| self.settle(judge, call));
     }
 
     fn settle(&mut self, judge: &mut Judge, call: &Call) {

@@ -2,6 +2,7 @@
 
 use crate::call::capacities;
 use crate::judge::Judge;
+use crate::masks::{self, THRESHOLDS};
 use crate::parts::Parts;
 use crate::run::Subject;
 use crate::shifts::SHIFTS;
@@ -46,6 +47,10 @@ fn sound_file(trial: &mut Trial, rng: &mut Rng, summary: &Summary) {
     lookup_lists(trial, rng, &inside, &beyond);
     let by = rng.pick(&SHIFTS);
     trial.shift(rng, by);
+    let t = rng.pick(&THRESHOLDS);
+    trial.masks(rng, t);
+    let mask = masks::random_mask(rng, summary.n as usize);
+    trial.masked(rng, &mask);
 }
 
 /// Calls whose own faults must not come before those of the file.
@@ -58,6 +63,14 @@ fn refused_file(trial: &mut Trial, rng: &mut Rng) {
     trial.lookup_list(rng, &slots, capacity);
     let by = rng.pick(&SHIFTS);
     trial.shift(rng, by);
+    let t = rng.pick(&THRESHOLDS);
+    trial.masks(rng, t);
+    let n = rng.below(300);
+    let mask = masks::random_mask(rng, n);
+    trial.masked(rng, &mask);
+    let (slot, distance) = (rng.pick(&[0, 1, u64::MAX]), rng.pick(&[0, 255]));
+    let tail = rng.pick(&[0, 1, 100]);
+    trial.edit(tail, slot, distance);
 }
 
 /// Slots below n where a lookup may go wrong: both ends, random ones, and those about telling

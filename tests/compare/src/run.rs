@@ -11,7 +11,7 @@ const DEFAULT_SEED: u64 = 0x5043_4956_0000_0001;
 type Routine = (&'static str, u64, &'static [(u64, u64)]);
 
 /// What each routine can be refused with. Each must occur in a run.
-const ROUTINES: [Routine; 15] = [
+const ROUTINES: [Routine; 32] = [
     ("check", 1, &[]),
     ("lookup", 1, &[(9, 0)]),
     ("lookup_list", 1, &[(9, 0), (12, 0)]),
@@ -26,6 +26,23 @@ const ROUTINES: [Routine; 15] = [
     ("difference", 2, &[(10, 0), (12, 0)]),
     ("shift", 1, &[(11, 0), (12, 0)]),
     ("signed_difference", 2, &[(10, 0), (12, 0)]),
+    ("mask_below", 1, &[(12, 0)]),
+    ("mask_at_most", 1, &[(12, 0)]),
+    ("mask_above", 1, &[(12, 0)]),
+    ("mask_at_least", 1, &[(12, 0)]),
+    ("near_mask", 1, &[(12, 0)]),
+    ("mask_and", 0, &[(3, 1), (13, 0), (12, 0)]),
+    ("mask_or", 0, &[(3, 1), (13, 0), (12, 0)]),
+    ("mask_xor", 0, &[(3, 1), (13, 0), (12, 0)]),
+    ("mask_not", 0, &[(3, 1), (13, 0), (12, 0)]),
+    ("set_bits", 0, &[(3, 1), (13, 0)]),
+    ("map_of_mask", 0, &[(3, 1), (13, 0), (12, 0)]),
+    ("keep_masked", 1, &[(13, 0), (12, 0)]),
+    ("increment_masked", 1, &[(13, 0), (11, 0), (12, 0)]),
+    ("bray_curtis", 2, &[(10, 0)]),
+    ("jaccard", 2, &[(10, 0)]),
+    ("edit", 1, &[(9, 0), (12, 0)]),
+    ("edit_list", 1, &[(9, 0), (12, 0)]),
     ("report", 0, &[(12, 0)]),
 ];
 

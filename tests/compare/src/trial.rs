@@ -1,8 +1,10 @@
 //! Calls on one file.
 
-use crate::call::{file_capacities, summary_of, Call};
+use crate::call::{capacities, file_capacities, summary_of, Call, Dirty};
+use crate::edits;
 use crate::judge::Judge;
 use crate::lent::Lent;
+use crate::masks::{MASKING, SELECTING};
 use compare::rng::Rng;
 use pciv::raw;
 
@@ -126,6 +128,57 @@ impl<'a> Trial<'a> {
             );
             self.settle(&call);
         }
+    }
+
+    /// A mask of each kind, in lists of several capacities.
+    pub fn masks(&mut self, rng: &mut Rng, t: u32) {
+        let n = reference::check(self.file.original()).map_or(200, |summary| summary.n);
+        for selecting in &SELECTING {
+            for capacity in capacities(rng, reference::mask_len(n as usize)) {
+                let call = Call::new(selecting.name, format!(" at {t}, capacity {capacity}"));
+                self.judge.buffer(
+                    &call,
+                    capacity,
+                    |out| (selecting.reference)(self.file.original(), t, out),
+                    |out, count, refusal| {
+                        (selecting.library)(self.file.lent(), t, out, count, refusal)
+                    },
+                );
+                self.settle(&call);
+            }
+        }
+    }
+
+    /// Both files from the file and a mask, in buffers of several capacities.
+    pub fn masked(&mut self, rng: &mut Rng, mask: &[u64]) {
+        let mut mask = Lent::new(rng, mask, u64::MAX);
+        for masking in &MASKING {
+            let (file, words) = (self.file.original(), mask.original());
+            let answer = (masking.reference)(file, words, self.judge.scratch());
+            for capacity in file_capacities(rng, &answer) {
+                let with = format!(", {} words, capacity {capacity}", mask.original().len());
+                let call = Call::new(masking.name, with);
+                self.judge.file(
+                    &call,
+                    capacity,
+                    |out| (masking.reference)(self.file.original(), mask.original(), out),
+                    |out, summary, refusal| {
+                        (masking.library)(self.file.lent(), mask.lent(), out, summary, refusal)
+                    },
+                );
+                mask.settle(self.judge, &call, "the mask");
+                self.settle(&call);
+            }
+        }
+    }
+
+    /// One edit, then a list of two, of the file with some bytes behind it.
+    pub fn edit(&mut self, tail: usize, slot: u64, distance: u32) {
+        let mut buffer = self.file.original().to_vec();
+        buffer.extend((0..tail).map(u8::dirty));
+        edits::compare_edit(self.judge, &buffer, slot, distance);
+        let (slots, distances) = ([slot, slot / 2], [distance, 255]);
+        edits::compare_list(self.judge, &buffer, &slots, &distances, 16);
     }
 
     fn settle(&mut self, call: &Call) {

@@ -61,7 +61,7 @@ fn combine(
 }
 
 /// Checks two files: refusals 1 to 8 of the first, then of the second, then 10.
-fn open_pair<'a>(a: &'a [u8], b: &'a [u8]) -> Result<(Map<'a>, Map<'a>), Refusal> {
+pub(crate) fn open_pair<'a>(a: &'a [u8], b: &'a [u8]) -> Result<(Map<'a>, Map<'a>), Refusal> {
     let a = Map::open(a)?;
     let b = Map::open(b).map_err(|refusal| Refusal { map: 2, ..refusal })?;
     if a.summary().n != b.summary().n {

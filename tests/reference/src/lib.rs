@@ -8,16 +8,25 @@
 //! sentinel; and a *sparse index* over the overflow entries when there are many.
 
 mod arith;
+mod edit;
 mod entries;
 pub mod examples;
+mod figures;
 mod layout;
 mod map;
+mod mask;
 mod report;
 mod write;
 
 pub use arith::{difference, maximum, minimum, shift, signed_difference, sum_maps};
+pub use edit::{edit, edit_list, PlainEditor, ANSWER_LEN};
+pub use figures::{bray_curtis, bray_curtis_parts, jaccard, jaccard_parts, nearest_quotient};
 pub use layout::{file_len, index_len, index_step, HEADER_LEN, MAX_SLOTS, SENTINEL};
 pub use map::{check, decode, lookup, lookup_list, primary, readings, scan, sum, Map};
+pub use mask::{
+    increment_masked, keep_masked, map_of_mask, mask_and, mask_len, mask_not, mask_or, mask_xor,
+    near_mask, set_bits, threshold, Comparison,
+};
 pub use report::{report, report_text, MAX_INPUT};
 pub use write::{close, encode, write};
 

@@ -31,6 +31,14 @@ impl<'a> Map<'a> {
         Ok(map)
     }
 
+    /// Checks the file at the front of a buffer: refusals 1 to 8, and 5 only where the buffer is
+    /// shorter than the file.
+    pub fn open_front(buffer: &'a [u8]) -> Result<Map<'a>, Refusal> {
+        let len = read_header(buffer)?.len;
+        let file = buffer.get(..len as usize).ok_or(Refusal::of_file(5, 0))?;
+        Map::open(file)
+    }
+
     /// Cuts a file of the right length into its parts.
     fn split(file: &'a [u8], summary: Summary) -> Map<'a> {
         let (primary, rest) = file[HEADER_LEN..].split_at(summary.n as usize);
@@ -57,7 +65,7 @@ impl<'a> Map<'a> {
     }
 
     /// The overflow entries.
-    fn entries(&self) -> impl Iterator<Item = Entry> + 'a {
+    pub(crate) fn entries(&self) -> impl Iterator<Item = Entry> + 'a {
         self.overflow.iter().map(|entry| Entry {
             slot: overflow_slot(entry),
             distance: overflow_distance(entry),

@@ -40,7 +40,7 @@ pub fn close(
     write_parts(primary, entries, out)
 }
 
-fn is_overflow(distance: u32) -> bool {
+pub(crate) fn is_overflow(distance: u32) -> bool {
     distance >= u32::from(SENTINEL)
 }
 
@@ -77,7 +77,7 @@ pub(crate) fn write_distances(
 
 /// Writes the file of a primary array and its overflow entries, which fit each other, to the front
 /// of `out`. Refusal 12.
-fn write_parts(
+pub(crate) fn write_parts(
     primary: &[u8],
     overflow: impl ExactSizeIterator<Item = Entry> + Clone,
     out: &mut [u8],

@@ -1,0 +1,77 @@
+//! Editing the file at the front of a buffer, in place.
+
+use crate::{answer, raw, Refusal, Summary};
+
+/// How many numbers an [`EditAnswer`] consists of.
+pub const ANSWER_LEN: usize = 8;
+
+/// The answer to one edit of a list, laid out as in the C interface: `refusal` is all zero where the
+/// edit was made, `summary` where it was refused.
+#[repr(C)]
+#[derive(Clone, Copy, Debug, Default, PartialEq, Eq, Hash)]
+pub struct EditAnswer {
+    /// Why the edit was refused.
+    pub refusal: Refusal,
+    /// The file after the edit.
+    pub summary: Summary,
+}
+
+impl EditAnswer {
+    /// The summary of the file after the edit, or why the edit was refused.
+    pub fn result(&self) -> Result<Summary, Refusal> {
+        match self.refusal.number {
+            0 => Ok(self.summary),
+            _ => Err(self.refusal),
+        }
+    }
+}
+
+/// Sets `slot` to `distance` in the file at the front of `buffer`, in place. Answers the new file's
+/// summary. Refusals 1 to 8, where 5 means that the buffer is shorter than the file, then 9, then
+/// 12 where the new file is longer than the buffer.
+///
+/// Afterwards the front of the buffer is the file that [`write`](fn@crate::write) makes of the edited
+/// list. Where it is shorter than before, the bytes up to the old length are 0; bytes past both
+/// lengths stay.
+///
+/// ```
+/// let mut buffer = *include_bytes!("../../../examples/map-a.pciv");
+/// let summary = pciv::edit(&mut buffer, 2, 254)?;
+/// assert_eq!(summary.len, 56);
+/// assert_eq!(pciv::primary(&buffer[..56]), [0, 254, 254, 255]);
+/// assert_eq!(buffer[56..], [0; 12]);
+/// # Ok::<(), pciv::Refusal>(())
+/// ```
+pub fn edit(buffer: &mut [u8], slot: u64, distance: u32) -> Result<Summary, Refusal> {
+    answer(|summary, refusal| raw::edit(buffer, slot, distance, summary, refusal))
+}
+
+/// Makes a list of edits on one buffer, in order: `slots[j]` gets `distances[j]`. The file is checked
+/// once. An edit that is refused changes nothing, and those after it are made. Answers how many edits
+/// there are; the answer to each goes to the front of `answers`.
+///
+/// Refusals of the call: 1 to 8 as [`edit`]; 9 where the lists differ in length, with the first
+/// position that only one of them has as place; 12 where `answers` is too short.
+///
+/// ```
+/// let mut buffer = include_bytes!("../../../examples/map-a.pciv").to_vec();
+/// let mut answers = [pciv::EditAnswer::default(); 3];
+/// pciv::edit_list(&mut buffer, &[1, 9, 3], &[7, 7, 400], &mut answers)?;
+/// assert_eq!(answers[0].result()?.len, 68);
+/// assert_eq!(answers[1].result().unwrap_err().number, 9);
+/// assert_eq!(answers[2].result()?.k, 2);
+///
+/// let mut distances = [0; 4];
+/// pciv::scan(&buffer, &mut distances)?;
+/// assert_eq!(distances, [0, 7, 255, 400]);
+/// # Ok::<(), pciv::Refusal>(())
+/// ```
+pub fn edit_list(
+    buffer: &mut [u8],
+    slots: &[u64],
+    distances: &[u32],
+    answers: &mut [EditAnswer],
+) -> Result<u64, Refusal> {
+    let answers = raw::answer_numbers(answers);
+    answer(|count, refusal| raw::edit_list(buffer, slots, distances, answers, count, refusal))
+}

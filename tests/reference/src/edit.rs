@@ -1,0 +1,204 @@
+//! The editor: one slot of the file at the front of a buffer gets another distance, in place. And
+//! the plain editor of a run, which keeps a list.
+
+use crate::entries::Entry;
+use crate::layout::{HEADER_LEN, OVERFLOW_ENTRY_LEN, SENTINEL};
+use crate::write::{encode, is_overflow, write_parts};
+use crate::{file_len, require_capacity, Map, Refusal, Summary};
+
+/// Sets `slot` to `distance` in the file at the front of `buffer`. Refusals 1 to 8, then 9, 12.
+/// Answers the new summary. What a shorter file leaves free becomes 0.
+pub fn edit(buffer: &mut [u8], slot: u64, distance: u32) -> Result<Summary, Refusal> {
+    let map = Map::open_front(buffer)?;
+    let old = map.summary();
+    if slot >= old.n {
+        return Err(Refusal::of_call(9, 0));
+    }
+    let at = HEADER_LEN + slot as usize;
+    let entries_before = || map.entries().take_while(|entry| entry.slot < slot).count();
+    match (buffer[at] == SENTINEL, is_overflow(distance)) {
+        (false, false) => buffer[at] = distance as u8,
+        (true, true) => {
+            let at = HEADER_LEN + old.n as usize + OVERFLOW_ENTRY_LEN * entries_before() + 8;
+            buffer[at..at + 4].copy_from_slice(&distance.to_le_bytes());
+        }
+        (false, true) => {
+            let mut entries: Vec<Entry> = map.entries().collect();
+            entries.insert(entries_before(), Entry { slot, distance });
+            return rewrite(buffer, &old, slot, SENTINEL, &entries);
+        }
+        (true, false) => {
+            let mut entries: Vec<Entry> = map.entries().collect();
+            entries.remove(entries_before());
+            return rewrite(buffer, &old, slot, distance as u8, &entries);
+        }
+    }
+    Ok(old)
+}
+
+/// Writes the file with one other primary byte and other entries in the place of the old one.
+fn rewrite(
+    buffer: &mut [u8],
+    old: &Summary,
+    slot: u64,
+    byte: u8,
+    entries: &[Entry],
+) -> Result<Summary, Refusal> {
+    let mut primary = buffer[HEADER_LEN..HEADER_LEN + old.n as usize].to_vec();
+    primary[slot as usize] = byte;
+    let new = write_parts(&primary, entries.iter().copied(), buffer)?;
+    if new.len < old.len {
+        buffer[new.len as usize..old.len as usize].fill(0);
+    }
+    Ok(new)
+}
+
+/// How many numbers tell the answer to one edit of a list: those of the refusal, then those of the
+/// summary.
+pub const ANSWER_LEN: usize = 8;
+
+/// Makes the edits `slots[j]` to `distances[j]` in order on the file at the front of `buffer`, by
+/// the plain editor; the answer to each goes to `answers`. Refusals 1 to 8, 9 with the first
+/// position that only one list has, 12 where `answers` is too short. Answers how many edits there
+/// are.
+pub fn edit_list(
+    buffer: &mut [u8],
+    slots: &[u64],
+    distances: &[u32],
+    answers: &mut [u64],
+) -> Result<u64, Refusal> {
+    let list = Map::open_front(buffer)?.distances().collect();
+    if slots.len() != distances.len() {
+        let paired = slots.len().min(distances.len());
+        return Err(Refusal::of_call(9, paired as u64));
+    }
+    require_capacity(ANSWER_LEN * slots.len(), answers.len())?;
+    let mut editor = PlainEditor::new(list, buffer.len());
+    let edits = slots.iter().zip(distances);
+    for (answer, (&slot, &distance)) in answers.chunks_exact_mut(ANSWER_LEN).zip(edits) {
+        answer.copy_from_slice(&answer_numbers(editor.edit(slot, distance)));
+    }
+    editor.fill(buffer);
+    Ok(slots.len() as u64)
+}
+
+fn answer_numbers(answer: Result<Summary, Refusal>) -> [u64; ANSWER_LEN] {
+    match answer {
+        Ok(Summary { n, k, m, step, len }) => [0, 0, 0, n, k, m, step, len],
+        Err(Refusal { number, map, place }) => [number, map, place, 0, 0, 0, 0, 0],
+    }
+}
+
+/// The plain editor: a list, the capacity of the buffer, and the length of the longest file so far.
+pub struct PlainEditor {
+    list: Vec<u32>,
+    k: u64,
+    capacity: usize,
+    filled: usize,
+}
+
+impl PlainEditor {
+    /// An editor that starts from a list of at most 1,048,576 distances.
+    pub fn new(list: Vec<u32>, capacity: usize) -> PlainEditor {
+        let k = list.iter().filter(|&&d| is_overflow(d)).count() as u64;
+        PlainEditor {
+            k,
+            capacity,
+            filled: file_len(list.len() as u64, k) as usize,
+            list,
+        }
+    }
+
+    /// The list as it is now.
+    pub fn list(&self) -> &[u32] {
+        &self.list
+    }
+
+    /// One edit. Refusals 9, 12.
+    pub fn edit(&mut self, slot: u64, distance: u32) -> Result<Summary, Refusal> {
+        let n = self.list.len() as u64;
+        if slot >= n {
+            return Err(Refusal::of_call(9, 0));
+        }
+        let place = &mut self.list[slot as usize];
+        let without = self.k - u64::from(is_overflow(*place));
+        let new = Summary::of(n, without + u64::from(is_overflow(distance)));
+        require_capacity(new.len as usize, self.capacity)?;
+        *place = distance;
+        self.k = new.k;
+        self.filled = self.filled.max(new.len as usize);
+        Ok(new)
+    }
+
+    /// Gives a buffer what it has to hold: the list's file, then zeros up to the longest file so
+    /// far; what follows stays.
+    pub fn fill(&self, buffer: &mut [u8]) {
+        let file = encode(&self.list).expect("few slots");
+        buffer[..file.len()].copy_from_slice(&file);
+        buffer[file.len()..self.filled].fill(0);
+    }
+}
+
+#[cfg(test)]
+mod tests {
+    use super::*;
+
+    const MAP_A: [u32; 4] = [0, 254, 255, 300];
+
+    fn map_a(capacity: usize) -> Vec<u8> {
+        let mut buffer = encode(&MAP_A).unwrap();
+        buffer.resize(capacity, 7);
+        buffer
+    }
+
+    #[test]
+    fn worked_example_out_of_overflow() {
+        let mut buffer = map_a(70);
+        let summary = edit(&mut buffer, 2, 254).unwrap();
+        assert_eq!(summary.len, 56);
+        assert_eq!(buffer[..56], encode(&[0, 254, 254, 300]).unwrap());
+        assert_eq!(buffer[56..68], [0; 12]);
+        assert_eq!(buffer[68..], [7; 2]);
+    }
+
+    #[test]
+    fn worked_example_into_overflow() {
+        let mut buffer = map_a(79);
+        let before = buffer.clone();
+        assert_eq!(edit(&mut buffer, 1, 255), Err(Refusal::of_call(12, 0)));
+        assert_eq!(buffer, before);
+        let mut buffer = map_a(80);
+        assert_eq!(edit(&mut buffer, 1, 255).unwrap().len, 80);
+        assert_eq!(buffer, encode(&[0, 255, 255, 300]).unwrap());
+    }
+
+    #[test]
+    fn one_entry_fewer_may_need_more_bytes() {
+        let mut list = vec![7; 5_000];
+        list[..4_097].fill(900);
+        let file = encode(&list).unwrap();
+        let mut buffer = file.clone();
+        buffer.resize(file.len() + 10_899, 7);
+        let before = buffer.clone();
+        assert_eq!(edit(&mut buffer, 3, 0), Err(Refusal::of_call(12, 0)));
+        assert_eq!(buffer, before);
+        buffer.push(7);
+        assert_eq!(edit(&mut buffer, 3, 0).unwrap().k, 4_096);
+    }
+
+    #[test]
+    fn a_list_of_edits_is_the_edits_in_turn() {
+        let (slots, distances) = ([1, 9, 2, 1], [255, 0, 1, 3]);
+        let mut buffer = map_a(81);
+        let mut answers = [7; 33];
+        let list = edit_list(&mut buffer, &slots, &distances, &mut answers);
+        assert_eq!(list, Ok(4));
+        let mut single = map_a(81);
+        for (j, (slot, distance)) in slots.into_iter().zip(distances).enumerate() {
+            let answer = answer_numbers(edit(&mut single, slot, distance));
+            assert_eq!(answers[8 * j..8 * j + 8], answer);
+        }
+        assert_eq!(buffer, single);
+        assert_eq!(answers[32], 7);
+    }
+}
