@@ -1,12 +1,14 @@
--- The outcome that an answer stands for is the one that it was made of.
+-- The outcome that an answer stands for is the one that it was made of, so a call tells the outcome that its routine's
+-- contract names: told-file, told-number, told-distance.
 use mathlib.Core.Path.{_≡_, refl, ap, _∙_}
+use mathlib.Core.List.{List}
 use Prim.Native.Nat.{ℕ}
 use Rattle.pciv_format.specs.Refusals.{Outcome, done, refused, fileAnswer, numberAnswer, distanceAnswer}
 use Rattle.pciv_format.specs.declared.Summary.{Summary}
 use Rattle.pciv_format.specs.declared.FileAnswer.{FileAnswer}
 use Rattle.pciv_format.specs.declared.NumberAnswer.{NumberAnswer}
 use Rattle.pciv_format.specs.declared.DistanceAnswer.{DistanceAnswer}
-use Rattle.pciv_c.specs.Cells.{fileOutcome, numberOutcome, distanceOutcome}
+use Rattle.pciv_c.specs.Cells.{ToldFile, ToldNumber, fileOutcome, numberOutcome, distanceOutcome}
 
 pub file-outcome : (a : FileAnswer) (o : Outcome Summary) → a ≡ fileAnswer o → fileOutcome a ≡ o
 file-outcome a o e = ap fileOutcome e ∙ back o
@@ -28,3 +30,16 @@ distance-outcome a o e = ap distanceOutcome e ∙ back o
     back : (o : Outcome ℕ) → distanceOutcome (distanceAnswer o) ≡ o
     back (done x) = refl
     back (refused r) = refl
+
+module _ {code : ℕ} {why : List ℕ} where
+  pub told-file : {a : FileAnswer} {o : Outcome Summary} {old new : List ℕ} → a ≡ fileAnswer o
+      → ToldFile (fileOutcome a) code old new why → ToldFile o code old new why
+  told-file {a} {o} e told = rw (file-outcome a o e) at told
+
+  pub told-number : {a : NumberAnswer} {o : Outcome ℕ} {old new : ℕ} → a ≡ numberAnswer o
+      → ToldNumber (numberOutcome a) code old new why → ToldNumber o code old new why
+  told-number {a} {o} e told = rw (number-outcome a o e) at told
+
+  pub told-distance : {a : DistanceAnswer} {o : Outcome ℕ} {old new : ℕ} → a ≡ distanceAnswer o
+      → ToldNumber (distanceOutcome a) code old new why → ToldNumber o code old new why
+  told-distance {a} {o} e told = rw (distance-outcome a o e) at told

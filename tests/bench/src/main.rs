@@ -311,7 +311,7 @@ fn masks(table: &Table, scene: &Scene) {
 /// Files from a mask with half of its bits set.
 fn masked(table: &Table, scene: &Scene) {
     let (file, mask, n) = (&scene.a.file[..], &scene.mask[..], scene.a.list.len());
-    let mut buffers = |len| (vec![0; len], vec![0; len]);
+    let buffers = |len| (vec![0; len], vec![0; len]);
     let len = result_len(|out| reference::map_of_mask(n, mask, out));
     let (mut ours, mut theirs) = buffers(len);
     table.row(

@@ -1,8 +1,6 @@
 -- Proves pciv_c::pciv_check.
 use mathlib.Core.Path.{_≡_}
-use lib.ListN.{length}
-use Rattle.pciv_format.specs.Check.{checkFile}
-use Rattle.pciv_c.proofs.CellsLaws.{file-outcome}
+use Rattle.pciv_c.proofs.CellsLaws.{told-file}
 use borrow.Author.Needs.{needs}
 use Rattle.pciv_c.proofs.pciv_check.Statement.{statement}
 use Rattle.pciv_c.proofs.pciv_check.Tie as tie
@@ -14,10 +12,7 @@ tell-file-requires : tie.Need-tell-file-requires
 tell-file-requires c κs = search needs
 
 returns : tie.Need-returns
-returns c =
-    let d = c .before .before .before in
-    let a = d .before .before .args in
-    rw (file-outcome (d .check .result) (checkFile 1 (a .file .now)) (d .check .ensures)) at (c .tell-file .ensures)
+returns c = told-file (c .before .before .before .check .ensures) (c .tell-file .ensures)
 
 pub pciv-check-spec : {M : Type 1} → statement M
 pciv-check-spec = tie.close (tie.spec check-requires tell-file-requires returns)

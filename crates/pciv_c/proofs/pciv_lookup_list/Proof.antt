@@ -1,8 +1,6 @@
 -- Proves pciv_c::pciv_lookup_list.
 use mathlib.Core.Path.{_≡_}
-use lib.ListN.{length}
-use Rattle.pciv_format.specs.Read.{lookupListOutcome}
-use Rattle.pciv_c.proofs.CellsLaws.{number-outcome}
+use Rattle.pciv_c.proofs.CellsLaws.{told-number}
 use borrow.Author.Needs.{needs}
 use Rattle.pciv_c.proofs.pciv_lookup_list.Statement.{statement}
 use Rattle.pciv_c.proofs.pciv_lookup_list.Tie as tie
@@ -18,10 +16,8 @@ same-length c = search needs
 
 returns : tie.Need-returns
 returns c =
-    let d = c .before .before .before .before .before in
-    let a = d .before .before .before .before .before .args in
-    let e = d .lookup-list .ensures in
-    (rw (number-outcome (d .lookup-list .result) (lookupListOutcome (a .file .now) (a .slots .now) (length (a .distances .now))) (e .0)) at (c .tell-number .ensures), e .1)
+    let e = c .before .before .before .before .before .lookup-list .ensures in
+    (told-number (e .0) (c .tell-number .ensures), e .1)
 
 pub pciv-lookup-list-spec : {M : Type 1} → statement M
 pciv-lookup-list-spec =

@@ -1,8 +1,6 @@
 -- Proves pciv_c::pciv_report.
 use mathlib.Core.Path.{_≡_}
-use lib.ListN.{length}
-use Rattle.pciv_format.specs.Report.{reportOutcome}
-use Rattle.pciv_c.proofs.CellsLaws.{number-outcome}
+use Rattle.pciv_c.proofs.CellsLaws.{told-number}
 use borrow.Author.Needs.{needs}
 use Rattle.pciv_c.proofs.pciv_report.Statement.{statement}
 use Rattle.pciv_c.proofs.pciv_report.Tie as tie
@@ -18,10 +16,8 @@ same-length c = search needs
 
 returns : tie.Need-returns
 returns c =
-    let d = c .before .before .before .before .before in
-    let a = d .before .before .before .before .args in
-    let e = d .report .ensures in
-    (rw (number-outcome (d .report .result) (reportOutcome (a .input .now) (length (a .text .now))) (e .0)) at (c .tell-number .ensures), e .1)
+    let e = c .before .before .before .before .before .report .ensures in
+    (told-number (e .0) (c .tell-number .ensures), e .1)
 
 pub pciv-report-spec : {M : Type 1} → statement M
 pciv-report-spec = tie.close (tie.spec report-requires tell-number-requires same-length returns)

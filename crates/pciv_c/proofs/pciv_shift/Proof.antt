@@ -1,10 +1,7 @@
 -- Proves pciv_c::pciv_shift.
-use mathlib.Core.Path.{_≡_}
-use lib.ListN.{length}
 use mir.Syntax.{w32}
 use mir.Facts.{toZ-ofZ}
-use Rattle.pciv_format.specs.Arith.{shiftOutcome}
-use Rattle.pciv_c.proofs.CellsLaws.{file-outcome}
+use Rattle.pciv_c.proofs.CellsLaws.{told-file}
 use borrow.Author.Needs.{needs}
 use Rattle.pciv_c.proofs.pciv_shift.Statement.{statement}
 use Rattle.pciv_c.proofs.pciv_shift.Tie as tie
@@ -22,10 +19,8 @@ returns : tie.Need-returns
 returns c =
     let d = c .before .before .before .before .before in
     let s = d .before .before .before .before in
-    let a = s .args in
-    let e = rw (toZ-ofZ {w = w32} {z = a .by} (s .fits .by)) at (d .shift .ensures) in
-    let o = shiftOutcome (a .file .now) (a .by) (length (a .out .now)) in
-    (rw (file-outcome (d .shift .result) o (e .0)) at (c .tell-file .ensures), e .1)
+    let e = rw (toZ-ofZ {w = w32} {z = s .args .by} (s .fits .by)) at (d .shift .ensures) in
+    (told-file (e .0) (c .tell-file .ensures), e .1)
 
 pub pciv-shift-spec : {M : Type 1} → statement M
 pciv-shift-spec = tie.close (tie.spec shift-requires tell-file-requires same-length returns)

@@ -1,8 +1,6 @@
 -- Proves pciv_c::pciv_sum.
 use mathlib.Core.Path.{_≡_}
-use lib.ListN.{length}
-use Rattle.pciv_format.specs.Read.{sumOutcome}
-use Rattle.pciv_c.proofs.CellsLaws.{number-outcome}
+use Rattle.pciv_c.proofs.CellsLaws.{told-number}
 use borrow.Author.Needs.{needs}
 use Rattle.pciv_c.proofs.pciv_sum.Statement.{statement}
 use Rattle.pciv_c.proofs.pciv_sum.Tie as tie
@@ -14,10 +12,7 @@ tell-number-requires : tie.Need-tell-number-requires
 tell-number-requires c κs = search needs
 
 returns : tie.Need-returns
-returns c =
-    let d = c .before .before .before in
-    let a = d .before .before .args in
-    rw (number-outcome (d .sum .result) (sumOutcome (a .file .now)) (d .sum .ensures)) at (c .tell-number .ensures)
+returns c = told-number (c .before .before .before .sum .ensures) (c .tell-number .ensures)
 
 pub pciv-sum-spec : {M : Type 1} → statement M
 pciv-sum-spec = tie.close (tie.spec sum-requires tell-number-requires returns)

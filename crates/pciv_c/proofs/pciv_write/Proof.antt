@@ -1,7 +1,5 @@
 -- Proves pciv_c::pciv_write.
-use lib.ListN.{length}
-use Rattle.pciv_format.specs.Write.{writeOutcome}
-use Rattle.pciv_c.proofs.CellsLaws.{file-outcome}
+use Rattle.pciv_c.proofs.CellsLaws.{told-file}
 use borrow.Author.Needs.{needs}
 use Rattle.pciv_c.proofs.pciv_write.Statement.{statement}
 use Rattle.pciv_c.proofs.pciv_write.Tie as tie
@@ -17,10 +15,8 @@ same-length c = search needs
 
 returns : tie.Need-returns
 returns c =
-    let d = c .before .before .before .before .before in
-    let a = d .before .before .before .before .args in
-    let e = d .write .ensures in
-    (rw (file-outcome (d .write .result) (writeOutcome (a .distances .now) (length (a .out .now))) (e .0)) at (c .tell-file .ensures), e .1)
+    let e = c .before .before .before .before .before .write .ensures in
+    (told-file (e .0) (c .tell-file .ensures), e .1)
 
 pub pciv-write-spec : {M : Type 1} → statement M
 pciv-write-spec = tie.close (tie.spec write-requires tell-file-requires same-length returns)
