@@ -9,6 +9,7 @@ ghost use Rattle.pciv_format.specs.Read.{lookupOutcome, lookupListOutcome, look
 ghost use Rattle.pciv_format.specs.Write.{writeOutcome, writeBuffer, closeOutcome, closeBuffer};
 ghost use Rattle.pciv_format.specs.Arith.{combineMapsOutcome, combineMapsBuffer, shiftOutcome, shiftBuffer, signedDifferenceOutcome, signedDifferenceList};
 ghost use Rattle.pciv_format.specs.declared.SlotOp.the-variants.{Minimum, Maximum, Difference, Sum};
+ghost use Rattle.pciv_format.specs.Edit.{editOutcome, editBuffer};
 ghost use Rattle.pciv_format.specs.Report.{reportOutcome, reportBuffer};
 ghost use Rattle.pciv_c.specs.Cells.{ToldNumber, ToldFile, spanCells, spanLength, fileOutcome, numberOutcome, distanceOutcome};
 use pciv_arith::difference;
@@ -17,6 +18,7 @@ use pciv_arith::minimum;
 use pciv_change::signed_difference;
 use pciv_check::check;
 use pciv_close::close;
+use pciv_edit::edit;
 use pciv_format::DistanceAnswer;
 use pciv_format::FileAnswer;
 use pciv_format::HEADER_LEN;
@@ -283,6 +285,24 @@ pub extern "C" fn pciv_signed_difference(
     ensures list { λ _. ⌜ now (out .exit) ≡ signedDifferenceList (now (a .entry)) (now (b .entry)) (now (out .entry)) ⌝ }
 {
     tell_number(signed_difference(a, b, out), count, refusal)
+}
+
+// ---- the editor
+
+#[no_mangle]
+pub extern "C" fn pciv_edit(
+    buffer: &mut [u8],
+    slot: usize,
+    distance: u32,
+    summary: &mut [usize; 5],
+    refusal: &mut [usize; 3],
+) -> usize
+    ensures told { λ r. ⌜ ToldFile (editOutcome (now (buffer .entry)) (record { slot = slot; distance = distance })) r (now (summary .entry)) (now (summary .exit)) (now (refusal .exit)) ⌝ }
+    ensures buffer { λ _. ⌜ now (buffer .exit) ≡ editBuffer (now (buffer .entry)) (record { slot = slot; distance = distance }) ⌝ }
+{
+    let edited = edit(buffer, slot, distance);
+    let outcome = edited.outcome;
+    tell_file(outcome, summary, refusal)
 }
 
 // ---- the report
