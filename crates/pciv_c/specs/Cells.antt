@@ -5,11 +5,12 @@
 --   summaryCells o old    the cells of pciv_summary: the counts when done, else as they were
 --   spanCells o           where the primary part starts, and its length; 0 and 0 for a refused file
 --   ToldNumber, ToldFile  all three of a call: its answer, the result's cells, the refusal's cells
---   fileOutcome, numberOutcome, distanceOutcome    the outcome that an answer stands for
+--   fileOutcome, numberOutcome, distanceOutcome, figureOutcome    the outcome that an answer stands for
 -- Axioms: none.
 use mathlib.Core.Path.{_≡_}
 use Prim.Native.Nat.{ℕ}
 use mathlib.Core.List.{List, [], _∷_}
+use lib.Ieee.{Float}
 use Rattle.pciv_format.specs.Refusals.{Outcome, done, refused}
 use Rattle.pciv_format.specs.declared.Summary.{Summary}
 use Rattle.pciv_format.specs.declared.FileAnswer.{FileAnswer}
@@ -18,6 +19,8 @@ use Rattle.pciv_format.specs.declared.NumberAnswer.{NumberAnswer}
 use Rattle.pciv_format.specs.declared.NumberAnswer.the-variants as InNumber
 use Rattle.pciv_format.specs.declared.DistanceAnswer.{DistanceAnswer}
 use Rattle.pciv_format.specs.declared.DistanceAnswer.the-variants as InDistance
+use Rattle.pciv_format.specs.declared.FigureAnswer.{FigureAnswer}
+use Rattle.pciv_format.specs.declared.FigureAnswer.the-variants as InFigure
 
 module _ {A : Type 0} where
   abbrev pub codeOf : Outcome A → ℕ
@@ -28,9 +31,9 @@ module _ {A : Type 0} where
   refusalCells (done a) = 0 ∷ 0 ∷ 0 ∷ []
   refusalCells (refused r) = r .number ∷ r .map ∷ r .place ∷ []
 
-abbrev pub cellAfter : Outcome ℕ → ℕ → ℕ
-cellAfter (done x) old = x
-cellAfter (refused r) old = old
+  abbrev pub cellAfter : Outcome A → A → A
+  cellAfter (done x) old = x
+  cellAfter (refused r) old = old
 
 abbrev pub summaryCells : Outcome Summary → List ℕ → List ℕ
 summaryCells (done s) old = s .n ∷ s .k ∷ s .m ∷ s .step ∷ s .len ∷ []
@@ -46,7 +49,7 @@ spanLength (refused r) = 0
 
 -- ---- what a call with outcome o answers and leaves: `old` stood in the result's cells, `new` stands there now
 
-pub record ToldNumber (o : Outcome ℕ) (code old new : ℕ) (why : List ℕ) : Type 0 where
+pub record ToldNumber {A : Type 0} (o : Outcome A) (code : ℕ) (old new : A) (why : List ℕ) : Type 0 where
   pub codeIs : code ≡ codeOf o
   pub resultIs : new ≡ cellAfter o old
   pub whyIs : why ≡ refusalCells o
@@ -69,3 +72,7 @@ numberOutcome (InNumber.Refused r) = refused r
 abbrev pub distanceOutcome : DistanceAnswer → Outcome ℕ
 distanceOutcome (InDistance.Distance x) = done x
 distanceOutcome (InDistance.Refused r) = refused r
+
+abbrev pub figureOutcome : FigureAnswer → Outcome Float
+figureOutcome (InFigure.Quotient x) = done x
+figureOutcome (InFigure.Refused r) = refused r

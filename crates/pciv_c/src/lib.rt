@@ -11,7 +11,7 @@ ghost use Rattle.pciv_format.specs.Arith.{combineMapsOutcome, combineMapsBuffer
 ghost use Rattle.pciv_format.specs.declared.SlotOp.the-variants.{Minimum, Maximum, Difference, Sum};
 ghost use Rattle.pciv_format.specs.Edit.{editOutcome, editBuffer};
 ghost use Rattle.pciv_format.specs.Report.{reportOutcome, reportBuffer};
-ghost use Rattle.pciv_c.specs.Cells.{ToldNumber, ToldFile, spanCells, spanLength, fileOutcome, numberOutcome, distanceOutcome};
+ghost use Rattle.pciv_c.specs.Cells.{ToldNumber, ToldFile, spanCells, spanLength, fileOutcome, numberOutcome, distanceOutcome, figureOutcome};
 use pciv_arith::difference;
 use pciv_arith::maximum;
 use pciv_arith::minimum;
@@ -20,6 +20,7 @@ use pciv_check::check;
 use pciv_close::close;
 use pciv_edit::edit;
 use pciv_format::DistanceAnswer;
+use pciv_format::FigureAnswer;
 use pciv_format::FileAnswer;
 use pciv_format::HEADER_LEN;
 use pciv_format::NumberAnswer;
@@ -77,6 +78,22 @@ fn tell_distance(a: DistanceAnswer, cell: &mut u32, refusal: &mut [usize; 3]) ->
             0
         }
         DistanceAnswer::Refused(r) => {
+            *refusal = [r.number, r.map, r.place];
+            r.number
+        }
+    }
+}
+
+fn tell_figure(a: FigureAnswer, cell: &mut f64, refusal: &mut [usize; 3]) -> usize
+    ensures told { λ r. ⌜ ToldNumber (figureOutcome a) r (now (cell .entry)) (now (cell .exit)) (now (refusal .exit)) ⌝ }
+{
+    match a {
+        FigureAnswer::Quotient(x) => {
+            *cell = x;
+            *refusal = [0, 0, 0];
+            0
+        }
+        FigureAnswer::Refused(r) => {
             *refusal = [r.number, r.map, r.place];
             r.number
         }
