@@ -1,6 +1,8 @@
 -- Which files are accepted, and as what they are read (docs/PROMISES.md, "Acceptance").
 --   file-accepted     the file of a list within the limits is accepted, with that list's summary
 --   file-read         it is read as that list
+--   file-table        the file of n slots with distances v is the file of the list of these distances
+--   file-table-read   so it is read as that list: what a routine that computes each slot's distance has written
 --   accepted-is-file  an accepted file is the file of the list that it is read as, which is within the limits,
 --                     and the answer is that list's summary
 --   accepted-iff      so a file is accepted exactly when it is the file of some list within the limits
@@ -18,7 +20,7 @@ use borrow.Author.Tests.{lt-leb}
 use Rattle.pciv_bytes.specs.Ranges.{table}
 use Rattle.pciv_bytes.specs.LittleEndian.{Bytes}
 use Rattle.pciv_bytes.proofs.RangesLaws.{length-table, getD-table}
-use Rattle.pciv_format.specs.Layout.{maxSlots, fileLen, overflowCount, file, countsOf, summary, at, fileOf, summaryOf, Limits}
+use Rattle.pciv_format.specs.Layout.{maxSlots, maxDistance, fileLen, overflowCount, file, countsOf, summary, at, fileOf, summaryOf, Limits}
 use Rattle.pciv_format.specs.Refusals.{done}
 use Rattle.pciv_format.specs.Parts.{valueOf}
 use Rattle.pciv_format.specs.Check.{nField, kField, fileParts, checkFile, CheckedMap}
@@ -46,6 +48,24 @@ file-read xs l =
     (let i<n : i < n = omega (arith, length-listOf b, h .nIs) in
     at-listOf b i (omega (arith, h .nIs))
     ∙ rw (h .nIs, h .kIs) (file-value n (at xs) (l .count) (l .each) i i<n)))
+
+module _ (n : ℕ) (v : ℕ → ℕ) where
+  at-table : (i : ℕ) → i < n → at (table v 0 n) i ≡ v i
+  at-table i h = getD-table v 0 0 n i h ∙ ap v (zero-add i)
+
+  pub file-table : file n v ≡ fileOf (table v 0 n)
+  file-table = rw (length-table v 0 n) (file-cong n v (at (table v 0 n)) (λ i h. sym (at-table i h)))
+
+  pub file-table-read : n ≤ maxSlots → ((i : ℕ) → i < n → v i ≤ maxDistance) → listOf (file n v) ≡ table v 0 n
+  file-table-read few each =
+      ap listOf file-table
+      ∙ file-read (table v 0 n)
+      (record {
+        count = omega (arith, few, length-table v 0 n);
+        each =
+            λ i h.
+            (let i<n : i < n = omega (arith, h, length-table v 0 n) in omega (arith, at-table i i<n, each i i<n));
+      })
 
 -- what an accepted file is
 pub record IsFile (b : List ℕ) (s : Summary) : Type 0 where

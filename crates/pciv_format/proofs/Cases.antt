@@ -2,12 +2,15 @@
 --   A, B        the two maps of "Worked examples"
 --   cases       the cases that "Worked examples" marks as proved, under one statement: a component for each
 --   lengths     the table of "Derived counts"
+--   further     a case for each routine that the examples leave out, and masks of more than a word
 --   examples    the other cases of "Worked examples", and texts of "The report program"
 -- A buffer or list that is lent holds 7 in each place, so that what is left unchanged shows.
 use mathlib.Core.Path.{_≡_, refl}
 use Prim.Native.Nat.{ℕ, _+_}
+use mathlib.Core.Bool.{xor}
 use mathlib.Core.List.{List, [], _∷_, _++_}
 use lib.ListN.{length, drop, replicate}
+use lib.IntN.{pos, negsuc}
 use lib.Ieee.{ofBits, ofInt, div, binary64}
 use Rattle.pciv_bytes.specs.Ranges.{firstFrom, firstBelow, table, positions, joined, sumFrom}
 use Rattle.pciv_bytes.specs.LittleEndian.{le, number, get}
@@ -21,15 +24,20 @@ use Rattle.pciv_format.specs.Check.{checkHeader, checkWith, checkFile}
 use Rattle.pciv_format.specs.Read.{listOf, primaryPart, lookupOutcome, total, readings}
 use Rattle.pciv_format.specs.Mask.{maskLen, bitAt, maskHas, word, maskOf, badMask}
 use Rattle.pciv_format.specs.Mask.{setBits, setBitsOutcome}
+use Rattle.pciv_format.specs.Mask.{combineOutcome, combineWords, complementOutcome, complementWords}
+use Rattle.pciv_format.specs.Mask.{mapOfMaskOutcome, mapOfMaskBuffer, keepMaskedOutcome, keepMaskedBuffer}
+use Rattle.pciv_format.specs.Mask.{incrementMaskedOutcome, incrementMaskedBuffer}
 use Rattle.pciv_format.specs.Mask.{thresholdOutcome, thresholdWords, nearMaskOutcome, nearMaskWords}
-use Rattle.pciv_format.specs.Arith.{combineMapsOutcome, combineMapsBuffer}
-use Rattle.pciv_format.specs.Figures.{quotient, distanceBetween, brayCurtisOutcome}
+use Rattle.pciv_format.specs.Arith.{combineMapsOutcome, combineMapsBuffer, shiftedBy, shiftOutcome, shiftBuffer}
+use Rattle.pciv_format.specs.Arith.{signedDifferences, signedDifferenceOutcome, signedDifferenceList}
+use Rattle.pciv_format.specs.Figures.{quotient, distanceBetween, brayCurtisOutcome, countAt, jaccardOutcome}
 use Rattle.pciv_format.specs.Edit.{Edit, plainOutcome, editedFile, editOutcome, replaced, editBuffer}
 use Rattle.pciv_format.specs.Report.{digits, decimal, field, line, mapLines, refusedLine, reportText}
 use Rattle.pciv_format.specs.declared.Summary.{Summary}
 use Rattle.pciv_format.specs.declared.SlotOp.{SlotOp}
 use Rattle.pciv_format.specs.declared.SlotOp.the-variants.{Minimum, Maximum, Sum, Difference}
-use Rattle.pciv_format.specs.declared.Comparison.the-variants.{AtMost, AtLeast}
+use Rattle.pciv_format.specs.declared.Comparison.the-variants.{Below, AtMost, Above, AtLeast}
+use Rattle.pciv_format.specs.declared.MaskOp.the-variants.{And, Or, Xor}
 
 abbrev pub A : List ℕ
 A = 0 ∷ 254 ∷ 255 ∷ 300 ∷ []
@@ -160,3 +168,67 @@ unfolding
     quotient distanceBetween brayCurtisOutcome ofBits ofInt div
     digits decimal field line mapLines refusedLine reportText
 examples = (refl, refl, refl, refl, refl, refl, refl, refl, refl, refl)
+
+-- 64 slots at 1 and one at 300: two mask words
+abbrev pub M : List ℕ
+M = replicate 64 1 ++ (300 ∷ [])
+
+abbrev pub ones : ℕ
+ones = 0xFFFFFFFFFFFFFFFF
+
+pub further :
+    -- masks of M: below 300, above 299
+    (thresholdWords Below (fileOf M) 300 (7 ∷ 7 ∷ 7 ∷ []) ≡ ones ∷ 0 ∷ 7 ∷ [])
+    × (thresholdWords Above (fileOf M) 299 (7 ∷ 7 ∷ 7 ∷ []) ≡ 0 ∷ 1 ∷ 7 ∷ [])
+    × (thresholdOutcome Above (fileOf M) 299 1 ≡ refuse 12 0 0)
+    -- masks of masks: slots 0, 1 and slots 1, 2 of four; the complement of slot 64 of 65; bit 4 is past four slots
+    × (combineWords And 4 (3 ∷ []) (6 ∷ []) (7 ∷ []) ≡ 2 ∷ [])
+    × (combineWords Or 4 (3 ∷ []) (6 ∷ []) (0 ∷ []) ≡ 7 ∷ [])
+    × (combineWords Xor 4 (3 ∷ []) (6 ∷ []) (7 ∷ []) ≡ 5 ∷ [])
+    × (complementWords 65 (0 ∷ 1 ∷ []) (7 ∷ 7 ∷ 7 ∷ []) ≡ ones ∷ 0 ∷ 7 ∷ [])
+    × (setBitsOutcome 65 (ones ∷ 1 ∷ []) ≡ done 65)
+    × (setBitsOutcome 4 (16 ∷ []) ≡ refuse 13 0 0)
+    × (setBitsOutcome 1048577 [] ≡ refuse 3 1 0)
+    -- files from masks: slots 2 and 3; A kept at slots 1 and 3; A plus 1 at slots 1 and 2; B plus 1 at slot 3
+    × (mapOfMaskBuffer 4 (12 ∷ []) (replicate 45 7) ≡ fileOf (0 ∷ 0 ∷ 1 ∷ 1 ∷ []) ++ (7 ∷ []))
+    × (keepMaskedBuffer (fileOf A) (10 ∷ []) (replicate 57 7) ≡ fileOf (0 ∷ 254 ∷ 0 ∷ 300 ∷ []) ++ (7 ∷ []))
+    × (incrementMaskedBuffer (fileOf A) (6 ∷ []) (replicate 81 7) ≡ fileOf (0 ∷ 255 ∷ 256 ∷ 300 ∷ []) ++ (7 ∷ []))
+    × (incrementMaskedOutcome (fileOf B) (8 ∷ []) 99 ≡ refuse 11 0 3)
+    -- Jaccard of A and B at 255: one slot in exactly one, two in either
+    × (jaccardOutcome 255 (fileOf A) (fileOf B) ≡ done (ofBits binary64 0x3FE0000000000000))
+    -- A shifted by -255 and by 1; B - A
+    × (shiftBuffer (fileOf A) (negsuc 254) (replicate 45 7) ≡ fileOf (0 ∷ 0 ∷ 0 ∷ 45 ∷ []) ++ (7 ∷ []))
+    × (shiftBuffer (fileOf A) (pos 1) (replicate 81 7) ≡ fileOf (1 ∷ 255 ∷ 256 ∷ 301 ∷ []) ++ (7 ∷ []))
+    × (shiftOutcome (fileOf B) (pos 1) 99 ≡ refuse 11 0 3)
+    × (signedDifferenceList (fileOf A) (fileOf B) (pos 7 ∷ pos 7 ∷ pos 7 ∷ pos 7 ∷ pos 7 ∷ [])
+    ≡ pos 1 ∷ negsuc 252 ∷ negsuc 253 ∷ pos 4294966995 ∷ pos 7 ∷ [])
+unfolding
+    firstFrom firstBelow table positions joined sumFrom le number get indexStep indexLen fileLen primary
+    overflowSlots overflowCount overflowEntry overflowPart indexEntry indexPart header file countsOf summary
+    badEntry entryOf badSlot valueOf badIndexEntry badCounts checkParts checkHeader checkWith
+    listOf bitAt maskHas word maskOf badMask thresholdOutcome thresholdWords combineOutcome combineWords
+    complementOutcome complementWords setBits setBitsOutcome mapOfMaskOutcome mapOfMaskBuffer
+    keepMaskedOutcome keepMaskedBuffer incrementMaskedOutcome incrementMaskedBuffer
+    quotient countAt jaccardOutcome ofBits ofInt div shiftedBy shiftOutcome shiftBuffer
+    signedDifferences signedDifferenceOutcome signedDifferenceList xor
+further = (
+  refl,
+  refl,
+  refl,
+  refl,
+  refl,
+  refl,
+  refl,
+  refl,
+  refl,
+  refl,
+  refl,
+  refl,
+  refl,
+  refl,
+  refl,
+  refl,
+  refl,
+  refl,
+  refl,
+)
