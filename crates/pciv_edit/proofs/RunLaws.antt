@@ -22,7 +22,7 @@ use Rattle.pciv_bytes.proofs.WriteLaws.{sets-append, sets-front}
 use Rattle.pciv_format.specs.Layout.{maxDistance, Limits, fileLen, overflowCount, countsOf, summary, at, fileOf, summaryOf}
 use Rattle.pciv_format.specs.Refusals.{Outcome, done, refused, refuse}
 use Rattle.pciv_format.specs.Check.{checkBuffer, CheckedMap}
-use Rattle.pciv_format.specs.Edit.{Edit, edited, plainOutcome, editOutcome, replaced, editBuffer, plainStart, plainStep, plainRun, plainOutcomes, bufferOf, editRun, editOutcomes, RunLimits, answerLen, cellsOf, answerCells, allCells, editsOf, startOf, editListOutcome, editListBuffer, editListAnswers}
+use Rattle.pciv_format.specs.Edit.{Edit, edited, plainOutcome, editOutcome, replaced, editBuffer, plainStart, plainStep, plainRun, plainOutcomes, bufferOf, editRun, editOutcomes, RunLimits, answerLen, cellsOf, noRefusal, noSummary, answerCells, allCells, editsOf, startOf, editListOutcome, editListBuffer, editListAnswers}
 use Rattle.pciv_format.specs.declared.Summary.{Summary}
 use Rattle.pciv_format.specs.declared.Refusal.{Refusal}
 use Rattle.pciv_format.proofs.PartsLaws.{eqb-not}
@@ -157,11 +157,11 @@ cells-written d to r s =
     rw (e₁, e₂, e₃, e₄, e₅, e₆, e₇)
 
 module _ (o : Outcome Summary) where
-  pub cells-refused : (r : Refusal) → o ≡ refused r → cellsOf r (record { n = 0; k = 0; m = 0; step = 0; len = 0 }) ≡ answerCells o
+  pub cells-refused : (r : Refusal) → o ≡ refused r → cellsOf r noSummary ≡ answerCells o
   unfolding answerCells
   cells-refused r is = rw is
 
-  pub cells-done : (s : Summary) → o ≡ done s → cellsOf (record { number = 0; map = 0; place = 0 }) s ≡ answerCells o
+  pub cells-done : (s : Summary) → o ≡ done s → cellsOf noRefusal s ≡ answerCells o
   unfolding answerCells
   cells-done s is = rw is
 

@@ -59,10 +59,10 @@ replaced b x y =
     fileOf y
     ++ (replicate (length (fileOf x) - length (fileOf y)) 0 ++ drop (max (length (fileOf x)) (length (fileOf y))) b)
 
-module _ {A : Type 0} where
-  -- the new state where an edit is accepted, the old one where it is refused
-  abbrev pub ifAccepted : Outcome Summary → A → A → A
-  ifAccepted (done s) new old = new
+module _ {A B : Type 0} where
+  -- the new state where an edit is accepted, the old one where it is refused; a run in one call likewise
+  abbrev pub ifAccepted : Outcome A → B → B → B
+  ifAccepted (done a) new old = new
   ifAccepted (refused r) new old = old
 
 unfoldable pub editBuffer : List ℕ → Edit → List ℕ
@@ -142,9 +142,15 @@ answerLen = 8
 abbrev pub cellsOf : Refusal → Summary → List ℕ
 cellsOf r s = r .number ∷ r .map ∷ r .place ∷ s .n ∷ s .k ∷ s .m ∷ s .step ∷ s .len ∷ []
 
+abbrev pub noRefusal : Refusal
+noRefusal = record { number = 0; map = 0; place = 0 }
+
+abbrev pub noSummary : Summary
+noSummary = record { n = 0; k = 0; m = 0; step = 0; len = 0 }
+
 unfoldable pub answerCells : Outcome Summary → List ℕ
-answerCells (done s) = cellsOf (record { number = 0; map = 0; place = 0 }) s
-answerCells (refused r) = cellsOf r (record { n = 0; k = 0; m = 0; step = 0; len = 0 })
+answerCells (done s) = cellsOf noRefusal s
+answerCells (refused r) = cellsOf r noSummary
 
 -- the answers one after another
 unfoldable pub allCells : List (Outcome Summary) → List ℕ
@@ -163,12 +169,6 @@ editListOutcome b slots distances capacity =
     refuseIf (not (eqb (length slots) (length distances))) (refuse 9 0 (min (length slots) (length distances)))
     (refuseIf (ltb capacity (answerLen * length slots)) (refuse 12 0 0) (done (length slots))))
 
-module _ {A B : Type 0} where
-  -- the new one where a run is made, the old one where it is refused
-  abbrev pub ifDone : Outcome A → B → B → B
-  ifDone (done a) new old = new
-  ifDone (refused r) new old = old
-
 -- the plain editor's start on the file at the front of a buffer
 abbrev pub startOf : List ℕ → State
 startOf b = plainStart (listOf (editedFile b))
@@ -176,7 +176,7 @@ startOf b = plainStart (listOf (editedFile b))
 -- what the plain editor's run leaves
 unfoldable pub editListBuffer : List ℕ → List ℕ → List ℕ → ℕ → List ℕ
 editListBuffer b slots distances capacity =
-    ifDone (editListOutcome b slots distances capacity)
+    ifAccepted (editListOutcome b slots distances capacity)
     (bufferOf (plainRun (length b) (startOf b) (editsOf slots distances)) b) b
 
 -- the plain editor's answers, at the front of the caller's list
