@@ -2,6 +2,7 @@
 // distance, in place. What it answers and leaves is defined in pciv_format, specs/Edit.antt.
 mod change;
 mod checked;
+pub mod run;
 
 ghost use mathlib.Core.Path.{_≡_};
 ghost use Rattle.pciv_format.specs.Edit.{editOutcome, editAnswer, editBuffer};

@@ -7,16 +7,21 @@
 --   bufferOf z b₀             what the buffer holds in state z, where it was b₀ at the start
 --   editRun, editOutcomes     the editor's buffer after a list of edits, and its answers in order
 --   RunLimits b es            every edit of a run keeps to the limits on changed bytes
+--   answerCells o             one answer of a run as answerLen numbers
+--   editsOf                   the edits of a list of slots and a list of distances
+--   editListOutcome, editListBuffer, editListAnswers
+--                             the answer of a run of edits in one call, the buffer and the list of answers afterwards
 -- The plain editor is given the starting list, R and the edits, and nothing else. Axioms: none.
 use mathlib.Core.Path.{_≡_}
-use Prim.Native.Nat.{ℕ, _+_, _-_, _*_, _≤_, _<_, max}
-use mathlib.Core.Bool.{Bool, true, false}
+use Prim.Native.Nat.{ℕ, _+_, _-_, _*_, _≤_, _<_, max, min}
+use mathlib.Core.Bool.{Bool, true, false, not}
 use mathlib.Core.List.{List, [], _∷_, _++_}
 use mathlib.Core.Logic.{_⊎_}
 use lib.ListN.{length, getD, take, drop, set, replicate}
-use lib.Dec.{ltb, leb}
+use lib.Dec.{ltb, leb, eqb}
+use Rattle.pciv_bytes.specs.Ranges.{table}
 use Rattle.pciv_format.specs.Layout.{fileLen, inOverflow, overflowCount, at, fileOf, summaryOf}
-use Rattle.pciv_format.specs.Refusals.{Outcome, done, refused, refuse, refuseIf, andThen, fileAnswer}
+use Rattle.pciv_format.specs.Refusals.{Outcome, done, refused, refuse, refuseIf, andThen, written, fileAnswer}
 use Rattle.pciv_format.specs.Check.{nField, kField, checkBuffer}
 use Rattle.pciv_format.specs.Read.{listOf}
 use Rattle.pciv_format.specs.declared.Summary.{Summary}
@@ -54,10 +59,10 @@ replaced b x y =
     fileOf y
     ++ (replicate (length (fileOf x) - length (fileOf y)) 0 ++ drop (max (length (fileOf x)) (length (fileOf y))) b)
 
-module _ {A : Type 0} where
-  -- the new state where an edit is accepted, the old one where it is refused
-  abbrev pub ifAccepted : Outcome Summary → A → A → A
-  ifAccepted (done s) new old = new
+module _ {A B : Type 0} where
+  -- the new state where an edit is accepted, the old one where it is refused; a run in one call likewise
+  abbrev pub ifAccepted : Outcome A → B → B → B
+  ifAccepted (done a) new old = new
   ifAccepted (refused r) new old = old
 
 unfoldable pub editBuffer : List ℕ → Edit → List ℕ
@@ -126,3 +131,56 @@ plainOutcomes R z (e ∷ es) = plainOutcome (z .list) R e ∷ plainOutcomes R (p
 -- x's file, zeros up to the longest file so far, then the bytes that stood there at the start
 unfoldable pub bufferOf : State → List ℕ → List ℕ
 bufferOf z b₀ = fileOf (z .list) ++ (replicate (z .filled - length (fileOf (z .list))) 0 ++ drop (z .filled) b₀)
+
+-- ---- a run of edits in one call
+
+-- how many numbers an answer is
+abbrev pub answerLen : ℕ
+answerLen = 8
+
+-- a refusal and a summary, one of which is all 0
+abbrev pub cellsOf : Refusal → Summary → List ℕ
+cellsOf r s = r .number ∷ r .map ∷ r .place ∷ s .n ∷ s .k ∷ s .m ∷ s .step ∷ s .len ∷ []
+
+abbrev pub noRefusal : Refusal
+noRefusal = record { number = 0; map = 0; place = 0 }
+
+abbrev pub noSummary : Summary
+noSummary = record { n = 0; k = 0; m = 0; step = 0; len = 0 }
+
+unfoldable pub answerCells : Outcome Summary → List ℕ
+answerCells (done s) = cellsOf noRefusal s
+answerCells (refused r) = cellsOf r noSummary
+
+-- the answers one after another
+unfoldable pub allCells : List (Outcome Summary) → List ℕ
+allCells [] = []
+allCells (o ∷ os) = answerCells o ++ allCells os
+
+-- edit j is slot j of the one list and distance j of the other
+unfoldable pub editsOf : List ℕ → List ℕ → List Edit
+editsOf slots distances = table (λ (j : ℕ). record { slot = at slots j; distance = at distances j }) 0 (length slots)
+
+-- refusals 1 to 8; 9 at the least position that has no edit, where one list is longer; 12; else how many edits
+unfoldable pub editListOutcome : List ℕ → List ℕ → List ℕ → ℕ → Outcome ℕ
+editListOutcome b slots distances capacity =
+    andThen (checkBuffer 1 b)
+    (λ s.
+    refuseIf (not (eqb (length slots) (length distances))) (refuse 9 0 (min (length slots) (length distances)))
+    (refuseIf (ltb capacity (answerLen * length slots)) (refuse 12 0 0) (done (length slots))))
+
+-- the plain editor's start on the file at the front of a buffer
+abbrev pub startOf : List ℕ → State
+startOf b = plainStart (listOf (editedFile b))
+
+-- what the plain editor's run leaves
+unfoldable pub editListBuffer : List ℕ → List ℕ → List ℕ → ℕ → List ℕ
+editListBuffer b slots distances capacity =
+    ifAccepted (editListOutcome b slots distances capacity)
+    (bufferOf (plainRun (length b) (startOf b) (editsOf slots distances)) b) b
+
+-- the plain editor's answers, at the front of the caller's list
+unfoldable pub editListAnswers : List ℕ → List ℕ → List ℕ → List ℕ → List ℕ
+editListAnswers b slots distances out =
+    written (editListOutcome b slots distances (length out))
+    (allCells (plainOutcomes (length b) (startOf b) (editsOf slots distances))) out

@@ -11,6 +11,8 @@ pub const MAGIC: usize = 0x56494350;
 pub const SENTINEL: u8 = 255;
 // Up to this many overflow entries a file has no sparse index.
 pub const UNINDEXED_MAX: usize = 2048;
+// How many numbers an answer of a run of edits is.
+pub const ANSWER_LEN: usize = 8;
 
 // The refusals' numbers.
 pub const TRUNCATED_HEADER: usize = 1;

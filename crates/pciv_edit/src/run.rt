@@ -1,0 +1,160 @@
+// A run of edits in one call (docs/FORMAT.md, "A run of edits"): the file is checked once, and each edit gets the buffer
+// as the one before left it. What the run answers and leaves is defined in pciv_format, specs/Edit.antt.
+ghost use mathlib.Core.Path.{_≡_};
+ghost use Prim.Native.Nat.{_+_, _*_, _≤_};
+ghost use lib.ListN.{length};
+ghost use lib.Seq.{sets};
+ghost use Rattle.pciv_format.specs.Refusals.{refuse, numberAnswer};
+ghost use Rattle.pciv_format.specs.Check.{CheckedMap};
+ghost use Rattle.pciv_format.specs.Edit.{editOutcome, editBuffer, editRun, editOutcomes, answerLen, cellsOf, answerCells, allCells, editsOf, editListOutcome, editListBuffer, editListAnswers};
+use crate::checked::edit_checked;
+use pciv_check::check_buffer;
+use pciv_format::ANSWER_LEN;
+use pciv_format::BUFFER_TOO_SMALL;
+use pciv_format::FileAnswer;
+use pciv_format::NumberAnswer;
+use pciv_format::Refusal;
+use pciv_format::SLOT_OUT_OF_RANGE;
+use pciv_format::Summary;
+
+// A refusal that concerns no map.
+fn refused(number: usize, place: usize) -> NumberAnswer
+    ensures { λ r. ⌜ r ≡ numberAnswer (refuse number 0 place) ⌝ }
+{
+    NumberAnswer::Refused(Refusal {
+        number,
+        map: 0,
+        place,
+    })
+}
+
+// Writes the numbers of one answer.
+fn put_cells(answers: &mut [usize], at: usize, r: Refusal, s: Summary)
+    requires { ⌜ at + answerLen ≤ length (now answers) ⌝ }
+    ensures { λ _. ⌜ now (answers .exit) ≡ sets (now (answers .entry)) at (cellsOf r s) ⌝ }
+{
+    answers[at] = r.number;
+    answers[at + 1] = r.map;
+    answers[at + 2] = r.place;
+    answers[at + 3] = s.n;
+    answers[at + 4] = s.k;
+    answers[at + 5] = s.m;
+    answers[at + 6] = s.step;
+    answers[at + 7] = s.len;
+}
+
+// One edit of a checked map; its answer goes to the caller's list. Answers how many overflow entries there are now.
+fn edit_next(
+    buffer: &mut [u8],
+    answers: &mut [usize],
+    at: usize,
+    n: usize,
+    k: usize,
+    slot: usize,
+    distance: u32,
+) -> usize
+    requires { ⌜ CheckedMap (now buffer) n k ⌝ }
+    requires { ⌜ at + answerLen ≤ length (now answers) ⌝ }
+    ensures map { λ r. ⌜ CheckedMap (now (buffer .exit)) n r ⌝ }
+    ensures buffer { λ _. ⌜ now (buffer .exit) ≡ editBuffer (now (buffer .entry)) (record { slot = slot; distance = distance }) ⌝ }
+    ensures answers { λ _. ⌜ now (answers .exit) ≡ sets (now (answers .entry)) at (answerCells (editOutcome (now (buffer .entry)) (record { slot = slot; distance = distance }))) ⌝ }
+{
+    let told = edit_checked(buffer, n, k, slot, distance);
+    match told {
+        FileAnswer::Refused(r) => {
+            put_cells(
+                answers,
+                at,
+                r,
+                Summary {
+                    n: 0,
+                    k: 0,
+                    m: 0,
+                    step: 0,
+                    len: 0,
+                },
+            );
+            k
+        }
+        FileAnswer::Done(s) => {
+            put_cells(
+                answers,
+                at,
+                Refusal {
+                    number: 0,
+                    map: 0,
+                    place: 0,
+                },
+                s,
+            );
+            s.k
+        }
+    }
+}
+
+// All edits of two lists of one length, on a checked map. A refused edit does not end the run.
+fn edit_all(
+    buffer: &mut [u8],
+    answers: &mut [usize],
+    n: usize,
+    k: usize,
+    slots: &[usize],
+    distances: &[u32],
+)
+    requires { ⌜ CheckedMap (now buffer) n k ⌝ }
+    requires { ⌜ length (now slots) ≡ length (now distances) ⌝ }
+    requires { ⌜ answerLen * length (now slots) ≤ length (now answers) ⌝ }
+    ensures buffer { λ _. ⌜ now (buffer .exit) ≡ editRun (now (buffer .entry)) (editsOf (now (slots .entry)) (now (distances .entry))) ⌝ }
+    ensures answers { λ _. ⌜ now (answers .exit) ≡ sets (now (answers .entry)) 0 (allCells (editOutcomes (now (buffer .entry)) (editsOf (now (slots .entry)) (now (distances .entry))))) ⌝ }
+{
+    let mut i = 0;
+    let mut count = k;
+    while i < slots.len() {
+        count = edit_next(
+            buffer,
+            answers,
+            ANSWER_LEN * i,
+            n,
+            count,
+            slots[i],
+            distances[i],
+        );
+        i += 1;
+    }
+}
+
+// Makes a run of edits on the file at the front of the buffer: edit j sets slot `slots[j]` to `distances[j]`.
+// Its answer is ANSWER_LEN numbers from `answers[ANSWER_LEN * j]` on: refusal number, map and place, then n, k, m, step
+// and length; 0 where it is the other. A refused edit changes no byte, and the run goes on. Answers how many edits.
+// Refusals of the run: 1 to 8, with map 1; then 9 where the lists differ in length, with the least position that has no
+// edit; then 12 where `answers` is too short. A refused run changes nothing.
+pub fn edit_list(
+    buffer: &mut [u8],
+    slots: &[usize],
+    distances: &[u32],
+    answers: &mut [usize],
+) -> NumberAnswer
+    ensures answer { λ r. ⌜ r ≡ numberAnswer (editListOutcome (now (buffer .entry)) (now (slots .entry)) (now (distances .entry)) (length (now (answers .entry)))) ⌝ }
+    ensures buffer { λ _. ⌜ now (buffer .exit) ≡ editListBuffer (now (buffer .entry)) (now (slots .entry)) (now (distances .entry)) (length (now (answers .entry))) ⌝ }
+    ensures answers { λ _. ⌜ now (answers .exit) ≡ editListAnswers (now (buffer .entry)) (now (slots .entry)) (now (distances .entry)) (now (answers .entry)) ⌝ }
+{
+    let checked = check_buffer(buffer, 1);
+    match checked {
+        FileAnswer::Refused(r) => NumberAnswer::Refused(r),
+        FileAnswer::Done(s) => {
+            let n = s.n;
+            let k = s.k;
+            if slots.len() < distances.len() {
+                return refused(SLOT_OUT_OF_RANGE, slots.len());
+            }
+            if distances.len() < slots.len() {
+                return refused(SLOT_OUT_OF_RANGE, distances.len());
+            }
+            if answers.len() / ANSWER_LEN < slots.len() {
+                return refused(BUFFER_TOO_SMALL, 0);
+            }
+            edit_all(buffer, answers, n, k, slots, distances);
+            NumberAnswer::Number(slots.len())
+        }
+    }
+}
