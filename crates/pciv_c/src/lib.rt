@@ -9,7 +9,7 @@ ghost use Rattle.pciv_format.specs.Read.{lookupOutcome, lookupListOutcome, look
 ghost use Rattle.pciv_format.specs.Write.{writeOutcome, writeBuffer, closeOutcome, closeBuffer};
 ghost use Rattle.pciv_format.specs.Arith.{combineMapsOutcome, combineMapsBuffer, shiftOutcome, shiftBuffer, signedDifferenceOutcome, signedDifferenceList};
 ghost use Rattle.pciv_format.specs.declared.SlotOp.the-variants.{Minimum, Maximum, Difference, Sum};
-ghost use Rattle.pciv_format.specs.Edit.{editOutcome, editBuffer};
+ghost use Rattle.pciv_format.specs.Edit.{editOutcome, editBuffer, editListOutcome, editListBuffer, editListAnswers};
 ghost use Rattle.pciv_format.specs.Report.{reportOutcome, reportBuffer};
 ghost use Rattle.pciv_c.specs.Cells.{ToldNumber, ToldFile, spanCells, spanLength, fileOutcome, numberOutcome, distanceOutcome, figureOutcome};
 use pciv_arith::difference;
@@ -19,6 +19,7 @@ use pciv_change::signed_difference;
 use pciv_check::check;
 use pciv_close::close;
 use pciv_edit::edit;
+use pciv_edit::run::edit_list;
 use pciv_format::DistanceAnswer;
 use pciv_format::FigureAnswer;
 use pciv_format::FileAnswer;
@@ -320,6 +321,22 @@ pub extern "C" fn pciv_edit(
     let edited = edit(buffer, slot, distance);
     let outcome = edited.outcome;
     tell_file(outcome, summary, refusal)
+}
+
+#[no_mangle]
+pub extern "C" fn pciv_edit_list(
+    buffer: &mut [u8],
+    slots: &[usize],
+    distances: &[u32],
+    answers: &mut [usize],
+    count: &mut usize,
+    refusal: &mut [usize; 3],
+) -> usize
+    ensures told { λ r. ⌜ ToldNumber (editListOutcome (now (buffer .entry)) (now (slots .entry)) (now (distances .entry)) (length (now (answers .entry)))) r (now (count .entry)) (now (count .exit)) (now (refusal .exit)) ⌝ }
+    ensures buffer { λ _. ⌜ now (buffer .exit) ≡ editListBuffer (now (buffer .entry)) (now (slots .entry)) (now (distances .entry)) (length (now (answers .entry))) ⌝ }
+    ensures answers { λ _. ⌜ now (answers .exit) ≡ editListAnswers (now (buffer .entry)) (now (slots .entry)) (now (distances .entry)) (now (answers .entry)) ⌝ }
+{
+    tell_number(edit_list(buffer, slots, distances, answers), count, refusal)
 }
 
 // ---- the report
