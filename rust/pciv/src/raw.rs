@@ -6,10 +6,10 @@
 
 #![allow(unsafe_code)]
 
-use crate::{Refusal, Summary};
+use crate::{Entry, Refusal, Summary};
 
 mod c {
-    use crate::{Refusal, Summary};
+    use crate::{Entry, Refusal, Summary};
 
     extern "C" {
         pub fn pciv_check(
@@ -76,6 +76,16 @@ mod c {
             summary: *mut Summary,
             refusal: *mut Refusal,
         ) -> u64;
+        pub fn pciv_close_entries(
+            primary: *const u8,
+            primary_len: usize,
+            entries: *const Entry,
+            entries_len: usize,
+            out: *mut u8,
+            out_len: usize,
+            summary: *mut Summary,
+            refusal: *mut Refusal,
+        ) -> u64;
         pub fn pciv_shift(
             file: *const u8,
             file_len: usize,
@@ -128,7 +138,7 @@ mod c {
 
 // Every call below is sound for the same reason: references and slices give non-null, aligned
 // pointers that are valid for their lengths, `&mut` ones overlap no other, the library keeps none
-// of them past the call, and `Summary` and `Refusal` are laid out as in the header.
+// of them past the call, and `Summary`, `Refusal` and `Entry` are laid out as in the header.
 
 /// `pciv_check`.
 pub fn check(file: &[u8], summary: &mut Summary, refusal: &mut Refusal) -> u64 {
@@ -227,6 +237,28 @@ pub fn close(
             slots.len(),
             distances.as_ptr(),
             distances.len(),
+            out.as_mut_ptr(),
+            out.len(),
+            summary,
+            refusal,
+        )
+    }
+}
+
+/// `pciv_close_entries`.
+pub fn close_entries(
+    primary: &[u8],
+    entries: &[Entry],
+    out: &mut [u8],
+    summary: &mut Summary,
+    refusal: &mut Refusal,
+) -> u64 {
+    unsafe {
+        c::pciv_close_entries(
+            primary.as_ptr(),
+            primary.len(),
+            entries.as_ptr(),
+            entries.len(),
             out.as_mut_ptr(),
             out.len(),
             summary,

@@ -16,10 +16,11 @@ mod report;
 mod write;
 
 pub use arith::{difference, maximum, minimum, shift, signed_difference, sum_maps};
+pub use entries::Entry;
 pub use layout::{file_len, index_len, index_step, HEADER_LEN, MAX_SLOTS, SENTINEL};
 pub use map::{check, decode, lookup, lookup_list, primary, readings, scan, sum, Map};
 pub use report::{report, report_text, MAX_INPUT};
-pub use write::{close, encode, write};
+pub use write::{close, close_entries, encode, write};
 
 /// What a sound file's header says, and the file's length.
 #[derive(Clone, Copy, Debug, PartialEq, Eq)]
