@@ -180,6 +180,17 @@ uint64_t pciv_close(const uint8_t *primary, size_t primary_len, const uint64_t *
                     size_t slots_len, const uint32_t *distances, size_t distances_len, uint8_t *out,
                     size_t out_len, pciv_summary *summary, pciv_refusal *refusal);
 
+/* An overflow entry in memory. In a file it has 12 bytes. */
+typedef struct {
+    uint64_t slot;
+    uint32_t distance; /* 255 or more */
+} pciv_entry;
+
+/* As pciv_close, with the overflow entries in one list. */
+uint64_t pciv_close_entries(const uint8_t *primary, size_t primary_len, const pciv_entry *entries,
+                            size_t entries_len, uint8_t *out, size_t out_len,
+                            pciv_summary *summary, pciv_refusal *refusal);
+
 /* ---- Arithmetic -------------------------------------------------------------------------------
  *
  * Each call works slot by slot. a is the first file and b the second; for their faults a refusal

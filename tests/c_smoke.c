@@ -232,6 +232,27 @@ static void test_close(const uint8_t *file)
     EXPECT(is_refusal(&refusal, PCIV_OK, 0, 0) && is_map(out, sizeof out, &summary, file));
 }
 
+static void test_close_entries(const uint8_t *file)
+{
+    static const uint8_t primary[N] = {0, 254, 255, 255};
+    static const pciv_entry entries[] = {{2, 255}, {3, 300}};
+    uint8_t out[MAP_LEN + 8];
+    pciv_summary summary;
+    pciv_refusal refusal;
+    memset(out, DIRTY, sizeof out);
+    memset(&summary, DIRTY, sizeof summary);
+    EXPECT(pciv_close_entries(primary, N, entries + 1, 1, out, sizeof out, &summary, &refusal) ==
+           PCIV_MISSING_OVERFLOW_ENTRY);
+    EXPECT(is_refusal(&refusal, PCIV_MISSING_OVERFLOW_ENTRY, 1, 2));
+    EXPECT(pciv_close_entries(primary, 3, entries, 2, out, sizeof out, &summary, &refusal) ==
+           PCIV_BAD_OVERFLOW_ENTRY);
+    EXPECT(is_refusal(&refusal, PCIV_BAD_OVERFLOW_ENTRY, 1, 1));
+    EXPECT(is_dirty(out, sizeof out) && is_dirty(&summary, sizeof summary));
+    EXPECT(pciv_close_entries(primary, N, entries, 2, out, sizeof out, &summary, &refusal) ==
+           PCIV_OK);
+    EXPECT(is_refusal(&refusal, PCIV_OK, 0, 0) && is_map(out, sizeof out, &summary, file));
+}
+
 /* The map with the other one, to a file of k overflow entries; damaged files and a short buffer. */
 static void test_combine(combine *call, const uint8_t *a, const uint8_t *b, uint64_t k,
                          const uint32_t expected[N])
@@ -376,6 +397,7 @@ int main(void)
     test_totals(file);
     test_write(file);
     test_close(file);
+    test_close_entries(file);
     test_arithmetic(file, other);
     test_report(file);
     test_damage(file, 0, 'p', PCIV_BAD_MAGIC, 0);

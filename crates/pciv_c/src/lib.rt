@@ -11,6 +11,7 @@ ghost use Rattle.pciv_format.specs.Arith.{combineMapsOutcome, combineMapsBuffer
 ghost use Rattle.pciv_format.specs.declared.SlotOp.the-variants.{Minimum, Maximum, Difference, Sum};
 ghost use Rattle.pciv_format.specs.Edit.{editOutcome, editBuffer, editListOutcome, editListBuffer, editListAnswers};
 ghost use Rattle.pciv_format.specs.Report.{reportOutcome, reportBuffer};
+ghost use Rattle.pciv_close.specs.Entries.{slotsOf, distancesOf};
 ghost use Rattle.pciv_c.specs.Cells.{ToldNumber, ToldFile, spanCells, spanLength, fileOutcome, numberOutcome, distanceOutcome, figureOutcome};
 use pciv_arith::difference;
 use pciv_arith::maximum;
@@ -18,9 +19,11 @@ use pciv_arith::minimum;
 use pciv_change::signed_difference;
 use pciv_check::check;
 use pciv_close::close;
+use pciv_close::entries::close_entries;
 use pciv_edit::edit;
 use pciv_edit::run::edit_list;
 use pciv_format::DistanceAnswer;
+use pciv_format::Entry;
 use pciv_format::FigureAnswer;
 use pciv_format::FileAnswer;
 use pciv_format::HEADER_LEN;
@@ -217,6 +220,21 @@ pub extern "C" fn pciv_close(
     ensures buffer { λ _. ⌜ now (out .exit) ≡ closeBuffer (now (primary .entry)) (now (slots .entry)) (now (distances .entry)) (now (out .entry)) ⌝ }
 {
     tell_file(close(primary, slots, distances, out), summary, refusal)
+}
+
+// As pciv_close, with the entries as structs.
+#[no_mangle]
+pub extern "C" fn pciv_close_entries(
+    primary: &[u8],
+    entries: &[Entry],
+    out: &mut [u8],
+    summary: &mut [usize; 5],
+    refusal: &mut [usize; 3],
+) -> usize
+    ensures told { λ r. ⌜ ToldFile (closeOutcome (now (primary .entry)) (slotsOf (now (entries .entry))) (distancesOf (now (entries .entry))) (length (now (out .entry)))) r (now (summary .entry)) (now (summary .exit)) (now (refusal .exit)) ⌝ }
+    ensures buffer { λ _. ⌜ now (out .exit) ≡ closeBuffer (now (primary .entry)) (slotsOf (now (entries .entry))) (distancesOf (now (entries .entry))) (now (out .entry)) ⌝ }
+{
+    tell_file(close_entries(primary, entries, out), summary, refusal)
 }
 
 // ---- arithmetic on two maps

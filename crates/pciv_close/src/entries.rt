@@ -203,7 +203,8 @@ fn start(out: &mut [u8], primary: &[u8], k: usize) -> Job
 
 // As `close`, with the entries as structs.
 pub fn close_entries(primary: &[u8], entries: &[Entry], out: &mut [u8]) -> FileAnswer
-    ensures { λ r. ⌜ (r ≡ fileAnswer (closeOutcome (now (primary .entry)) (slotsOf (now (entries .entry))) (distancesOf (now (entries .entry))) (length (now (out .entry))))) × (now (out .exit) ≡ closeBuffer (now (primary .entry)) (slotsOf (now (entries .entry))) (distancesOf (now (entries .entry))) (now (out .entry))) ⌝ }
+    ensures answer { λ r. ⌜ r ≡ fileAnswer (closeOutcome (now (primary .entry)) (slotsOf (now (entries .entry))) (distancesOf (now (entries .entry))) (length (now (out .entry)))) ⌝ }
+    ensures buffer { λ _. ⌜ now (out .exit) ≡ closeBuffer (now (primary .entry)) (slotsOf (now (entries .entry))) (distancesOf (now (entries .entry))) (now (out .entry)) ⌝ }
 {
     let k = entries.len();
     let mut job = start(out, primary, k);

@@ -86,7 +86,8 @@ pub struct EditAnswer {
     pub outcome: FileAnswer,
 }
 
-// An overflow entry: a slot and the distance there.
+// An overflow entry: a slot and the distance there. It goes to C as it is.
+#[repr(C)]
 pub struct Entry {
     pub slot: u64,
     pub distance: u32,

@@ -37,7 +37,7 @@ pub use mask::{
 };
 pub use read::{check, lookup, lookup_list, primary, readings, report, scan, sum};
 pub use refusal::Refusal;
-pub use write::{close, write};
+pub use write::{close, close_entries, write, Entry};
 
 /// What the header of a sound file says, and the length of the file.
 #[repr(C)]

@@ -6,11 +6,11 @@
 
 #![allow(unsafe_code)]
 
-use crate::{EditAnswer, Refusal, Summary, ANSWER_LEN};
+use crate::{EditAnswer, Entry, Refusal, Summary, ANSWER_LEN};
 use std::slice;
 
 mod c {
-    use crate::{Refusal, Summary};
+    use crate::{Entry, Refusal, Summary};
 
     extern "C" {
         pub fn pciv_check(
@@ -72,6 +72,16 @@ mod c {
             slots_len: usize,
             distances: *const u32,
             distances_len: usize,
+            out: *mut u8,
+            out_len: usize,
+            summary: *mut Summary,
+            refusal: *mut Refusal,
+        ) -> u64;
+        pub fn pciv_close_entries(
+            primary: *const u8,
+            primary_len: usize,
+            entries: *const Entry,
+            entries_len: usize,
             out: *mut u8,
             out_len: usize,
             summary: *mut Summary,
@@ -252,7 +262,7 @@ mod c {
 
 // Every call below is sound for the same reason: references and slices give non-null, aligned
 // pointers that are valid for their lengths, `&mut` ones overlap no other, the library keeps none
-// of them past the call, and `Summary` and `Refusal` are laid out as in the header.
+// of them past the call, and `Summary`, `Refusal` and `Entry` are laid out as in the header.
 
 /// `pciv_check`.
 pub fn check(file: &[u8], summary: &mut Summary, refusal: &mut Refusal) -> u64 {
@@ -351,6 +361,28 @@ pub fn close(
             slots.len(),
             distances.as_ptr(),
             distances.len(),
+            out.as_mut_ptr(),
+            out.len(),
+            summary,
+            refusal,
+        )
+    }
+}
+
+/// `pciv_close_entries`.
+pub fn close_entries(
+    primary: &[u8],
+    entries: &[Entry],
+    out: &mut [u8],
+    summary: &mut Summary,
+    refusal: &mut Refusal,
+) -> u64 {
+    unsafe {
+        c::pciv_close_entries(
+            primary.as_ptr(),
+            primary.len(),
+            entries.as_ptr(),
+            entries.len(),
             out.as_mut_ptr(),
             out.len(),
             summary,

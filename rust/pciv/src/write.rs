@@ -2,6 +2,16 @@
 
 use crate::{answer, raw, Refusal, Summary};
 
+/// An overflow entry: a slot whose distance is 255 or more, with that distance.
+#[repr(C)]
+#[derive(Clone, Copy, Debug, Default, PartialEq, Eq, Hash)]
+pub struct Entry {
+    /// The slot.
+    pub slot: u64,
+    /// Its distance.
+    pub distance: u32,
+}
+
 /// The file of a list of distances, to the front of `out`. Answers its summary. Refusals 3 with
 /// map 1 for more than 1,048,576 distances, then 12.
 ///
@@ -40,15 +50,47 @@ pub fn close(
     answer(|summary, refusal| raw::close(primary, slots, distances, out, summary, refusal))
 }
 
+/// As [`close`], with the overflow entries in one list.
+///
+/// ```
+/// use pciv::Entry;
+///
+/// let entries = [
+///     Entry { slot: 2, distance: 255 },
+///     Entry { slot: 3, distance: 300 },
+/// ];
+/// let mut out = [0; 68];
+/// pciv::close_entries(&[0, 254, 255, 255], &entries, &mut out)?;
+/// assert_eq!(out, *include_bytes!("../../../examples/map-a.pciv"));
+///
+/// let wrong = pciv::close_entries(&[0, 254, 255, 9], &entries, &mut out).unwrap_err();
+/// assert_eq!((wrong.number, wrong.map, wrong.place), (6, 1, 1));
+/// # Ok::<(), pciv::Refusal>(())
+/// ```
+pub fn close_entries(
+    primary: &[u8],
+    entries: &[Entry],
+    out: &mut [u8],
+) -> Result<Summary, Refusal> {
+    answer(|summary, refusal| raw::close_entries(primary, entries, out, summary, refusal))
+}
+
 #[cfg(test)]
 mod tests {
     use super::*;
+
+    #[test]
+    fn entries_are_laid_out_as_in_the_header() {
+        assert_eq!(size_of::<Entry>(), 16);
+        assert_eq!(std::mem::offset_of!(Entry, distance), 8);
+    }
 
     #[test]
     fn refused_buffers_are_unchanged() {
         let mut out = [7; 43];
         assert_eq!(write(&[1, 2, 3, 4], &mut out).unwrap_err().number, 12);
         assert_eq!(close(&[255], &[0], &[], &mut out).unwrap_err().number, 6);
+        assert_eq!(close_entries(&[255], &[], &mut out).unwrap_err().number, 7);
         assert_eq!(out, [7; 43]);
     }
 }

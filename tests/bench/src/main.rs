@@ -81,6 +81,13 @@ impl Map {
     fn primary(&self) -> &[u8] {
         reference::primary(&self.file)
     }
+
+    fn entries<E>(&self, entry: impl Fn(u64, u32) -> E) -> Vec<E> {
+        let pairs = self.slots.iter().zip(&self.distances);
+        pairs
+            .map(|(&slot, &distance)| entry(slot, distance))
+            .collect()
+    }
 }
 
 /// The maps of one table.
@@ -187,10 +194,12 @@ fn lookups(table: &Table, scene: &Scene) {
     );
 }
 
-/// Write and close, both to the same file.
+/// Write, close and close_entries, all to the same file.
 fn writing(table: &Table, map: &Map) {
     let (list, primary) = (&map.list[..], map.primary());
     let (slots, distances) = (&map.slots[..], &map.distances[..]);
+    let our_entries = map.entries(|slot, distance| pciv::Entry { slot, distance });
+    let their_entries = map.entries(|slot, distance| reference::Entry { slot, distance });
     let (n, k, len) = (list.len(), slots.len(), map.file.len());
     let (mut ours, mut theirs) = (vec![0; len], vec![0; len]);
     table.row(
@@ -204,6 +213,12 @@ fn writing(table: &Table, map: &Map) {
         n + 12 * k + len,
         || pciv::close(primary, slots, distances, black_box(&mut ours)),
         || reference::close(primary, slots, distances, black_box(&mut theirs)),
+    );
+    table.row(
+        "close_entries",
+        n + 16 * k + len,
+        || pciv::close_entries(primary, &our_entries, black_box(&mut ours)),
+        || reference::close_entries(primary, &their_entries, black_box(&mut theirs)),
     );
 }
 

@@ -11,7 +11,7 @@ const DEFAULT_SEED: u64 = 0x5043_4956_0000_0001;
 type Routine = (&'static str, u64, &'static [(u64, u64)]);
 
 /// What each routine can be refused with. Each must occur in a run.
-const ROUTINES: [Routine; 32] = [
+const ROUTINES: [Routine; 33] = [
     ("check", 1, &[]),
     ("lookup", 1, &[(9, 0)]),
     ("lookup_list", 1, &[(9, 0), (12, 0)]),
@@ -20,6 +20,7 @@ const ROUTINES: [Routine; 32] = [
     ("readings", 1, &[]),
     ("write", 0, &[(3, 1), (12, 0)]),
     ("close", 0, &[(3, 1), (6, 1), (7, 1), (12, 0)]),
+    ("close_entries", 0, &[(3, 1), (6, 1), (7, 1), (12, 0)]),
     ("minimum", 2, &[(10, 0), (12, 0)]),
     ("maximum", 2, &[(10, 0), (12, 0)]),
     ("sum_maps", 2, &[(10, 0), (11, 0), (12, 0)]),

@@ -7,7 +7,7 @@ use crate::parts::{every_fault, Fault, Parts};
 use crate::run::{Run, Subject};
 use compare::lists::{self, Spread};
 use compare::rng::{case_seed, Rng};
-use pciv::raw;
+use pciv::{raw, Entry};
 
 /// All groups of such cases. Lists and their parts are compared with their files, too.
 pub fn run_all(run: &mut Run) {
@@ -33,7 +33,7 @@ pub fn compare_write(judge: &mut Judge, rng: &mut Rng, list: &[u32]) {
     }
 }
 
-/// Compares close.
+/// Compares close, and close_entries where slots and distances are pairs.
 impl Subject for Parts {
     fn describe(&self) -> String {
         format!("{self:?}")
@@ -46,10 +46,26 @@ impl Subject for Parts {
             distances,
         } = self;
         let answer = reference::close(primary, slots, distances, judge.scratch());
+        let capacities = file_capacities(rng, &answer);
         let mut primary = Lent::new(rng, primary, reference::SENTINEL);
-        let mut slots = Lent::new(rng, slots, u64::MAX);
-        let mut distances = Lent::new(rng, distances, 300);
-        for capacity in file_capacities(rng, &answer) {
+        self.compare_close(judge, rng, &mut primary, &capacities);
+        if slots.len() == distances.len() {
+            self.compare_close_entries(judge, rng, &mut primary, &capacities);
+        }
+    }
+}
+
+impl Parts {
+    fn compare_close(
+        &self,
+        judge: &mut Judge,
+        rng: &mut Rng,
+        primary: &mut Lent<u8>,
+        capacities: &[usize],
+    ) {
+        let mut slots = Lent::new(rng, &self.slots, u64::MAX);
+        let mut distances = Lent::new(rng, &self.distances, 300);
+        for &capacity in capacities {
             let call = Call::with_capacity("close", capacity);
             judge.file(
                 &call,
@@ -77,6 +93,42 @@ impl Subject for Parts {
             slots.settle(judge, &call, "the list of slots");
             distances.settle(judge, &call, "the list of distances");
         }
+    }
+
+    fn compare_close_entries(
+        &self,
+        judge: &mut Judge,
+        rng: &mut Rng,
+        primary: &mut Lent<u8>,
+        capacities: &[usize],
+    ) {
+        let around = Entry {
+            slot: u64::MAX,
+            distance: 300,
+        };
+        let theirs = self.entries(|slot, distance| reference::Entry { slot, distance });
+        let ours = self.entries(|slot, distance| Entry { slot, distance });
+        let mut ours = Lent::new(rng, &ours, around);
+        for &capacity in capacities {
+            let call = Call::with_capacity("close_entries", capacity);
+            judge.file(
+                &call,
+                capacity,
+                |out| reference::close_entries(primary.original(), &theirs, out),
+                |out, summary, refusal| {
+                    raw::close_entries(primary.lent(), ours.lent(), out, summary, refusal)
+                },
+            );
+            primary.settle(judge, &call, "the primary array");
+            ours.settle(judge, &call, "the list of entries");
+        }
+    }
+
+    fn entries<E>(&self, entry: impl Fn(u64, u32) -> E) -> Vec<E> {
+        let pairs = self.slots.iter().zip(&self.distances);
+        pairs
+            .map(|(&slot, &distance)| entry(slot, distance))
+            .collect()
     }
 }
 

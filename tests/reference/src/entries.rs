@@ -5,7 +5,7 @@ use crate::Refusal;
 
 /// A slot in overflow with its distance.
 #[derive(Clone, Copy, Debug, PartialEq, Eq)]
-pub(crate) struct Entry {
+pub struct Entry {
     /// The slot.
     pub slot: u64,
     /// The distance at this slot, 255 or more.

@@ -20,6 +20,7 @@ mod write;
 
 pub use arith::{difference, maximum, minimum, shift, signed_difference, sum_maps};
 pub use edit::{edit, edit_list, PlainEditor, ANSWER_LEN};
+pub use entries::Entry;
 pub use figures::{bray_curtis, bray_curtis_parts, jaccard, jaccard_parts, nearest_quotient};
 pub use layout::{file_len, index_len, index_step, HEADER_LEN, MAX_SLOTS, SENTINEL};
 pub use map::{check, decode, lookup, lookup_list, primary, readings, scan, sum, Map};
@@ -28,7 +29,7 @@ pub use mask::{
     near_mask, set_bits, threshold, Comparison,
 };
 pub use report::{report, report_text, MAX_INPUT};
-pub use write::{close, encode, write};
+pub use write::{close, close_entries, encode, write};
 
 /// What a sound file's header says, and the file's length.
 #[derive(Clone, Copy, Debug, PartialEq, Eq)]

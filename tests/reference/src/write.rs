@@ -40,6 +40,19 @@ pub fn close(
     write_parts(primary, entries, out)
 }
 
+/// The same of overflow entries in one list.
+pub fn close_entries(
+    primary: &[u8],
+    entries: &[Entry],
+    out: &mut [u8],
+) -> Result<Summary, Refusal> {
+    require_few_slots(primary.len())?;
+    let entries = entries.iter().copied();
+    check_entries(primary, entries.clone())?;
+    check_sentinels(primary, entries.clone())?;
+    write_parts(primary, entries, out)
+}
+
 pub(crate) fn is_overflow(distance: u32) -> bool {
     distance >= u32::from(SENTINEL)
 }
@@ -164,5 +177,6 @@ mod tests {
         assert_eq!(write(&distances, &mut []), refusal);
         let primary = vec![SENTINEL; MAX_SLOTS as usize + 1];
         assert_eq!(close(&primary, &[7], &[], &mut []), refusal);
+        assert_eq!(close_entries(&primary, &[], &mut []), refusal);
     }
 }

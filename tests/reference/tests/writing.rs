@@ -1,6 +1,6 @@
 //! Writing and closing by the reference, held to the rules of `docs/FORMAT.md`.
 
-use reference::{check, close, encode, write, Refusal, Summary};
+use reference::{check, close, close_entries, encode, write, Entry, Refusal, Summary};
 
 const DIRTY: u8 = 0xA5;
 
@@ -8,14 +8,22 @@ fn refused(number: u64, map: u64, place: u64) -> Result<Summary, Refusal> {
     Err(Refusal { number, map, place })
 }
 
-/// The outcome of closing into a buffer of 200 bytes.
+/// The outcome of closing by both routines, which must agree, into a buffer of 200 bytes.
 fn closed(primary: &[u8], entries: &[(u64, u32)]) -> Result<Vec<u8>, Refusal> {
+    let structs: Vec<Entry> = entries
+        .iter()
+        .map(|&(slot, distance)| Entry { slot, distance })
+        .collect();
     let (slots, distances): (Vec<u64>, Vec<u32>) = entries.iter().copied().unzip();
-    let mut out = [DIRTY; 200];
-    let answer = close(primary, &slots, &distances, &mut out);
-    let len = answer.map_or(0, |summary| summary.len as usize);
-    assert!(out[len..].iter().all(|&byte| byte == DIRTY));
-    answer.map(|_| out[..len].to_vec())
+    let mut buffers = [[DIRTY; 200]; 2];
+    let answers = [
+        close(primary, &slots, &distances, &mut buffers[0]),
+        close_entries(primary, &structs, &mut buffers[1]),
+    ];
+    assert_eq!((answers[0], buffers[0]), (answers[1], buffers[1]));
+    let len = answers[0].map_or(0, |summary| summary.len as usize);
+    assert!(buffers[0][len..].iter().all(|&byte| byte == DIRTY));
+    answers[0].map(|_| buffers[0][..len].to_vec())
 }
 
 #[test]
@@ -43,19 +51,17 @@ fn closing_builds_the_index() {
     let distances: Vec<u32> = (0..4_200).map(|slot| 200 + slot % 3_000).collect();
     let file = encode(&distances).unwrap();
     let (entries, _) = file[40 + 4_200..].as_chunks::<12>();
-    let (slots, distances): (Vec<u64>, Vec<u32>) = entries[..check(&file).unwrap().k as usize]
+    let entries: Vec<Entry> = entries[..check(&file).unwrap().k as usize]
         .iter()
-        .map(|entry| {
-            (
-                u64::from_le_bytes(entry[..8].try_into().unwrap()),
-                u32::from_le_bytes(entry[8..].try_into().unwrap()),
-            )
+        .map(|entry| Entry {
+            slot: u64::from_le_bytes(entry[..8].try_into().unwrap()),
+            distance: u32::from_le_bytes(entry[8..].try_into().unwrap()),
         })
-        .unzip();
+        .collect();
     let mut out = vec![0; file.len()];
-    let short = close(&file[40..4_240], &slots, &distances, &mut out[1..]);
+    let short = close_entries(&file[40..4_240], &entries, &mut out[1..]);
     assert_eq!(short, refused(12, 0, 0));
-    let done = close(&file[40..4_240], &slots, &distances, &mut out);
+    let done = close_entries(&file[40..4_240], &entries, &mut out);
     assert_eq!(done, check(&file));
     assert!(out == file);
 }

@@ -19,7 +19,7 @@ use base.Fml.{Lft, GName, Share, Fml, ftrue, fat, froom, fdies, flft, fshr-bor}
 use prog.Memory.{Memory}
 use prog.Routine.{Routine}
 use prog.Wp.{Heap, Out, Env, Calls, Loops, Wp, WpFn, Tables, afterSeq, afterBlock, afterTurn, atReturn}
-use ghost.Atoms.{Atoms, sem}
+use ghost.Atoms.{Atoms}
 use contract.Monad.{Fun, fact}
 use contract.Running.{givenOf, tables, tablesOf}
 use types.Kit.{Given, Item, Sq, Goal, Soaks, ‵, raw, _⊛_, ⋆, some, later, runs, anyQ, atRet, cut, _$_, _∵_, !, qed, by, move, keep, drop, use1, use2, use3, split, join, pick, rewrite, fsplit, fjoin, feqL, suffices, frame, await, done}
@@ -58,6 +58,7 @@ use Rattle.pciv_format.proofs.FileAnswer as F
 use Rattle.pciv_format.proofs.FileAnswer.Laws as F′
 use Rattle.pciv_close.specs.Entries.{slotsOf, distancesOf, blank, Call, left, Doing, Next, Ready, Advances, Starts}
 use Rattle.pciv_close.specs.declared.entries.Job.{Job}
+use Rattle.pciv_close.proofs.Facts.{says-both}
 use Rattle.pciv_close.proofs.Again.{LentAgain, lends-again, comes-back}
 use Rattle.pciv_close.proofs.Rest.{tail}
 use Rattle.pciv_close.proofs.entries.Job as J
@@ -186,7 +187,7 @@ module _ {M : Type 1} (𝓤 : URA M) (H : Heap 𝓤) (A : Atoms 𝓤) (W : Given
       → ent 𝓤 (⋆ 𝓤 H A (‵ (flft κ₀ q₀) ∷ ‵ (flft κ₁ q₁) ∷ ‵ (flft κ₂ q₂) ∷ ‵ Own₀ ∷ ‵ Own₁ ∷ ‵ (Own₂ zs) ∷ [])) (Post (only (fvals r)))
   exits r zs is l e =
       qed W (‵ (flft κ₀ q₀) ∷ ‵ (flft κ₁ q₁) ∷ ‵ (flft κ₂ q₂) ∷ ‵ Own₀ ∷ ‵ Own₁ ∷ ‵ (Own₂ zs) ∷ []) ∵
-      suffices ! _ (ends-at 𝓤 H A close-entries.ended stayed (close-entries.clauses 𝓤 H A mem run) W (((κ₀, (κ₁, (κ₂, tt))), (q₀, (q₁, (q₂, tt))), tt, (s₀, (s₁, (x γ₂ out, tt))), vs), tt) (only (fvals r)) r (tt, (tt, (zs, tt))) (tt, (tt, (l, tt)))) $ says ! e $
+      suffices ! _ (ends-at 𝓤 H A close-entries.ended stayed (close-entries.clauses 𝓤 H A mem run) W (((κ₀, (κ₁, (κ₂, tt))), (q₀, (q₁, (q₂, tt))), tt, (s₀, (s₁, (x γ₂ out, tt))), vs), tt) (only (fvals r)) r (tt, (tt, (zs, tt))) (tt, (tt, (l, tt)))) $ says-both ! (e .0) (e .1) $
       nothing ! $ move ! (3 ∷ 0 ∷ []) $ join ! $ move ! (2 ∷ 0 ∷ []) $ join ! $ move ! (1 ∷ 0 ∷ []) $ join ! $
       nothing ! $ move ! (4 ∷ 0 ∷ []) $ fjoin ! $ move ! (3 ∷ 0 ∷ []) $ fjoin ! $ move ! (2 ∷ 0 ∷ []) $ fjoin ! $ move ! (1 ∷ 0 ∷ []) $
       frame ! $ frame ! $ owned ! F.the-row (Is F.the-row) (EL.makes F.the-type F′.the-plain 𝓤 H A) r (fvals r) is $ done !
