@@ -25,6 +25,20 @@ typedef uint64_t combine(const uint8_t *a, size_t a_len, const uint8_t *b, size_
                          uint8_t *out, size_t out_len, pciv_summary *summary,
                          pciv_refusal *refusal);
 
+/* A routine that makes a mask of a file. */
+typedef uint64_t threshold(const uint8_t *file, size_t file_len, uint32_t t, uint64_t *out,
+                           size_t out_len, uint64_t *count, pciv_refusal *refusal);
+
+/* A routine that combines two masks. */
+typedef uint64_t combine_masks(size_t n, const uint64_t *a, size_t a_len, const uint64_t *b,
+                               size_t b_len, uint64_t *out, size_t out_len, uint64_t *count,
+                               pciv_refusal *refusal);
+
+/* A routine that makes a file of a file and a mask. */
+typedef uint64_t mask_file(const uint8_t *file, size_t file_len, const uint64_t *mask,
+                           size_t mask_len, uint8_t *out, size_t out_len, pciv_summary *summary,
+                           pciv_refusal *refusal);
+
 static const char REPORT[] = "slots 4\nfar 2\nstep 0\nindex 0\nsum 809\nreadings 3\n";
 
 /* The file of the distances 0, 254, 255, 300. */
@@ -351,6 +365,196 @@ static void test_arithmetic(const uint8_t *a, const uint8_t *b)
     test_signed_difference(a, b);
 }
 
+static void test_threshold(threshold *call, const uint8_t *file, uint32_t t, uint64_t expected)
+{
+    uint64_t out[2];
+    uint64_t count;
+    pciv_refusal refusal;
+    memset(out, DIRTY, sizeof out);
+    memset(&count, DIRTY, sizeof count);
+    EXPECT(call(file, 39, t, out, 0, &count, &refusal) == PCIV_TRUNCATED_HEADER);
+    EXPECT(is_refusal(&refusal, PCIV_TRUNCATED_HEADER, 1, 0));
+    EXPECT(call(file, MAP_LEN, t, out, 0, &count, &refusal) == PCIV_BUFFER_TOO_SMALL);
+    EXPECT(is_refusal(&refusal, PCIV_BUFFER_TOO_SMALL, 0, 0));
+    EXPECT(is_dirty(out, sizeof out) && is_dirty(&count, sizeof count));
+    EXPECT(call(file, MAP_LEN, t, out, 2, &count, &refusal) == PCIV_OK);
+    EXPECT(is_refusal(&refusal, PCIV_OK, 0, 0) && count == 1);
+    EXPECT(out[0] == expected && is_dirty(&out[1], sizeof out[1]));
+}
+
+/* The masks of slots 0, 1 and of slots 1, 2, of four. */
+static void test_combine_masks(combine_masks *call, uint64_t expected)
+{
+    static const uint64_t a[] = {3, 0}, b[] = {6}, past[] = {16};
+    uint64_t out[2];
+    uint64_t count;
+    pciv_refusal refusal;
+    memset(out, DIRTY, sizeof out);
+    memset(&count, DIRTY, sizeof count);
+    EXPECT(call(1048577, a, 1, b, 1, out, 2, &count, &refusal) == PCIV_TOO_MANY_SLOTS);
+    EXPECT(is_refusal(&refusal, PCIV_TOO_MANY_SLOTS, 1, 0));
+    EXPECT(call(N, a, 2, b, 1, out, 0, &count, &refusal) == PCIV_BAD_MASK);
+    EXPECT(call(N, a, 1, past, 1, out, 0, &count, &refusal) == PCIV_BAD_MASK);
+    EXPECT(is_refusal(&refusal, PCIV_BAD_MASK, 0, 0));
+    EXPECT(call(N, a, 1, b, 1, out, 0, &count, &refusal) == PCIV_BUFFER_TOO_SMALL);
+    EXPECT(is_refusal(&refusal, PCIV_BUFFER_TOO_SMALL, 0, 0));
+    EXPECT(is_dirty(out, sizeof out) && is_dirty(&count, sizeof count));
+    EXPECT(call(N, a, 1, b, 1, out, 2, &count, &refusal) == PCIV_OK);
+    EXPECT(is_refusal(&refusal, PCIV_OK, 0, 0) && count == 1);
+    EXPECT(out[0] == expected && is_dirty(&out[1], sizeof out[1]));
+}
+
+static void test_one_mask(void)
+{
+    static const uint64_t mask[] = {12}, past[] = {16};
+    static const uint32_t expected[N] = {0, 0, 1, 1};
+    uint64_t words[2];
+    uint8_t out[50];
+    uint64_t count;
+    pciv_summary summary;
+    pciv_refusal refusal;
+    memset(words, DIRTY, sizeof words);
+    memset(out, DIRTY, sizeof out);
+    memset(&summary, DIRTY, sizeof summary);
+    memset(&count, DIRTY, sizeof count);
+    EXPECT(pciv_mask_not(N, past, 1, words, 0, &count, &refusal) == PCIV_BAD_MASK);
+    EXPECT(pciv_mask_not(N, mask, 1, words, 0, &count, &refusal) == PCIV_BUFFER_TOO_SMALL);
+    EXPECT(pciv_set_bits(N, past, 1, &count, &refusal) == PCIV_BAD_MASK);
+    EXPECT(pciv_map_of_mask(N, past, 1, out, 0, &summary, &refusal) == PCIV_BAD_MASK);
+    EXPECT(pciv_map_of_mask(N, mask, 1, out, 43, &summary, &refusal) == PCIV_BUFFER_TOO_SMALL);
+    EXPECT(is_refusal(&refusal, PCIV_BUFFER_TOO_SMALL, 0, 0));
+    EXPECT(is_dirty(words, sizeof words) && is_dirty(&count, sizeof count));
+    EXPECT(is_dirty(out, sizeof out) && is_dirty(&summary, sizeof summary));
+    EXPECT(pciv_mask_not(N, mask, 1, words, 2, &count, &refusal) == PCIV_OK);
+    EXPECT(count == 1 && words[0] == 3 && is_dirty(&words[1], sizeof words[1]));
+    EXPECT(pciv_set_bits(N, mask, 1, &count, &refusal) == PCIV_OK && count == 2);
+    EXPECT(pciv_map_of_mask(N, mask, 1, out, sizeof out, &summary, &refusal) == PCIV_OK);
+    EXPECT(is_refusal(&refusal, PCIV_OK, 0, 0) && is_summary(&summary, N, 0, 44));
+    EXPECT(is_file_of(out, sizeof out, &summary, expected));
+}
+
+/* A map with the mask of slots 1 and 2. */
+static void test_mask_file(mask_file *call, const uint8_t *file, uint64_t k,
+                           const uint32_t expected[N])
+{
+    static const uint64_t mask[] = {6}, past[] = {16};
+    const uint64_t len = 40 + N + 12 * k;
+    uint8_t out[100];
+    pciv_summary summary;
+    pciv_refusal refusal;
+    memset(out, DIRTY, sizeof out);
+    memset(&summary, DIRTY, sizeof summary);
+    EXPECT(call(file, 39, past, 1, out, 3, &summary, &refusal) == PCIV_TRUNCATED_HEADER);
+    EXPECT(is_refusal(&refusal, PCIV_TRUNCATED_HEADER, 1, 0));
+    EXPECT(call(file, MAP_LEN, past, 1, out, 3, &summary, &refusal) == PCIV_BAD_MASK);
+    EXPECT(is_refusal(&refusal, PCIV_BAD_MASK, 0, 0));
+    EXPECT(call(file, MAP_LEN, mask, 1, out, len - 1, &summary, &refusal) ==
+           PCIV_BUFFER_TOO_SMALL);
+    EXPECT(is_refusal(&refusal, PCIV_BUFFER_TOO_SMALL, 0, 0));
+    EXPECT(is_dirty(out, sizeof out) && is_dirty(&summary, sizeof summary));
+    EXPECT(call(file, MAP_LEN, mask, 1, out, sizeof out, &summary, &refusal) == PCIV_OK);
+    EXPECT(is_refusal(&refusal, PCIV_OK, 0, 0) && is_summary(&summary, N, k, len));
+    EXPECT(is_file_of(out, sizeof out, &summary, expected));
+}
+
+static void test_masks(const uint8_t *a, const uint8_t *b)
+{
+    static const uint64_t last[] = {8};
+    static const uint32_t kept[N] = {0, 254, 255, 0};
+    static const uint32_t incremented[N] = {0, 255, 256, 300};
+    uint8_t out[100];
+    pciv_summary summary;
+    pciv_refusal refusal;
+    EXPECT(PCIV_MASK_LEN(0) == 0 && PCIV_MASK_LEN(64) == 1 && PCIV_MASK_LEN(65) == 2);
+    test_threshold(pciv_mask_below, a, 255, 3);
+    test_threshold(pciv_mask_at_most, a, 255, 7);
+    test_threshold(pciv_mask_above, a, 255, 8);
+    test_threshold(pciv_mask_at_least, a, 255, 12);
+    test_threshold(pciv_near_mask, a, 254, 3);
+    test_combine_masks(pciv_mask_and, 2);
+    test_combine_masks(pciv_mask_or, 7);
+    test_combine_masks(pciv_mask_xor, 5);
+    test_one_mask();
+    test_mask_file(pciv_keep_masked, a, 1, kept);
+    test_mask_file(pciv_increment_masked, a, 3, incremented);
+    EXPECT(pciv_increment_masked(b, OTHER_LEN, last, 1, out, 3, &summary, &refusal) ==
+           PCIV_DISTANCE_OVERFLOW);
+    EXPECT(is_refusal(&refusal, PCIV_DISTANCE_OVERFLOW, 0, 3));
+}
+
+static void test_figures(const uint8_t *a, const uint8_t *b)
+{
+    uint8_t empty[40] = "PCIV";
+    double figure;
+    pciv_refusal refusal;
+    memset(&figure, DIRTY, sizeof figure);
+    EXPECT(pciv_bray_curtis(a, MAP_LEN, b, 39, &figure, &refusal) == PCIV_TRUNCATED_HEADER);
+    EXPECT(is_refusal(&refusal, PCIV_TRUNCATED_HEADER, 2, 0));
+    EXPECT(pciv_jaccard(a, MAP_LEN, empty, 40, 255, &figure, &refusal) == PCIV_SIZE_MISMATCH);
+    EXPECT(is_refusal(&refusal, PCIV_SIZE_MISMATCH, 0, 0) && is_dirty(&figure, sizeof figure));
+    EXPECT(pciv_jaccard(a, MAP_LEN, b, OTHER_LEN, 255, &figure, &refusal) == PCIV_OK);
+    EXPECT(is_refusal(&refusal, PCIV_OK, 0, 0) && figure == 0.5);
+    EXPECT(pciv_bray_curtis(a, MAP_LEN, b, OTHER_LEN, &figure, &refusal) == PCIV_OK);
+    EXPECT(figure == 4294967503.0 / 4294968107.0);
+    EXPECT(pciv_bray_curtis(empty, 40, empty, 40, &figure, &refusal) == PCIV_OK && figure == 0.0);
+}
+
+static void test_edit(const uint8_t *file)
+{
+    static const uint32_t shorter[N] = {0, 254, 254, 300};
+    static const uint8_t zeros[12];
+    uint8_t buffer[MAP_LEN + 4];
+    pciv_summary summary;
+    pciv_refusal refusal;
+    memset(buffer, DIRTY, sizeof buffer);
+    memcpy(buffer, file, MAP_LEN);
+    memset(&summary, DIRTY, sizeof summary);
+    EXPECT(pciv_edit(buffer, MAP_LEN - 1, 2, 254, &summary, &refusal) == PCIV_BAD_LENGTH);
+    EXPECT(is_refusal(&refusal, PCIV_BAD_LENGTH, 1, 0));
+    EXPECT(pciv_edit(buffer, sizeof buffer, N, 254, &summary, &refusal) == PCIV_SLOT_OUT_OF_RANGE);
+    EXPECT(pciv_edit(buffer, sizeof buffer, 1, 255, &summary, &refusal) == PCIV_BUFFER_TOO_SMALL);
+    EXPECT(is_refusal(&refusal, PCIV_BUFFER_TOO_SMALL, 0, 0));
+    EXPECT(memcmp(buffer, file, MAP_LEN) == 0 && is_dirty(&summary, sizeof summary));
+    EXPECT(pciv_edit(buffer, sizeof buffer, 2, 254, &summary, &refusal) == PCIV_OK);
+    EXPECT(is_refusal(&refusal, PCIV_OK, 0, 0) && is_summary(&summary, N, 1, 56));
+    EXPECT(is_file_of(buffer, 56, &summary, shorter));
+    EXPECT(memcmp(buffer + 56, zeros, 12) == 0 && is_dirty(buffer + MAP_LEN, 4));
+}
+
+static void test_edit_list(const uint8_t *file)
+{
+    static const uint64_t slots[] = {2, N, 0};
+    static const uint32_t distances[] = {254, 1, 7};
+    static const uint32_t expected[N] = {7, 254, 254, 300};
+    uint8_t buffer[MAP_LEN];
+    pciv_edit_answer answers[4];
+    uint64_t *numbers = (uint64_t *)answers;
+    uint64_t count;
+    pciv_refusal refusal;
+    memcpy(buffer, file, MAP_LEN);
+    memset(answers, DIRTY, sizeof answers);
+    memset(&count, DIRTY, sizeof count);
+    EXPECT(sizeof(pciv_edit_answer) == PCIV_ANSWER_LEN * sizeof(uint64_t));
+    EXPECT(pciv_edit_list(buffer, MAP_LEN, slots, 3, distances, 2, numbers, 0, &count, &refusal) ==
+           PCIV_SLOT_OUT_OF_RANGE);
+    EXPECT(is_refusal(&refusal, PCIV_SLOT_OUT_OF_RANGE, 0, 2));
+    EXPECT(pciv_edit_list(buffer, MAP_LEN, slots, 3, distances, 3, numbers, 23, &count, &refusal) ==
+           PCIV_BUFFER_TOO_SMALL);
+    EXPECT(is_refusal(&refusal, PCIV_BUFFER_TOO_SMALL, 0, 0));
+    EXPECT(memcmp(buffer, file, MAP_LEN) == 0);
+    EXPECT(is_dirty(answers, sizeof answers) && is_dirty(&count, sizeof count));
+    EXPECT(pciv_edit_list(buffer, MAP_LEN, slots, 3, distances, 3, numbers, 32, &count, &refusal) ==
+           PCIV_OK);
+    EXPECT(is_refusal(&refusal, PCIV_OK, 0, 0) && count == 3);
+    EXPECT(is_refusal(&answers[0].refusal, PCIV_OK, 0, 0));
+    EXPECT(is_summary(&answers[0].summary, N, 1, 56));
+    EXPECT(is_refusal(&answers[1].refusal, PCIV_SLOT_OUT_OF_RANGE, 0, 0));
+    EXPECT(is_summary(&answers[1].summary, 0, 0, 0));
+    EXPECT(is_refusal(&answers[2].refusal, PCIV_OK, 0, 0));
+    EXPECT(is_dirty(&answers[3], sizeof answers[3]));
+    EXPECT(is_file_of(buffer, 56, &answers[2].summary, expected));
+}
+
 static void test_report(const uint8_t *file)
 {
     const size_t len = strlen(REPORT);
@@ -399,6 +603,10 @@ int main(void)
     test_close(file);
     test_close_entries(file);
     test_arithmetic(file, other);
+    test_masks(file, other);
+    test_figures(file, other);
+    test_edit(file);
+    test_edit_list(file);
     test_report(file);
     test_damage(file, 0, 'p', PCIV_BAD_MAGIC, 0);
     test_damage(file, 15, 1, PCIV_TOO_MANY_SLOTS, 0);
