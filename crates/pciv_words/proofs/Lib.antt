@@ -1,0 +1,3 @@
+pub mod BitLaws
+pub mod MaskLaws
+pub mod FrontLaws
