@@ -91,6 +91,18 @@ unfolding sumFrom
 sumFrom-rest f g each i zero = refl
 sumFrom-rest f g each i (suc c) = omega (arith, each i, sumFrom-rest f g each (suc i) c)
 
+-- two sums, term by term
+pub sumFrom-plus : (f g h : ℕ → ℕ) (i c : ℕ) → ((j : ℕ) → i ≤ j → j < i + c → f j + g j ≡ h j)
+    → sumFrom f i c + sumFrom g i c ≡ sumFrom h i c
+unfolding sumFrom
+sumFrom-plus f g h i zero each = refl
+sumFrom-plus f g h i (suc c) each =
+    omega (
+      arith,
+      each i (omega arith) (omega arith),
+      sumFrom-plus f g h (suc i) c (λ j h₁ h₂. each j (omega arith) (omega arith)),
+    )
+
 -- the same terms, from another place on
 pub sumFrom-shift : (f g : ℕ → ℕ) (i t c : ℕ) → ((j : ℕ) → f (i + j) ≡ g (t + j)) → sumFrom f i c ≡ sumFrom g t c
 unfolding sumFrom

@@ -2,7 +2,7 @@
 --   byteAt xs i        byte i
 --   byteIs xs x i      1 where byte i is x, else 0;  byteFrom xs x i  1 where it is x or more
 --   passes t x         byte x passes the test t;  testAt t xs i  1 where byte i does, else 0
---   termAt of xs i     what a sum of `of` adds for byte i
+--   termOf of x        what a sum of `of` adds for a byte x;  termAt of xs i  for byte i
 --   Part xs from to    from .. to is a part of xs, of no more bytes than a byte can count
 -- Laws of sums are in proofs/SumLaws.antt. Axioms: none.
 use Prim.Native.Nat.{ℕ, _+_, _≤_}
@@ -31,6 +31,10 @@ passes (AtLeast y) x = leb y x
 
 abbrev pub testAt : Test → List ℕ → ℕ → ℕ
 testAt t xs i = flag (passes t (byteAt xs i))
+
+abbrev pub termOf : Term → ℕ → ℕ
+termOf (Passing t) x = flag (passes t x)
+termOf Byte x = x
 
 abbrev pub termAt : Term → List ℕ → ℕ → ℕ
 termAt (Passing t) = testAt t

@@ -3,4 +3,5 @@ pub mod LittleEndian
 pub mod Counts
 pub mod Any
 pub mod Pairs
+pub mod Extremes
 pub mod Find

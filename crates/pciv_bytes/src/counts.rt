@@ -13,7 +13,7 @@ pub enum Test {
 }
 
 // What is added up: 1 for each byte that passes a test, or the bytes themselves.
-enum Term {
+pub enum Term {
     Passing(Test),
     Byte,
 }
@@ -22,7 +22,7 @@ enum Term {
 const BLOCK: usize = 192;
 
 // 1 where a byte passes the test, else 0.
-fn passing(test: Test, x: u8) -> u8
+pub(crate) fn passing(test: Test, x: u8) -> u8
     ensures { λ r. ⌜ r ≡ flag (passes test x) ⌝ }
 {
     match test {

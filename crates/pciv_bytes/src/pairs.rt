@@ -20,7 +20,7 @@ pub enum ByteOp {
 const BLOCK: usize = 192;
 
 // The operation on two bytes.
-fn byte_op(op: ByteOp, x: u8, y: u8) -> u8
+pub(crate) fn byte_op(op: ByteOp, x: u8, y: u8) -> u8
     ensures { λ r. ⌜ r ≡ byteOp op x y ⌝ }
 {
     match op {

@@ -9,6 +9,9 @@ ghost use Rattle.pciv_format.specs.Read.{lookupOutcome, lookupListOutcome, look
 ghost use Rattle.pciv_format.specs.Write.{writeOutcome, writeBuffer, closeOutcome, closeBuffer};
 ghost use Rattle.pciv_format.specs.Arith.{combineMapsOutcome, combineMapsBuffer, shiftOutcome, shiftBuffer, signedDifferenceOutcome, signedDifferenceList};
 ghost use Rattle.pciv_format.specs.declared.SlotOp.the-variants.{Minimum, Maximum, Difference, Sum};
+ghost use Rattle.pciv_format.specs.Mask.{combineOutcome, combineWords, complementOutcome, complementWords, setBitsOutcome};
+ghost use Rattle.pciv_format.specs.declared.MaskOp.the-variants.{And, Or, Xor};
+ghost use Rattle.pciv_format.specs.Figures.{brayCurtisOutcome, jaccardOutcome};
 ghost use Rattle.pciv_format.specs.Edit.{editOutcome, editBuffer, editListOutcome, editListBuffer, editListAnswers};
 ghost use Rattle.pciv_format.specs.Report.{reportOutcome, reportBuffer};
 ghost use Rattle.pciv_close.specs.Entries.{slotsOf, distancesOf};
@@ -20,6 +23,8 @@ use pciv_change::signed_difference;
 use pciv_check::check;
 use pciv_close::close;
 use pciv_close::entries::close_entries;
+use pciv_compare::bray_curtis;
+use pciv_compare::jaccard;
 use pciv_edit::edit;
 use pciv_edit::run::edit_list;
 use pciv_format::DistanceAnswer;
@@ -28,6 +33,11 @@ use pciv_format::FigureAnswer;
 use pciv_format::FileAnswer;
 use pciv_format::HEADER_LEN;
 use pciv_format::NumberAnswer;
+use pciv_mask::and;
+use pciv_mask::complement;
+use pciv_mask::or;
+use pciv_mask::set_bits;
+use pciv_mask::xor;
 use pciv_read::lookup;
 use pciv_read::lookup_list;
 use pciv_read::readings;
@@ -321,6 +331,106 @@ pub extern "C" fn pciv_signed_difference(
     ensures list { λ _. ⌜ now (out .exit) ≡ signedDifferenceList (now (a .entry)) (now (b .entry)) (now (out .entry)) ⌝ }
 {
     tell_number(signed_difference(a, b, out), count, refusal)
+}
+
+// ---- masks of masks
+
+#[no_mangle]
+pub extern "C" fn pciv_mask_and(
+    n: usize,
+    a: &[u64],
+    b: &[u64],
+    out: &mut [u64],
+    count: &mut usize,
+    refusal: &mut [usize; 3],
+) -> usize
+    ensures told { λ r. ⌜ ToldNumber (combineOutcome And n (now (a .entry)) (now (b .entry)) (length (now (out .entry)))) r (now (count .entry)) (now (count .exit)) (now (refusal .exit)) ⌝ }
+    ensures words { λ _. ⌜ now (out .exit) ≡ combineWords And n (now (a .entry)) (now (b .entry)) (now (out .entry)) ⌝ }
+{
+    tell_number(and(n, a, b, out), count, refusal)
+}
+
+#[no_mangle]
+pub extern "C" fn pciv_mask_or(
+    n: usize,
+    a: &[u64],
+    b: &[u64],
+    out: &mut [u64],
+    count: &mut usize,
+    refusal: &mut [usize; 3],
+) -> usize
+    ensures told { λ r. ⌜ ToldNumber (combineOutcome Or n (now (a .entry)) (now (b .entry)) (length (now (out .entry)))) r (now (count .entry)) (now (count .exit)) (now (refusal .exit)) ⌝ }
+    ensures words { λ _. ⌜ now (out .exit) ≡ combineWords Or n (now (a .entry)) (now (b .entry)) (now (out .entry)) ⌝ }
+{
+    tell_number(or(n, a, b, out), count, refusal)
+}
+
+#[no_mangle]
+pub extern "C" fn pciv_mask_xor(
+    n: usize,
+    a: &[u64],
+    b: &[u64],
+    out: &mut [u64],
+    count: &mut usize,
+    refusal: &mut [usize; 3],
+) -> usize
+    ensures told { λ r. ⌜ ToldNumber (combineOutcome Xor n (now (a .entry)) (now (b .entry)) (length (now (out .entry)))) r (now (count .entry)) (now (count .exit)) (now (refusal .exit)) ⌝ }
+    ensures words { λ _. ⌜ now (out .exit) ≡ combineWords Xor n (now (a .entry)) (now (b .entry)) (now (out .entry)) ⌝ }
+{
+    tell_number(xor(n, a, b, out), count, refusal)
+}
+
+#[no_mangle]
+pub extern "C" fn pciv_mask_not(
+    n: usize,
+    mask: &[u64],
+    out: &mut [u64],
+    count: &mut usize,
+    refusal: &mut [usize; 3],
+) -> usize
+    ensures told { λ r. ⌜ ToldNumber (complementOutcome n (now (mask .entry)) (length (now (out .entry)))) r (now (count .entry)) (now (count .exit)) (now (refusal .exit)) ⌝ }
+    ensures words { λ _. ⌜ now (out .exit) ≡ complementWords n (now (mask .entry)) (now (out .entry)) ⌝ }
+{
+    tell_number(complement(n, mask, out), count, refusal)
+}
+
+#[no_mangle]
+pub extern "C" fn pciv_set_bits(
+    n: usize,
+    mask: &[u64],
+    count: &mut usize,
+    refusal: &mut [usize; 3],
+) -> usize
+    ensures told { λ r. ⌜ ToldNumber (setBitsOutcome n (now (mask .entry))) r (now (count .entry)) (now (count .exit)) (now (refusal .exit)) ⌝ }
+{
+    tell_number(set_bits(n, mask), count, refusal)
+}
+
+// ---- comparison figures
+
+#[no_mangle]
+pub extern "C" fn pciv_bray_curtis(
+    a: &[u8],
+    b: &[u8],
+    figure: &mut f64,
+    refusal: &mut [usize; 3],
+) -> usize
+    ensures told { λ r. ⌜ ToldNumber (brayCurtisOutcome (now (a .entry)) (now (b .entry))) r (now (figure .entry)) (now (figure .exit)) (now (refusal .exit)) ⌝ }
+{
+    tell_figure(bray_curtis(a, b), figure, refusal)
+}
+
+#[no_mangle]
+pub extern "C" fn pciv_jaccard(
+    a: &[u8],
+    b: &[u8],
+    t: u32,
+    figure: &mut f64,
+    refusal: &mut [usize; 3],
+) -> usize
+    ensures told { λ r. ⌜ ToldNumber (jaccardOutcome t (now (a .entry)) (now (b .entry))) r (now (figure .entry)) (now (figure .exit)) (now (refusal .exit)) ⌝ }
+{
+    tell_figure(jaccard(a, b, t), figure, refusal)
 }
 
 // ---- the editor

@@ -54,27 +54,28 @@ module _ (P : Parts) (s : SoundParts P) (bytes : (i : ℕ) → P .byte i < 256) 
 
   -- ---- sums
 
-  -- f of every distance, where f of an entry's distance is f of the byte 255 and g of the entry
-  module _ (f g : ℕ → ℕ) (each : (j : ℕ) → j < P .k → f (P .distance j) ≡ f 255 + g j) where
+  -- f of every slot and its distance, where f at an entry is f of the byte 255 there and g of the entry
+  module _ (f : ℕ → ℕ → ℕ) (g : ℕ → ℕ)
+      (each : (j : ℕ) → j < P .k → f (P .slot j) (P .distance j) ≡ f (P .slot j) 255 + g j) where
     gap-sum : (j to : ℕ) → j ≤ P .k → (j < P .k → to ≤ P .slot j) → to ≤ P .n
         → let low : ℕ = lowestSlot P j in
-        sumFrom (λ (i : ℕ). f (valueOf P i)) low (to - low) ≡ sumFrom (λ (i : ℕ). f (P .byte i)) low (to - low)
+        sumFrom (λ (i : ℕ). f i (valueOf P i)) low (to - low) ≡ sumFrom (λ (i : ℕ). f i (P .byte i)) low (to - low)
     gap-sum j to few before inside =
         let low : ℕ = lowestSlot P j in
-        sumFrom-cong (λ (i : ℕ). f (valueOf P i)) (λ (i : ℕ). f (P .byte i)) low (to - low)
-        (λ i h₁ h₂. ap f (gap-value j i few h₁ (λ more. omega (arith, before more)) (omega arith)))
+        sumFrom-cong (λ (i : ℕ). f i (valueOf P i)) (λ (i : ℕ). f i (P .byte i)) low (to - low)
+        (λ i h₁ h₂. ap (f i) (gap-value j i few h₁ (λ more. omega (arith, before more)) (omega arith)))
 
     -- from entry j on, d entries
     sum-rest : (d j : ℕ) → j + d ≡ P .k
         → let low : ℕ = lowestSlot P j in
-        sumFrom (λ (i : ℕ). f (valueOf P i)) low (P .n - low)
-        ≡ sumFrom (λ (i : ℕ). f (P .byte i)) low (P .n - low) + sumFrom g j (P .k - j)
+        sumFrom (λ (i : ℕ). f i (valueOf P i)) low (P .n - low)
+        ≡ sumFrom (λ (i : ℕ). f i (P .byte i)) low (P .n - low) + sumFrom g j (P .k - j)
     sum-rest zero j e =
         let inline = gap-sum j (P .n) (omega arith) (λ more. absurd (omega arith)) (omega arith) in
         omega (arith, sumFrom-none g j (P .k) (omega arith))
     sum-rest (suc d) j e =
-        let v : ℕ → ℕ = λ i. f (valueOf P i) in
-        let b : ℕ → ℕ = λ i. f (P .byte i) in
+        let v : ℕ → ℕ = λ i. f i (valueOf P i) in
+        let b : ℕ → ℕ = λ i. f i (P .byte i) in
         let low : ℕ = lowestSlot P j in
         let at : ℕ = P .slot j in
         let here : j < P .k = omega arith in
@@ -89,20 +90,20 @@ module _ (P : Parts) (s : SoundParts P) (bytes : (i : ℕ) → P .byte i < 256) 
           sumFrom-more v at (P .n) inside,
           sumFrom-more b at (P .n) inside,
           sumFrom-more g j (P .k) here,
-          ap f (valueOf-slot P s j here),
-          ap f (good .marked),
+          ap (f at) (valueOf-slot P s j here),
+          ap (f at) (good .marked),
           each j here,
           rw (← add-one j) at (sum-rest d (suc j) (omega arith)),
         )
 
-    pub sum-entries-of : sumFrom (λ (i : ℕ). f (valueOf P i)) 0 (P .n)
-        ≡ sumFrom (λ (i : ℕ). f (P .byte i)) 0 (P .n) + sumFrom g 0 (P .k)
+    pub sum-entries-of : sumFrom (λ (i : ℕ). f i (valueOf P i)) 0 (P .n)
+        ≡ sumFrom (λ (i : ℕ). f i (P .byte i)) 0 (P .n) + sumFrom g 0 (P .k)
     sum-entries-of = rw (sub-zero (P .n), sub-zero (P .k)) at (sum-rest (P .k) 0 (zero-add (P .k)))
 
   pub sum-entries : sumFrom (valueOf P) 0 (P .n)
       ≡ sumFrom (P .byte) 0 (P .n) + sumFrom (excess P) 0 (P .k)
   sum-entries =
-      sum-entries-of (λ (x : ℕ). x) (excess P) (λ j h. omega (arith, entry-good P s j h .far))
+      sum-entries-of (λ (i x : ℕ). x) (excess P) (λ j h. omega (arith, entry-good P s j h .far))
 
   -- a byte 255 is a reading already
   pub readings-bytes : sumFrom (λ (i : ℕ). reading (valueOf P i)) 0 (P .n)

@@ -67,7 +67,7 @@ pub struct Combined {
 }
 
 // What becomes of entry j of the first map; the entries of the second map before t have smaller slots.
-fn combine_entry(
+pub fn combine_entry(
     op: SlotOp,
     a: &[u8],
     b: &[u8],

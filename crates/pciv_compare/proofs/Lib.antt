@@ -1,0 +1,3 @@
+pub mod WeighLaws
+pub mod FigureLaws
+pub mod ExactLaws

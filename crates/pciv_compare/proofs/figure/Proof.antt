@@ -1,0 +1,101 @@
+-- Proves pciv_compare::figure.
+use mathlib.Core.Path.{_≡_, sym, ap, _∙_}
+use Prim.Native.Nat.{_+_, _-_, _^_, _≤_}
+use native.Mathlib.Omega.{arith}
+use borrow.Author.Needs.{needs}
+use Rattle.pciv_format.specs.Refusals.{done, refused, figureAnswer}
+use Rattle.pciv_format.specs.Figures.{quotient}
+use Rattle.pciv_format.specs.declared.FigureAnswer.the-variants.{Quotient}
+use Rattle.pciv_check.specs.Pair.{pairCounts, CheckedPair}
+use Rattle.pciv_check.specs.declared.pair.PairCounts.{PairCounts}
+use Rattle.pciv_check.proofs.PairLaws.{pair-checked, pairAnswer-ready, pairAnswer-refused}
+use Rattle.pciv_compare.proofs.FigureLaws.{figure-refused, figure-ready, parts-order, parts-le, divisor-le}
+use Rattle.pciv_compare.proofs.figure.Statement.{statement}
+use Rattle.pciv_compare.proofs.figure.Tie as tie
+
+abbrev entry : tie.After-check-pair → tie.Start
+entry c = c .before .before .before
+
+-- what the check has shown: why the pair is refused, or its counts
+is-refused : (c : tie.After-checked)
+    → pairCounts (entry (c .before .before) .args .a .now) (entry (c .before .before) .args .b .now) ≡ refused (c .checked .given .0 .0)
+is-refused c = pairAnswer-refused _ _ (sym (c .checked .given .1) ∙ c .before .before .check-pair .ensures)
+
+are-maps : (c : tie.After-checked2)
+    → pairCounts (entry (c .before .before) .args .a .now) (entry (c .before .before) .args .b .now) ≡ done (c .checked2 .given .0 .0)
+are-maps c = pairAnswer-ready _ _ (sym (c .checked2 .given .1) ∙ c .before .before .check-pair .ensures)
+
+-- both parts are made of what the distances weigh, which is at most 2 ^ 53
+weights-le : (c : tie.After-weigh) → c .weigh .result .least + c .weigh .result .most ≤ 2 ^ 53
+weights-le c =
+    let k = c .before .before in
+    let d = k .before .before in
+    let a = entry d .args in
+    let counts : PairCounts = k .checked2 .given .0 .0 in
+    parts-le (a .a .now) (a .b .now) (counts .n) (counts .ka) (counts .kb) (pair-checked _ _ _ (are-maps k)) (c .weigh .result)
+    (λ j. d .before .before .shared-slice-known .given j .fits) (λ j. d .before .shared-slice-known2 .given j .fits)
+    (a .of) (c .weigh .ensures)
+
+check-pair-requires : tie.Need-check-pair-requires
+check-pair-requires c κs = search needs
+
+enum-known-checked : tie.Need-enum-known-checked
+enum-known-checked c = search needs
+
+enum-known-checked-2 : tie.Need-enum-known-checked-2
+enum-known-checked-2 c = search needs
+
+weigh-requires : tie.Need-weigh-requires
+weigh-requires c κs = pair-checked _ _ _ (are-maps (c .before))
+
+divisor-requires : tie.Need-divisor-requires
+divisor-requires c κs = weights-le c
+
+sub-divide : tie.Need-sub-divide
+sub-divide c =
+    let w = c .before in
+    let k = w .before .before in
+    let a = entry (k .before .before) .args in
+    let counts : PairCounts = k .checked2 .given .0 .0 in
+    omega (
+      arith,
+      parts-order (a .a .now) (a .b .now) (counts .n) (counts .ka) (counts .kb) (pair-checked _ _ _ (are-maps k)) (w .weigh .result) (a .of) (w .weigh .ensures),
+    )
+
+divide-requires : tie.Need-divide-requires
+divide-requires c κs =
+    let w = c .before in
+    let k = w .before .before in
+    let a = entry (k .before .before) .args in
+    let counts : PairCounts = k .checked2 .given .0 .0 in
+    let small = divisor-le (a .a .now) (a .b .now) (counts .n) (counts .ka) (counts .kb) (pair-checked _ _ _ (are-maps k)) (w .weigh .result) (a .of) in
+    (omega (arith, weights-le w), omega (arith, weights-le w, small, c .divisor .ensures))
+
+returns : tie.Need-returns
+returns c =
+    let k = c .before in
+    let a = entry (k .before .before) .args in
+    ap figureAnswer (sym (figure-refused (a .of) (a .a .now) (a .b .now) _ (is-refused k)))
+
+returns-2 : tie.Need-returns-2
+returns-2 c =
+    let w = c .before .before in
+    let k = w .before .before in
+    let a = entry (k .before .before) .args in
+    let r = w .weigh .result in
+    ap Quotient (c .divide .ensures ∙ ap (quotient (r .most - r .least)) (c .before .divisor .ensures))
+    ∙ ap figureAnswer (sym (figure-ready (a .a .now) (a .b .now) _ (are-maps k) (a .of) r (w .weigh .ensures)))
+
+pub figure-spec : {M : Type 1} → statement M
+figure-spec =
+    tie.close
+    (tie.spec
+    check-pair-requires
+    enum-known-checked
+    enum-known-checked-2
+    weigh-requires
+    divisor-requires
+    sub-divide
+    divide-requires
+    returns
+    returns-2)
