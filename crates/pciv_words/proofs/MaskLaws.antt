@@ -5,6 +5,8 @@
 --   maskOf-unique          it is the only mask with these slots
 --   maskOf-table, maskWord-full, maskWord-last
 --                          its words, to be written one by one
+--   table-maskOf           words with these bits are its words
+--   ones-maskHas           the count of ones of a word is that of its slots
 --   badMask-good, good-badMask
 --                          what is not bad is a mask, and conversely
 --   badMask-count, -whole, -last
@@ -18,15 +20,16 @@ use mathlib.Core.Bool.{Bool, true, false, not, cond, _||_}
 use mathlib.Core.List.{List}
 use lib.ListN.{length, getD, List·getD-eq-default}
 use lib.Seq.{ext-getD}
+use lib.Count.{ones}
 use lib.Dec.{ltb, eqb}
 use lib.Pow.{pow-mono, shr-lt}
 use borrow.Author.Tests.{le-ltb, ltb-false, eq-eqb, ne-eqb, eqb-true, not-true, not-false}
-use Rattle.pciv_bytes.specs.Ranges.{flag, firstFrom, table}
-use Rattle.pciv_bytes.proofs.RangesLaws.{true-false, length-table, getD-table}
-use Rattle.pciv_bytes.proofs.SumLaws.{flag-zero}
+use Rattle.pciv_bytes.specs.Ranges.{flag, firstFrom, table, sumFrom}
+use Rattle.pciv_bytes.proofs.RangesLaws.{true-false, length-table, getD-table, table-cong}
+use Rattle.pciv_bytes.proofs.SumLaws.{flag-zero, sumFrom-cong, sumFrom-shift}
 use Rattle.pciv_format.specs.Mask.{maskLen, bitAt, maskHas, word, maskOf, badMask}
 use Rattle.pciv_words.specs.Words.{Words, IsMask}
-use Rattle.pciv_words.proofs.BitLaws.{eqb-flag, flag-bitAt, bitAt-none, bitAt-shr, bits-inj, bits-none, word-lt, bitAt-word, bitAt-word-past}
+use Rattle.pciv_words.proofs.BitLaws.{eqb-flag, flag-bitAt, bitAt-none, bitAt-shr, bits-inj, bits-none, word-lt, bitAt-word, bitAt-word-past, ones-bits}
 
 -- ---- slots and bits
 
@@ -138,6 +141,23 @@ module _ (n : ℕ) (p : ℕ → Bool) where
         | no d ↦ same i (omega arith) ∙ sym (maskHas-maskOf i (omega arith))
       ])
 
+-- the words with these bits, and none past n
+pub table-maskOf : (n : ℕ) (p : ℕ → Bool) (f : ℕ → ℕ) → ((w : ℕ) → f w < 2 ^ 64)
+    → ((w j : ℕ) → j < 64 → 64 * w + j < n → bitAt (f w) j ≡ flag (p (64 * w + j)))
+    → ((w j : ℕ) → j < 64 → n ≤ 64 * w + j → bitAt (f w) j ≡ 0)
+    → table f 0 (maskLen n) ≡ maskOf n p
+table-maskOf n p f small inside past = table-cong f (maskWord n p) 0 (maskLen n) (λ w h. word-is w) ∙ sym (maskOf-table n p)
+  where
+    word-is : (w : ℕ) → f w ≡ maskWord n p w
+    word-is w =
+        let c : ℕ = min 64 (n - 64 * w) in
+        bits-inj 64 (f w) (maskWord n p w) (small w) (maskWord-lt n p w)
+        (λ j l.
+        elim (decLe n (64 * w + j)) [
+          | yes d ↦ past w j l d ∙ sym (bitAt-word-past p (64 * w) c j (omega arith))
+          | no d ↦ inside w j l (omega arith) ∙ sym (bitAt-word p (64 * w) c j (omega arith))
+        ])
+
 pub maskOf-cong : (n : ℕ) (p q : ℕ → Bool) → ((i : ℕ) → i < n → p i ≡ q i) → maskOf n p ≡ maskOf n q
 maskOf-cong n p q same =
     maskOf-unique n q (maskOf n p) (maskOf-words n p) (maskOf-good n p)
@@ -166,6 +186,17 @@ module _ (p : ℕ → Bool) where
             | yes d ↦ (let same : j ≡ i = omega arith in ap p same ∙ e)
             | no d ↦ rest (omega arith) l
           ]
+
+-- ---- the count of ones
+
+pub ones-maskHas : (ws : List ℕ) → Words ws → (w : ℕ)
+    → ones (getD ws w 0) ≡ sumFrom (λ (i : ℕ). flag (maskHas ws i)) (64 * w) 64
+ones-maskHas ws words w =
+    ones-bits 64 (getD ws w 0) (words w)
+    ∙ sumFrom-cong (bitAt (getD ws w 0)) (λ (j : ℕ). flag (maskHas ws (64 * w + j))) 0 64
+    (λ j h l. sym (flag-maskHas ws w j (omega arith)))
+    ∙ sumFrom-shift (λ (j : ℕ). flag (maskHas ws (64 * w + j))) (λ (i : ℕ). flag (maskHas ws i)) 0 (64 * w) 64
+    (λ j. rw (zero-add j))
 
 -- ---- a mask and the test for it
 
