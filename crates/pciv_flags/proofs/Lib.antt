@@ -1,0 +1,3 @@
+pub mod TransposeLaws
+pub mod GatherLaws
+pub mod WordLaws

@@ -1,0 +1,41 @@
+// The flags of 64 bytes in one word, set where a byte is below a limit. The bytes are taken in sixteen lanes, which the
+// compiler does at once; so the flags stand in the order of the lanes and not in that of the bytes.
+ghost use mathlib.Core.Path.{_≡_};
+ghost use Prim.Native.Nat.{_+_, _*_, _≤_, _<_};
+ghost use lib.ListN.{length};
+ghost use lib.Dec.{ltb};
+ghost use Rattle.pciv_bytes.specs.Ranges.{flag};
+ghost use Rattle.pciv_flags.specs.Flags.{isBelow, spread, Gathered};
+use pciv_bytes::little_endian::get64;
+
+// The weight of a flag that is set.
+fn weigh(x: u8, limit: u8, weight: u8) -> u8
+    ensures { λ r. ⌜ (r ≡ flag (ltb x limit) * weight) × (r ≤ weight) ⌝ }
+{
+    if x < limit { weight } else { 0 }
+}
+
+// The flags of four bytes, at every other bit.
+fn lane(a: &[u8], i: usize, limit: u8) -> u8
+    requires { ⌜ i + 48 < length (now a) ⌝ }
+    ensures { λ r. ⌜ r ≡ spread (isBelow (now (a .entry)) limit) i ⌝ }
+{
+    weigh(a[i], limit, 1)
+        + weigh(a[i + 16], limit, 4)
+        + weigh(a[i + 32], limit, 16)
+        + weigh(a[i + 48], limit, 64)
+}
+
+// The flags of the 64 bytes from i on: the lanes from 8 on fill the bits that the others leave.
+pub fn gather(a: &[u8], i: usize, limit: u8) -> u64
+    requires { ⌜ i + 64 ≤ length (now a) ⌝ }
+    ensures { λ r. ⌜ Gathered (isBelow (now (a .entry)) limit) i r ⌝ }
+{
+    let mut lanes: [u8; 16] = [0; 16];
+    let mut j: usize = 0;
+    while j < 16 {
+        lanes[j] = lane(a, i + j, limit);
+        j += 1;
+    }
+    (get64(&lanes, 0) | (get64(&lanes, 8) << 1)) as u64
+}

@@ -1,0 +1,3 @@
+pub mod FlipLaws
+pub mod EntriesLaws
+pub mod SelectLaws
