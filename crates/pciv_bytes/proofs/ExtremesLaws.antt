@@ -8,7 +8,7 @@ use mathlib.Core.Path.{_≡_}
 use Prim.Native.Nat.{ℕ, _+_, _-_, _*_, _≤_, _<_, min, max}
 use native.Mathlib.Omega.{arith}
 use mathlib.Core.List.{List}
-use Rattle.pciv_bytes.specs.Ranges.{flag, sumFrom}
+use Rattle.pciv_bytes.specs.Ranges.{sumFrom}
 use Rattle.pciv_bytes.specs.LittleEndian.{Bytes}
 use Rattle.pciv_bytes.specs.Counts.{byteAt, passes, termOf}
 use Rattle.pciv_bytes.specs.Extremes.{leastAt, mostAt, ExtremeSums}

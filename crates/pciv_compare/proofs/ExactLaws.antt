@@ -4,7 +4,7 @@
 --   quotient-zero, quotient-over    the two cases of a quotient
 --   quotient-nearest   the quotient of two is the float that is nearest to their fraction
 -- Axioms: none.
-use mathlib.Core.Path.{_≡_, refl, sym, ap, _∙_}
+use mathlib.Core.Path.{_≡_, sym, ap, _∙_}
 use Prim.Native.Nat.{ℕ, _*_, _^_, _≤_, _<_}
 use native.Mathlib.Nat.{mul-one, zero-mul, mul-assoc, mul-comm, mul-pos}
 use native.Mathlib.Omega.{arith}

@@ -1,47 +1,44 @@
 -- What a comparison figure is, from what the smaller and the larger distances weigh.
---   figure-refused     a refused pair
---   figure-ready       two maps with counts c
---   parts-order, -le   the parts of the quotient: no difference is negative, and both parts are at most 2 ^ 53
+--   parts-are        its numerator and denominator
+--   parts-fit        the difference is not negative, and neither part is above 2 ^ 53
+--   figure-refused   a refused pair
+--   figure-ready     two maps with counts c, as the code has it
+--   figure-exact     two maps with counts c: both parts are at most 2 ^ 53, so that both are floats without loss, and the
+--                    figure is the float that is nearest to their fraction
 -- Axioms: none.
 use mathlib.Core.Path.{_≡_, refl, sym, ap, ap₂, _∙_}
 use Prim.Native.Nat.{ℕ, _+_, _-_, _^_, _≤_, _<_, min, max}
 use native.Mathlib.Omega.{arith}
 use native.Mathlib.Decide.{decLe}
-use mathlib.Core.Bool.{Bool, _||_, xor}
+use mathlib.Core.Bool.{false, _||_, xor}
 use mathlib.Core.List.{List}
 use lib.ListN.{length}
 use lib.Dec.{leb}
+use lib.Ieee.{Float, binary64, round}
 use borrow.Author.Tests.{le-leb, lt-leb}
 use Rattle.pciv_bytes.specs.Ranges.{flag, sumFrom}
 use Rattle.pciv_bytes.specs.LittleEndian.{Bytes}
 use Rattle.pciv_bytes.specs.declared.extremes.Extremes.{Extremes}
 use Rattle.pciv_bytes.proofs.SumLaws.{sumFrom-cong, sumFrom-plus, sumFrom-flag-le}
 use Rattle.pciv_format.specs.Layout.{at}
-use Rattle.pciv_format.specs.Refusals.{done, refused}
+use Rattle.pciv_format.specs.Refusals.{Outcome, done, refused}
 use Rattle.pciv_format.specs.Parts.{valueOf}
 use Rattle.pciv_format.specs.Check.{fileParts}
 use Rattle.pciv_format.specs.Read.{listOf, total}
 use Rattle.pciv_format.specs.Figures.{quotient, distanceBetween, brayCurtisOutcome, countAt, jaccardOutcome}
+use Rattle.pciv_format.specs.Arith.{pairOutcome}
 use Rattle.pciv_format.specs.declared.Refusal.{Refusal}
 use Rattle.pciv_format.proofs.ReadLaws.{length-listOf, at-list, total-is}
 use Rattle.pciv_check.specs.Pair.{pairCounts, CheckedPair}
 use Rattle.pciv_check.specs.declared.pair.PairCounts.{PairCounts}
 use Rattle.pciv_check.proofs.PairLaws.{pair-checked, pairOutcome-ready, pairOutcome-refused}
 use Rattle.pciv_map.proofs.MapLaws.{sum-lt}
-use Rattle.pciv_compare.specs.Weigh.{weightOf, Weighed}
-use Rattle.pciv_compare.specs.Figure.{divisorOf, figureOutcome}
+use Rattle.pciv_compare.specs.Weigh.{weightOf, over, Weighed}
+use Rattle.pciv_compare.specs.Figure.{figureOutcome, numeratorOf, denominatorOf, divisorOf}
 use Rattle.pciv_compare.specs.declared.weigh.Weight.{Weight}
 use Rattle.pciv_compare.specs.declared.weigh.Weight.the-variants.{Distance, From}
 use Rattle.pciv_compare.proofs.WeighLaws.{weighed-both}
-
-pub figure-refused : (w : Weight) (a b : List ℕ) (r : Refusal) → pairCounts a b ≡ refused r → figureOutcome w a b ≡ refused r
-unfolding brayCurtisOutcome jaccardOutcome
-figure-refused Distance a b r e =
-    pairOutcome-refused a b
-    (λ n. done (quotient (distanceBetween (listOf a) (listOf b)) (total (listOf a) + total (listOf b)))) r e
-figure-refused (From t) a b r e =
-    pairOutcome-refused a b
-    (λ n. done (quotient (countAt xor t (listOf a) (listOf b)) (countAt _||_ t (listOf a) (listOf b)))) r e
+use Rattle.pciv_compare.proofs.ExactLaws.{quotient-nearest}
 
 -- ---- at one slot
 
@@ -98,46 +95,45 @@ module _ (a b : List ℕ) (n ka kb : ℕ) (pair : CheckedPair a b n ka kb) where
       let hb = pair .second .header in
       ap₂ (λ (x y : ℕ). x + y) (total-is a n ka (ha .nIs) (ha .kIs)) (total-is b n kb (hb .nIs) (hb .kIs))
 
-  distances : distanceBetween (listOf a) (listOf b) + sumFrom (λ (i : ℕ). min (u i) (v i)) 0 n
-      ≡ sumFrom (λ (i : ℕ). max (u i) (v i)) 0 n
-  unfolding distanceBetween
-  distances =
+  -- the numerator and what the smaller distances weigh are what the larger ones do
+  numerator-is : (w : Weight) → numeratorOf w (listOf a) (listOf b) + over min (weightOf w) u v n ≡ over max (weightOf w) u v n
+  unfolding distanceBetween countAt
+  numerator-is Distance =
       rw (over-lists (λ (x y : ℕ). (x - y) + (y - x)))
       (sumFrom-plus (λ (i : ℕ). (u i - v i) + (v i - u i)) (λ (i : ℕ). min (u i) (v i)) (λ (i : ℕ). max (u i) (v i)) 0 n
       (λ i h₁ h₂. omega arith))
+  numerator-is (From t) =
+      rw (over-lists (λ (x y : ℕ). flag (xor (leb t x) (leb t y))))
+      (sumFrom-plus (λ (i : ℕ). flag (xor (leb t (u i)) (leb t (v i)))) (λ (i : ℕ). flag (leb t (min (u i) (v i))))
+      (λ (i : ℕ). flag (leb t (max (u i) (v i)))) 0 n (λ i h₁ h₂. flag-xor t (u i) (v i)))
 
-  module _ (t : ℕ) where
-    exactly-one : countAt xor t (listOf a) (listOf b) + sumFrom (λ (i : ℕ). flag (leb t (min (u i) (v i)))) 0 n
-        ≡ sumFrom (λ (i : ℕ). flag (leb t (max (u i) (v i)))) 0 n
-    unfolding countAt
-    exactly-one =
-        rw (over-lists (λ (x y : ℕ). flag (xor (leb t x) (leb t y))))
-        (sumFrom-plus (λ (i : ℕ). flag (xor (leb t (u i)) (leb t (v i)))) (λ (i : ℕ). flag (leb t (min (u i) (v i))))
-        (λ (i : ℕ). flag (leb t (max (u i) (v i)))) 0 n (λ i h₁ h₂. flag-xor t (u i) (v i)))
-
-    either : countAt _||_ t (listOf a) (listOf b) ≡ sumFrom (λ (i : ℕ). flag (leb t (max (u i) (v i)))) 0 n
-    unfolding countAt
-    either =
-        over-lists (λ (x y : ℕ). flag (leb t x || leb t y))
-        ∙ sumFrom-cong (λ (i : ℕ). flag (leb t (u i) || leb t (v i))) (λ (i : ℕ). flag (leb t (max (u i) (v i)))) 0 n
-        (λ i h₁ h₂. flag-or t (u i) (v i))
-
-  -- ---- the parts of the quotient
+  -- those at t or above in either map
+  either-is : (t : ℕ) → countAt _||_ t (listOf a) (listOf b) ≡ over max (weightOf (From t)) u v n
+  unfolding countAt
+  either-is t =
+      over-lists (λ (x y : ℕ). flag (leb t x || leb t y))
+      ∙ sumFrom-cong (λ (i : ℕ). flag (leb t (u i) || leb t (v i))) (λ (i : ℕ). flag (leb t (max (u i) (v i)))) 0 n
+      (λ i h₁ h₂. flag-or t (u i) (v i))
 
   module _ (r : Extremes) where
-    pub parts-order : (w : Weight) → Weighed (weightOf w) u v n r → r .least ≤ r .most
-    parts-order Distance x = omega (arith, x .least, x .most, distances)
-    parts-order (From t) x = omega (arith, x .least, x .most, exactly-one t)
+    denominator-is : (w : Weight) → Weighed (weightOf w) u v n r → denominatorOf w (listOf a) (listOf b) ≡ divisorOf w (r .least) (r .most)
+    denominator-is Distance x = totals ∙ sym (weighed-both (weightOf Distance) u v n r x)
+    denominator-is (From t) x = either-is t ∙ sym (x .most)
 
-    pub parts-le : Bytes a → Bytes b → (w : Weight) → Weighed (weightOf w) u v n r → r .least + r .most ≤ 2 ^ 53
-    parts-le bytesA bytesB Distance x =
+    pub parts-are : (w : Weight) → Weighed (weightOf w) u v n r
+        → (numeratorOf w (listOf a) (listOf b) ≡ r .most - r .least)
+        × (denominatorOf w (listOf a) (listOf b) ≡ divisorOf w (r .least) (r .most))
+    parts-are w x = (omega (arith, x .least, x .most, numerator-is w), denominator-is w x)
+
+    weights-le : Bytes a → Bytes b → (w : Weight) → Weighed (weightOf w) u v n r → r .least + r .most ≤ 2 ^ 53
+    weights-le bytesA bytesB Distance x =
         omega (
           arith,
           weighed-both (weightOf Distance) u v n r x,
           sum-lt a n ka (pair .first) bytesA,
           sum-lt b n kb (pair .second) bytesB,
         )
-    parts-le bytesA bytesB (From t) x =
+    weights-le bytesA bytesB (From t) x =
         omega (
           arith,
           x .least,
@@ -147,32 +143,56 @@ module _ (a b : List ℕ) (n ka kb : ℕ) (pair : CheckedPair a b n ka kb) where
           sumFrom-flag-le (λ (i : ℕ). leb t (max (u i) (v i))) 0 n,
         )
 
-    pub divisor-le : (w : Weight) → divisorOf w (r .least) (r .most) ≤ r .least + r .most
+    divisor-le : (w : Weight) → divisorOf w (r .least) (r .most) ≤ r .least + r .most
     divisor-le Distance = omega arith
     divisor-le (From t) = omega arith
 
-    bray-curtis-is : Weighed (weightOf Distance) u v n r
-        → quotient (distanceBetween (listOf a) (listOf b)) (total (listOf a) + total (listOf b))
-        ≡ quotient (r .most - r .least) (r .least + r .most)
-    bray-curtis-is x =
-        ap₂ quotient (omega (arith, x .least, x .most, distances))
-        (totals ∙ sym (weighed-both (weightOf Distance) u v n r x))
+    pub parts-fit : Bytes a → Bytes b → (w : Weight) → Weighed (weightOf w) u v n r
+        → (r .least ≤ r .most) × (r .least + r .most ≤ 2 ^ 53) × (divisorOf w (r .least) (r .most) ≤ 2 ^ 53)
+    parts-fit bytesA bytesB w x =
+        let all = weights-le bytesA bytesB w x in
+        (omega (arith, x .least, x .most, numerator-is w), all, omega (arith, divisor-le w))
 
-    jaccard-is : (t : ℕ) → Weighed (weightOf (From t)) u v n r
-        → quotient (countAt xor t (listOf a) (listOf b)) (countAt _||_ t (listOf a) (listOf b))
-        ≡ quotient (r .most - r .least) (r .most)
-    jaccard-is t x = ap₂ quotient (omega (arith, x .least, x .most, exactly-one t)) (either t ∙ sym (x .most))
+-- ---- the figures of two files
 
-module _ (a b : List ℕ) (c : PairCounts) (e : pairCounts a b ≡ done c) where
-  pub figure-ready : (w : Weight) (r : Extremes)
-      → Weighed (weightOf w) (valueOf (fileParts a (c .n) (c .ka))) (valueOf (fileParts b (c .n) (c .kb))) (c .n) r
-      → figureOutcome w a b ≡ done (quotient (r .most - r .least) (divisorOf w (r .least) (r .most)))
-  unfolding brayCurtisOutcome jaccardOutcome
-  figure-ready Distance r x =
-      pairOutcome-ready a b
-      (λ n. done (quotient (distanceBetween (listOf a) (listOf b)) (total (listOf a) + total (listOf b)))) c e
-      ∙ ap done (bray-curtis-is a b (c .n) (c .ka) (c .kb) (pair-checked a b c e) r x)
-  figure-ready (From t) r x =
-      pairOutcome-ready a b
-      (λ n. done (quotient (countAt xor t (listOf a) (listOf b)) (countAt _||_ t (listOf a) (listOf b)))) c e
-      ∙ ap done (jaccard-is a b (c .n) (c .ka) (c .kb) (pair-checked a b c e) r t x)
+-- what follows the check
+abbrev fraction : Weight → List ℕ → List ℕ → ℕ → Outcome Float
+fraction w a b n = done (quotient (numeratorOf w (listOf a) (listOf b)) (denominatorOf w (listOf a) (listOf b)))
+
+figure-is : (w : Weight) (a b : List ℕ) → figureOutcome w a b ≡ pairOutcome a b (fraction w a b)
+unfolding brayCurtisOutcome jaccardOutcome
+figure-is Distance a b = refl
+figure-is (From t) a b = refl
+
+module _ (w : Weight) (a b : List ℕ) where
+  pub figure-refused : (r : Refusal) → pairCounts a b ≡ refused r → figureOutcome w a b ≡ refused r
+  figure-refused r e = figure-is w a b ∙ pairOutcome-refused a b (fraction w a b) r e
+
+  module _ (c : PairCounts) (e : pairCounts a b ≡ done c) where
+    checked : CheckedPair a b (c .n) (c .ka) (c .kb)
+    checked = pair-checked a b c e
+
+    figure-done : figureOutcome w a b ≡ fraction w a b (c .n)
+    figure-done = figure-is w a b ∙ pairOutcome-ready a b (fraction w a b) c e
+
+    pub figure-ready : (r : Extremes)
+        → Weighed (weightOf w) (valueOf (fileParts a (c .n) (c .ka))) (valueOf (fileParts b (c .n) (c .kb))) (c .n) r
+        → figureOutcome w a b ≡ done (quotient (r .most - r .least) (divisorOf w (r .least) (r .most)))
+    figure-ready r x =
+        let are = parts-are a b (c .n) (c .ka) (c .kb) checked r w x in
+        figure-done ∙ ap done (ap₂ quotient (are .0) (are .1))
+
+    pub figure-exact : Bytes a → Bytes b
+        → let p : ℕ = numeratorOf w (listOf a) (listOf b) in
+        let q : ℕ = denominatorOf w (listOf a) (listOf b) in
+        (p ≤ 2 ^ 53) × (q ≤ 2 ^ 53) × (0 < q → figureOutcome w a b ≡ done (round binary64 false p q))
+    figure-exact bytesA bytesB =
+        let u : ℕ → ℕ = valueOf (fileParts a (c .n) (c .ka)) in
+        let v : ℕ → ℕ = valueOf (fileParts b (c .n) (c .kb)) in
+        let r : Extremes = record { least = over min (weightOf w) u v (c .n); most = over max (weightOf w) u v (c .n) } in
+        let x : Weighed (weightOf w) u v (c .n) r = record { least = refl; most = refl } in
+        let are = parts-are a b (c .n) (c .ka) (c .kb) checked r w x in
+        let fit = parts-fit a b (c .n) (c .ka) (c .kb) checked r bytesA bytesB w x in
+        let p : numeratorOf w (listOf a) (listOf b) ≤ 2 ^ 53 = omega (arith, are .0, fit .1) in
+        let q : denominatorOf w (listOf a) (listOf b) ≤ 2 ^ 53 = omega (arith, are .1, fit .2) in
+        (p, q, λ above. figure-done ∙ ap done (quotient-nearest _ _ p q above))

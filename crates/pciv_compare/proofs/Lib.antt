@@ -1,3 +1,3 @@
+pub mod ExactLaws
 pub mod WeighLaws
 pub mod FigureLaws
-pub mod ExactLaws

@@ -6,10 +6,10 @@ use borrow.Author.Needs.{needs}
 use Rattle.pciv_format.specs.Refusals.{done, refused, figureAnswer}
 use Rattle.pciv_format.specs.Figures.{quotient}
 use Rattle.pciv_format.specs.declared.FigureAnswer.the-variants.{Quotient}
-use Rattle.pciv_check.specs.Pair.{pairCounts, CheckedPair}
-use Rattle.pciv_check.specs.declared.pair.PairCounts.{PairCounts}
+use Rattle.pciv_check.specs.Pair.{pairCounts}
 use Rattle.pciv_check.proofs.PairLaws.{pair-checked, pairAnswer-ready, pairAnswer-refused}
-use Rattle.pciv_compare.proofs.FigureLaws.{figure-refused, figure-ready, parts-order, parts-le, divisor-le}
+use Rattle.pciv_compare.specs.Figure.{divisorOf}
+use Rattle.pciv_compare.proofs.FigureLaws.{parts-fit, figure-refused, figure-ready}
 use Rattle.pciv_compare.proofs.figure.Statement.{statement}
 use Rattle.pciv_compare.proofs.figure.Tie as tie
 
@@ -25,14 +25,16 @@ are-maps : (c : tie.After-checked2)
     → pairCounts (entry (c .before .before) .args .a .now) (entry (c .before .before) .args .b .now) ≡ done (c .checked2 .given .0 .0)
 are-maps c = pairAnswer-ready _ _ (sym (c .checked2 .given .1) ∙ c .before .before .check-pair .ensures)
 
--- both parts are made of what the distances weigh, which is at most 2 ^ 53
-weights-le : (c : tie.After-weigh) → c .weigh .result .least + c .weigh .result .most ≤ 2 ^ 53
-weights-le c =
+-- the parts of the quotient are in order, and not above 2 ^ 53
+fit : (c : tie.After-weigh)
+    → (let r = c .weigh .result in
+    let a = entry (c .before .before .before .before) .args in
+    (r .least ≤ r .most) × (r .least + r .most ≤ 2 ^ 53) × (divisorOf (a .of) (r .least) (r .most) ≤ 2 ^ 53))
+fit c =
     let k = c .before .before in
     let d = k .before .before in
     let a = entry d .args in
-    let counts : PairCounts = k .checked2 .given .0 .0 in
-    parts-le (a .a .now) (a .b .now) (counts .n) (counts .ka) (counts .kb) (pair-checked _ _ _ (are-maps k)) (c .weigh .result)
+    parts-fit (a .a .now) (a .b .now) _ _ _ (pair-checked _ _ _ (are-maps k)) (c .weigh .result)
     (λ j. d .before .before .shared-slice-known .given j .fits) (λ j. d .before .shared-slice-known2 .given j .fits)
     (a .of) (c .weigh .ensures)
 
@@ -49,27 +51,15 @@ weigh-requires : tie.Need-weigh-requires
 weigh-requires c κs = pair-checked _ _ _ (are-maps (c .before))
 
 divisor-requires : tie.Need-divisor-requires
-divisor-requires c κs = weights-le c
+divisor-requires c κs = fit c .1
 
 sub-divide : tie.Need-sub-divide
-sub-divide c =
-    let w = c .before in
-    let k = w .before .before in
-    let a = entry (k .before .before) .args in
-    let counts : PairCounts = k .checked2 .given .0 .0 in
-    omega (
-      arith,
-      parts-order (a .a .now) (a .b .now) (counts .n) (counts .ka) (counts .kb) (pair-checked _ _ _ (are-maps k)) (w .weigh .result) (a .of) (w .weigh .ensures),
-    )
+sub-divide c = omega (arith, fit (c .before) .0)
 
 divide-requires : tie.Need-divide-requires
 divide-requires c κs =
-    let w = c .before in
-    let k = w .before .before in
-    let a = entry (k .before .before) .args in
-    let counts : PairCounts = k .checked2 .given .0 .0 in
-    let small = divisor-le (a .a .now) (a .b .now) (counts .n) (counts .ka) (counts .kb) (pair-checked _ _ _ (are-maps k)) (w .weigh .result) (a .of) in
-    (omega (arith, weights-le w), omega (arith, weights-le w, small, c .divisor .ensures))
+    let all = fit (c .before) in
+    (omega (arith, all .1), omega (arith, all .2, c .divisor .ensures))
 
 returns : tie.Need-returns
 returns c =
@@ -84,7 +74,7 @@ returns-2 c =
     let a = entry (k .before .before) .args in
     let r = w .weigh .result in
     ap Quotient (c .divide .ensures ∙ ap (quotient (r .most - r .least)) (c .before .divisor .ensures))
-    ∙ ap figureAnswer (sym (figure-ready (a .a .now) (a .b .now) _ (are-maps k) (a .of) r (w .weigh .ensures)))
+    ∙ ap figureAnswer (sym (figure-ready (a .of) (a .a .now) (a .b .now) _ (are-maps k) r (w .weigh .ensures)))
 
 pub figure-spec : {M : Type 1} → statement M
 figure-spec =

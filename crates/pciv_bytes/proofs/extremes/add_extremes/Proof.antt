@@ -1,6 +1,6 @@
 -- Proves extremes::add_extremes. Invariant: the sums up to i. Falls: n - i.
 -- No addition overflows, since each gives at most the whole sum, which fits.
-use Prim.Native.Nat.{ℕ, _+_, _-_, _*_, _≤_}
+use Prim.Native.Nat.{_+_, _-_, _*_, _≤_}
 use native.Mathlib.Omega.{arith}
 use lib.ListN.{length}
 use borrow.Author.Needs.{needs}
@@ -27,16 +27,6 @@ whole-le l =
     sums-le (a .of) (a .a .now) (a .b .now) (λ j. l .before .before .shared-slice-known .given j .fits)
     (λ j. l .before .shared-slice-known2 .given j .fits) 0 (length (a .a .now) - 0)
 
--- with one block more
-further : (c : tie.After-add-block Inv-loop μ-loop)
-    → (let l = c .before .before in
-    let a = l .before .before .before .args in
-    Progress (a .of) (a .a .now) (a .b .now) 0 (length (a .a .now)) (l .loop .i + 192)
-    (l .loop .least + c .add-block .result .least) (l .loop .most + c .add-block .result .most))
-further c =
-    let l = c .before .before in
-    progress-part (l .loop .inv) (l .loop .i + 192) _ _ (c .add-block .ensures) (omega arith) (omega arith)
-
 -- with what is left
 all : (c : tie.After-add-block2 Inv-loop μ-loop)
     → (let l = c .before .before in
@@ -62,23 +52,26 @@ add-block-requires c κs = search needs
 
 add-least : tie.Need-add-least Inv-loop μ-loop
 add-least c =
-    let l = c .before .before .before in
-    omega (arith, further (c .before) .least .rest, whole-le l .0, l .before .before .before .pre .1)
+    let d = c .before in
+    let l = d .before .before in
+    let further = progress-part (l .loop .inv) _ _ _ (d .add-block .ensures) (omega arith) (omega arith) in
+    omega (arith, further .least .rest, whole-le l .0, l .before .before .before .pre .1)
+
+loop-again : tie.Need-loop-again Inv-loop μ-loop
+loop-again c =
+    let d = c .before .before in
+    progress-part (d .before .before .loop .inv) _ _ _ (d .add-block .ensures) (omega arith) (omega arith)
 
 add-most : tie.Need-add-most Inv-loop μ-loop
 add-most c =
-    let d = c .before .before in
-    let l = d .before .before in
-    omega (arith, further d .most .rest, whole-le l .1, l .before .before .before .pre .1)
+    let l = c .before .before .before .before in
+    omega (arith, loop-again c .most .rest, whole-le l .1, l .before .before .before .pre .1)
 
 add-i : tie.Need-add-i Inv-loop μ-loop
 add-i c = search needs
 
 loop-less : tie.Need-loop-less Inv-loop μ-loop
 loop-less c = search needs
-
-loop-again : tie.Need-loop-again Inv-loop μ-loop
-loop-again c = further (c .before .before)
 
 add-block-requires-2 : tie.Need-add-block-requires-2 Inv-loop μ-loop
 add-block-requires-2 c κs = search needs

@@ -1,5 +1,5 @@
 -- Proves extremes::sum_block. Invariant: the sums from `from` up to i. Falls: to - i.
-use Prim.Native.Nat.{ℕ, _-_, _*_, _≤_}
+use Prim.Native.Nat.{_-_, _*_, _≤_}
 use native.Mathlib.Omega.{arith}
 use borrow.Author.Needs.{needs}
 use Rattle.pciv_bytes.specs.Ranges.{sumFrom}

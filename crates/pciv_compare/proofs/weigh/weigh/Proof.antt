@@ -10,7 +10,7 @@ use Rattle.pciv_compare.specs.Weigh.{weightOf, Weighed}
 use Rattle.pciv_compare.specs.declared.weigh.Weight.{Weight}
 use Rattle.pciv_compare.specs.declared.weigh.Weight.the-variants.{Distance}
 use Rattle.pciv_compare.proofs.WeighLaws.{weighed-distance, weighed-from, late-distance, late-from}
-use Rattle.pciv_compare.proofs.FigureLaws.{parts-le}
+use Rattle.pciv_compare.proofs.FigureLaws.{parts-fit}
 use Rattle.pciv_compare.proofs.weigh.weigh.Statement.{statement}
 use Rattle.pciv_compare.proofs.weigh.weigh.Tie as tie
 
@@ -48,8 +48,8 @@ distance-le c =
     let k = c .before .before .before .before in
     let s = k .before .before in
     let a = s .args in
-    parts-le (a .a .now) (a .b .now) (a .n) (a .ka) (a .kb) (s .pre) _ (λ i. k .before .shared-slice-known .given i .fits)
-    (λ i. k .shared-slice-known2 .given i .fits) Distance (distance-is c)
+    parts-fit (a .a .now) (a .b .now) (a .n) (a .ka) (a .kb) (s .pre) _ (λ i. k .before .shared-slice-known .given i .fits)
+    (λ i. k .shared-slice-known2 .given i .fits) Distance (distance-is c) .1
 
 enum-told : tie.Need-enum-told
 enum-told c = search needs

@@ -1,5 +1,5 @@
 -- Proves weigh::weigh_entries. Invariant: sum is that of the first j entries. Falls: k - j.
-use mathlib.Core.Path.{_≡_, ap, _∙_}
+use mathlib.Core.Path.{ap, _∙_}
 use Prim.Native.Nat.{ℕ, _-_}
 use native.Mathlib.Nat.{sub-zero}
 use native.Mathlib.Omega.{arith}

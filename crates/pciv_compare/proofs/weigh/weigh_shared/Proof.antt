@@ -1,6 +1,6 @@
 -- Proves weigh::weigh_shared. Invariant: sum is that of the first j entries of the first map, and the entries of the
 -- second before t are passed. Falls: ka - j.
-use mathlib.Core.Path.{_≡_, ap, _∙_}
+use mathlib.Core.Path.{ap, _∙_}
 use Prim.Native.Nat.{ℕ, _-_}
 use native.Mathlib.Nat.{sub-zero}
 use native.Mathlib.Omega.{arith}
