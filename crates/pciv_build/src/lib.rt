@@ -37,7 +37,8 @@ pub fn counts(n: usize, k: usize) -> Summary
     }
 }
 
-fn put_header(out: &mut [u8], n: usize, k: usize)
+// Writes the header of a file with n slots and k overflow entries.
+pub fn put_header(out: &mut [u8], n: usize, k: usize)
     requires { ⌜ (k ≤ maxSlots) × (40 ≤ length (now out)) ⌝ }
     ensures { λ _. ⌜ now (out .exit) ≡ sets (now (out .entry)) 0 (header n k) ⌝ }
 {

@@ -19,15 +19,13 @@ use Rattle.pciv_bytes.proofs.LittleEndianLaws.{length-le}
 use Rattle.pciv_bytes.proofs.WriteLaws.{sets-append, sets-front, set-before-sets}
 use Rattle.pciv_format.specs.Layout.{fileLen, primaryByte, primary, overflowSlots, overflowCount, overflowEntry, overflowPart, indexPart, header, file, at, fileOf}
 use Rattle.pciv_format.specs.Check.{fileParts}
-use Rattle.pciv_format.specs.Refusals.{done}
 use Rattle.pciv_format.specs.Edit.{Edit, edited, replaced, editOutcome, editBuffer}
-use Rattle.pciv_format.specs.declared.Summary.{Summary}
 use Rattle.pciv_format.proofs.PartsLaws.{primaryByte-inline, primaryByte-overflow}
 use Rattle.pciv_format.proofs.LayoutLaws.{fileLen-is, length-header, length-primary, length-overflowPart, length-file, overflowCount-le}
 use Rattle.pciv_format.proofs.EditLaws.{set-behind, set-front, sets-behind, sets-over, primary-edited, entries-in, entries-out, count-in, count-below, count-inside}
 use Rattle.pciv_map.specs.Lookup.{entriesBelow}
-use Rattle.pciv_build.specs.Build.{beginOutcome, beginBuffer, indexFrom}
-use Rattle.pciv_build.proofs.BuildLaws.{begun, built}
+use Rattle.pciv_build.specs.Build.{beginOutcome, indexFrom}
+use Rattle.pciv_build.proofs.BuildLaws.{begin-fits, built}
 use Rattle.pciv_edit.specs.Change.{entryIn, entryOut, entryAt, newCount, putIn, takenOut, changed, EditAt, Changes}
 use Rattle.pciv_edit.proofs.CaseLaws.{held, holds, new-at, others, file-edited, old-inline, old-overflow, below-count, edit-counted, buffer-done}
 
@@ -123,9 +121,8 @@ pub record Crossing (b : List ℕ) (n k : ℕ) (e : Edit) (count : ℕ) : Type 0
   pub room : (j : ℕ) → j ≡ entriesBelow (fileParts b n k) (e .slot) → fileLen n count ≤ length b
       → Changes (length b) n k j (e .slot) (e .distance)
   -- d₁: header, byte and entries are changed; d₂: so are the index and what is left behind it
-  pub buffer : (j : ℕ) (d₁ d₂ : List ℕ) (s : Summary) → j ≡ entriesBelow (fileParts b n k) (e .slot)
-      → beginOutcome n count (length b) ≡ done s
-      → d₁ ≡ changed (beginBuffer n count b) n k j (e .slot) (e .distance)
+  pub buffer : (j : ℕ) (d₁ d₂ : List ℕ) → j ≡ entriesBelow (fileParts b n k) (e .slot) → fileLen n count ≤ length b
+      → d₁ ≡ changed (sets b 0 (header n count)) n k j (e .slot) (e .distance)
       → d₂ ≡ sets (sets d₁ (40 + n + 12 * count) (indexFrom d₁ n count)) (fileLen n count) (replicate (fileLen n k - fileLen n count) 0)
       → d₂ ≡ editBuffer b e
 
@@ -336,9 +333,8 @@ module _ (b : List ℕ) (n k : ℕ) (bytes : Bytes b) (e : Edit) (p : EditAt b n
           few = cross-few;
           answer = answer;
           room = cross-room;
-          buffer = λ j d₁ d₂ s found fits is-changed finished.
-              (let g = begun n count b s fits in
-              finished
-              ∙ cross-file j d₁ found (g .fits) (rw (g .buffer) at is-changed)
-              ∙ sym (buffer-done b n k bytes e p s (answer ∙ fits)));
+          buffer = λ j d₁ d₂ found fits is-changed finished.
+              (finished
+              ∙ cross-file j d₁ found fits is-changed
+              ∙ sym (buffer-done b n k bytes e p _ (answer ∙ begin-fits n count b fits .0)));
         }

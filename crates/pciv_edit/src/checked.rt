@@ -10,9 +10,11 @@ ghost use Rattle.pciv_format.specs.Edit.{editOutcome, editBuffer};
 ghost use Rattle.pciv_edit.specs.Change.{newCount, EditAt};
 use crate::change::change_entries;
 use crate::change::finish_change;
-use pciv_build::begin;
 use pciv_build::counts;
+use pciv_build::put_header;
 use pciv_bytes::little_endian::put32;
+use pciv_counts::file_len;
+use pciv_format::BUFFER_TOO_SMALL;
 use pciv_format::FileAnswer;
 use pciv_format::HEADER_LEN;
 use pciv_format::Refusal;
@@ -69,16 +71,14 @@ fn cross(
     ensures answer { λ r. ⌜ r ≡ fileAnswer (editOutcome (now (buffer .entry)) (record { slot = slot; distance = distance })) ⌝ }
     ensures buffer { λ _. ⌜ now (buffer .exit) ≡ editBuffer (now (buffer .entry)) (record { slot = slot; distance = distance }) ⌝ }
 {
-    let j = entry_of(buffer, n, k, slot);
-    let begun = begin(buffer, n, count);
-    match begun {
-        FileAnswer::Refused(r) => FileAnswer::Refused(r),
-        FileAnswer::Done(s) => {
-            change_entries(buffer, n, k, j, slot, distance);
-            finish_change(buffer, n, k, count);
-            FileAnswer::Done(s)
-        }
+    if buffer.len() < file_len(n, count) {
+        return refused(BUFFER_TOO_SMALL);
     }
+    let j = entry_of(buffer, n, k, slot);
+    put_header(buffer, n, count);
+    change_entries(buffer, n, k, j, slot, distance);
+    finish_change(buffer, n, k, count);
+    FileAnswer::Done(counts(n, count))
 }
 
 // One edit, with no check of the file: refusals 9, then 12.
@@ -96,14 +96,15 @@ pub(crate) fn edit_checked(
     if n <= slot {
         return refused(SLOT_OUT_OF_RANGE);
     }
-    let byte = buffer[HEADER_LEN + slot];
-    if distance < SENTINEL as u32 {
-        if byte < SENTINEL {
+    let byte = buffer[HEADER_LEN + slot] as u32;
+    let mark = SENTINEL as u32;
+    if distance < mark {
+        if byte < mark {
             return stay_inline(buffer, n, k, slot, distance);
         }
         return cross(buffer, n, k, k - 1, slot, distance);
     }
-    if byte < SENTINEL {
+    if byte < mark {
         return cross(buffer, n, k, k + 1, slot, distance);
     }
     stay_in_overflow(buffer, n, k, slot, distance)

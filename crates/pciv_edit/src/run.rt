@@ -62,31 +62,23 @@ fn edit_next(
     let told = edit_checked(buffer, n, k, slot, distance);
     match told {
         FileAnswer::Refused(r) => {
-            put_cells(
-                answers,
-                at,
-                r,
-                Summary {
-                    n: 0,
-                    k: 0,
-                    m: 0,
-                    step: 0,
-                    len: 0,
-                },
-            );
+            let no_summary = Summary {
+                n: 0,
+                k: 0,
+                m: 0,
+                step: 0,
+                len: 0,
+            };
+            put_cells(answers, at, r, no_summary);
             k
         }
         FileAnswer::Done(s) => {
-            put_cells(
-                answers,
-                at,
-                Refusal {
-                    number: 0,
-                    map: 0,
-                    place: 0,
-                },
-                s,
-            );
+            let no_refusal = Refusal {
+                number: 0,
+                map: 0,
+                place: 0,
+            };
+            put_cells(answers, at, no_refusal, s);
             s.k
         }
     }

@@ -51,8 +51,11 @@ slice-read-byte c =
     let entry = c .before .before .before in
     omega (arith, entry .pre .fits, fileLen-is (entry .args .n) (entry .args .k))
 
-cast-if2 : tie.Need-cast-if2
-cast-if2 c = search needs
+cast-byte : tie.Need-cast-byte
+cast-byte c = omega (arith, c .slice-known2 .given (40 + c .before .before .before .args .slot))
+
+cast-mark : tie.Need-cast-mark
+cast-mark c = search needs
 
 stay-inline-requires : tie.Need-stay-inline-requires
 stay-inline-requires c κs = search needs
@@ -120,7 +123,8 @@ edit-checked-spec =
     returns
     add-byte
     slice-read-byte
-    cast-if2
+    cast-byte
+    cast-mark
     stay-inline-requires
     same-length
     returns-2
