@@ -9,7 +9,8 @@ ghost use Rattle.pciv_format.specs.Read.{lookupOutcome, lookupListOutcome, look
 ghost use Rattle.pciv_format.specs.Write.{writeOutcome, writeBuffer, closeOutcome, closeBuffer};
 ghost use Rattle.pciv_format.specs.Arith.{combineMapsOutcome, combineMapsBuffer, shiftOutcome, shiftBuffer, signedDifferenceOutcome, signedDifferenceList};
 ghost use Rattle.pciv_format.specs.declared.SlotOp.the-variants.{Minimum, Maximum, Difference, Sum};
-ghost use Rattle.pciv_format.specs.Mask.{combineOutcome, combineWords, complementOutcome, complementWords, setBitsOutcome};
+ghost use Rattle.pciv_format.specs.Mask.{thresholdOutcome, thresholdWords, nearMaskOutcome, nearMaskWords, combineOutcome, combineWords, complementOutcome, complementWords, setBitsOutcome};
+ghost use Rattle.pciv_format.specs.declared.Comparison.the-variants.{Below, AtMost, Above, AtLeast};
 ghost use Rattle.pciv_format.specs.declared.MaskOp.the-variants.{And, Or, Xor};
 ghost use Rattle.pciv_format.specs.Figures.{brayCurtisOutcome, jaccardOutcome};
 ghost use Rattle.pciv_format.specs.Edit.{editOutcome, editBuffer, editListOutcome, editListBuffer, editListAnswers};
@@ -27,6 +28,7 @@ use pciv_compare::bray_curtis;
 use pciv_compare::jaccard;
 use pciv_edit::edit;
 use pciv_edit::run::edit_list;
+use pciv_format::Comparison;
 use pciv_format::DistanceAnswer;
 use pciv_format::Entry;
 use pciv_format::FigureAnswer;
@@ -44,6 +46,8 @@ use pciv_read::readings;
 use pciv_read::scan;
 use pciv_read::sum;
 use pciv_report::report;
+use pciv_select::near_mask;
+use pciv_select::threshold;
 use pciv_shift::shift;
 use pciv_sum::sum_maps;
 use pciv_write::write;
@@ -331,6 +335,78 @@ pub extern "C" fn pciv_signed_difference(
     ensures list { λ _. ⌜ now (out .exit) ≡ signedDifferenceList (now (a .entry)) (now (b .entry)) (now (out .entry)) ⌝ }
 {
     tell_number(signed_difference(a, b, out), count, refusal)
+}
+
+// ---- masks of a map
+
+#[no_mangle]
+pub extern "C" fn pciv_mask_below(
+    file: &[u8],
+    t: u32,
+    out: &mut [u64],
+    count: &mut usize,
+    refusal: &mut [usize; 3],
+) -> usize
+    ensures told { λ r. ⌜ ToldNumber (thresholdOutcome Below (now (file .entry)) t (length (now (out .entry)))) r (now (count .entry)) (now (count .exit)) (now (refusal .exit)) ⌝ }
+    ensures words { λ _. ⌜ now (out .exit) ≡ thresholdWords Below (now (file .entry)) t (now (out .entry)) ⌝ }
+{
+    tell_number(threshold(file, Comparison::Below, t, out), count, refusal)
+}
+
+#[no_mangle]
+pub extern "C" fn pciv_mask_at_most(
+    file: &[u8],
+    t: u32,
+    out: &mut [u64],
+    count: &mut usize,
+    refusal: &mut [usize; 3],
+) -> usize
+    ensures told { λ r. ⌜ ToldNumber (thresholdOutcome AtMost (now (file .entry)) t (length (now (out .entry)))) r (now (count .entry)) (now (count .exit)) (now (refusal .exit)) ⌝ }
+    ensures words { λ _. ⌜ now (out .exit) ≡ thresholdWords AtMost (now (file .entry)) t (now (out .entry)) ⌝ }
+{
+    tell_number(threshold(file, Comparison::AtMost, t, out), count, refusal)
+}
+
+#[no_mangle]
+pub extern "C" fn pciv_mask_above(
+    file: &[u8],
+    t: u32,
+    out: &mut [u64],
+    count: &mut usize,
+    refusal: &mut [usize; 3],
+) -> usize
+    ensures told { λ r. ⌜ ToldNumber (thresholdOutcome Above (now (file .entry)) t (length (now (out .entry)))) r (now (count .entry)) (now (count .exit)) (now (refusal .exit)) ⌝ }
+    ensures words { λ _. ⌜ now (out .exit) ≡ thresholdWords Above (now (file .entry)) t (now (out .entry)) ⌝ }
+{
+    tell_number(threshold(file, Comparison::Above, t, out), count, refusal)
+}
+
+#[no_mangle]
+pub extern "C" fn pciv_mask_at_least(
+    file: &[u8],
+    t: u32,
+    out: &mut [u64],
+    count: &mut usize,
+    refusal: &mut [usize; 3],
+) -> usize
+    ensures told { λ r. ⌜ ToldNumber (thresholdOutcome AtLeast (now (file .entry)) t (length (now (out .entry)))) r (now (count .entry)) (now (count .exit)) (now (refusal .exit)) ⌝ }
+    ensures words { λ _. ⌜ now (out .exit) ≡ thresholdWords AtLeast (now (file .entry)) t (now (out .entry)) ⌝ }
+{
+    tell_number(threshold(file, Comparison::AtLeast, t, out), count, refusal)
+}
+
+#[no_mangle]
+pub extern "C" fn pciv_near_mask(
+    file: &[u8],
+    t: u32,
+    out: &mut [u64],
+    count: &mut usize,
+    refusal: &mut [usize; 3],
+) -> usize
+    ensures told { λ r. ⌜ ToldNumber (nearMaskOutcome (now (file .entry)) t (length (now (out .entry)))) r (now (count .entry)) (now (count .exit)) (now (refusal .exit)) ⌝ }
+    ensures words { λ _. ⌜ now (out .exit) ≡ nearMaskWords (now (file .entry)) t (now (out .entry)) ⌝ }
+{
+    tell_number(near_mask(file, t, out), count, refusal)
 }
 
 // ---- masks of masks

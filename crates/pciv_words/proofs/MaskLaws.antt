@@ -3,6 +3,7 @@
 --   words-ext              lists of words with the same slots are equal
 --   maskHas-maskOf, -past  the slots of a mask made of a property
 --   maskOf-unique          it is the only mask with these slots
+--   setBits-maskOf         it has as many set bits as there are slots with the property
 --   maskOf-table, maskWord-full, maskWord-last
 --                          its words, to be written one by one
 --   table-maskOf           words with these bits are its words
@@ -27,7 +28,7 @@ use borrow.Author.Tests.{le-ltb, ltb-false, eq-eqb, ne-eqb, eqb-true, not-true, 
 use Rattle.pciv_bytes.specs.Ranges.{flag, firstFrom, table, sumFrom}
 use Rattle.pciv_bytes.proofs.RangesLaws.{true-false, length-table, getD-table, table-cong}
 use Rattle.pciv_bytes.proofs.SumLaws.{flag-zero, sumFrom-cong, sumFrom-shift}
-use Rattle.pciv_format.specs.Mask.{maskLen, bitAt, maskHas, word, maskOf, badMask}
+use Rattle.pciv_format.specs.Mask.{maskLen, bitAt, maskHas, word, maskOf, badMask, setBits}
 use Rattle.pciv_words.specs.Words.{Words, IsMask}
 use Rattle.pciv_words.proofs.BitLaws.{eqb-flag, flag-bitAt, bitAt-none, bitAt-shr, bits-inj, bits-none, word-lt, bitAt-word, bitAt-word-past, ones-bits}
 
@@ -140,6 +141,10 @@ module _ (n : ℕ) (p : ℕ → Bool) where
         | yes d ↦ mask .past i d ∙ sym (maskHas-maskOf-past i d)
         | no d ↦ same i (omega arith) ∙ sym (maskHas-maskOf i (omega arith))
       ])
+
+  pub setBits-maskOf : setBits n (maskOf n p) ≡ sumFrom (λ (i : ℕ). flag (p i)) 0 n
+  unfolding setBits
+  setBits-maskOf = sumFrom-cong _ _ 0 n (λ i h₁ h₂. ap flag (maskHas-maskOf i (omega arith)))
 
 -- the words with these bits, and none past n
 pub table-maskOf : (n : ℕ) (p : ℕ → Bool) (f : ℕ → ℕ) → ((w : ℕ) → f w < 2 ^ 64)
