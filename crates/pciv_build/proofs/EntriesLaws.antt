@@ -13,17 +13,21 @@ use native.Mathlib.Omega.{arith}
 use native.Mathlib.Decide.{decLe}
 use mathlib.Core.Bool.{Bool, true, false}
 use mathlib.Core.List.{List, [], _∷_, _++_}
-use lib.ListN.{length, getD, take}
-use lib.Seq.{sets, length-sets, getD-take}
+use lib.ListN.{length, getD}
+use lib.Seq.{sets, length-sets}
 use borrow.Author.Tests.{le-leb, lt-leb}
 use Rattle.pciv_bytes.specs.Ranges.{flag, positions, joined, sumFrom, keepIf}
 use Rattle.pciv_bytes.specs.LittleEndian.{le}
 use Rattle.pciv_bytes.proofs.JoinedLaws.{length-joined}
-use Rattle.pciv_bytes.proofs.WriteLaws.{sets-append, take-sets, sets-over}
+use Rattle.pciv_bytes.proofs.WriteLaws.{sets-append, sets-over, getD-sets-below}
 use Rattle.pciv_format.specs.Layout.{inOverflow, overflowSlots, overflowCount, overflowEntry, overflowPart}
 use Rattle.pciv_format.proofs.LayoutLaws.{length-overflowEntry}
 unfoldable pub use Rattle.pciv_build.specs.Entries.{slotsFrom, entriesFrom}
 pub use Rattle.pciv_build.specs.Entries.{EntriesPut, EntriesLeft}
+
+pub slotsFrom-is : (n : ℕ) (v : ℕ → ℕ) (i : ℕ) → slotsFrom n v i ≡ positions (λ (j : ℕ). inOverflow (v j)) i (n - i)
+unfolding slotsFrom
+slotsFrom-is n v i = refl
 
 module _ (n : ℕ) (v : ℕ → ℕ) where
   pub slotsFrom-start : slotsFrom n v 0 ≡ overflowSlots n v
@@ -65,7 +69,7 @@ entriesFrom-start : (n : ℕ) (v : ℕ → ℕ) → entriesFrom n v 0 ≡ overfl
 unfolding entriesFrom overflowPart
 entriesFrom-start n v = rw (slotsFrom-start n v)
 
-length-entriesFrom : (n : ℕ) (v : ℕ → ℕ) (i : ℕ) → length (entriesFrom n v i) ≡ 12 * length (slotsFrom n v i)
+pub length-entriesFrom : (n : ℕ) (v : ℕ → ℕ) (i : ℕ) → length (entriesFrom n v i) ≡ 12 * length (slotsFrom n v i)
 unfolding entriesFrom
 length-entriesFrom n v i = length-joined (overflowEntry v) 12 (length-overflowEntry v) (slotsFrom n v i)
 
@@ -77,15 +81,26 @@ entriesFrom-cong : (n : ℕ) (v : ℕ → ℕ) (i s : ℕ) → slotsFrom n v i �
 unfolding entriesFrom
 entriesFrom-cong n v i s same = ap (joined (overflowEntry v)) same
 
-entriesFrom-end : (n : ℕ) (v : ℕ → ℕ) (i : ℕ) → n ≤ i → entriesFrom n v i ≡ []
-unfolding entriesFrom joined
-entriesFrom-end n v i h = rw (slotsFrom-end n v i h)
+no-entries : (v : ℕ → ℕ) (xs : List ℕ) → length xs ≡ 0 → joined (overflowEntry v) xs ≡ []
+unfolding joined
+no-entries v [] none = refl
+no-entries v (x ∷ xs) none = absurd (omega arith)
+
+entriesFrom-none : (n : ℕ) (v : ℕ → ℕ) (i : ℕ) → length (slotsFrom n v i) ≡ 0 → entriesFrom n v i ≡ []
+unfolding entriesFrom
+entriesFrom-none n v i none = no-entries v (slotsFrom n v i) none
 
 overflowEntry-is : (v : ℕ → ℕ) (s : ℕ) → overflowEntry v s ≡ le 8 s ++ le 4 (v s)
 unfolding overflowEntry
 overflowEntry-is v s = refl
 
 -- ---- a walk that writes the entries
+
+-- where writing xs from p₀ on comes to writing ys from p on, what stands before p₀ is the same
+pub rest-before : (xs ys d₀ d : List ℕ) (p₀ p : ℕ) → p₀ ≤ p → sets d₀ p₀ xs ≡ sets d p ys → (j : ℕ) → j < p₀
+    → getD d j 0 ≡ getD d₀ j 0
+rest-before xs ys d₀ d p₀ p low rest j h =
+    sym (getD-sets-below ys d p j (omega arith)) ∙ ap (λ (l : List ℕ). getD l j 0) (sym rest) ∙ getD-sets-below xs d₀ p₀ j h
 
 -- nothing is put yet
 pub entries-none : (n : ℕ) (v : ℕ → ℕ) (i : ℕ) (d : List ℕ) (p : ℕ) → i ≤ n → p + 12 * length (slotsFrom n v i) ≤ length d
@@ -103,12 +118,7 @@ module _ {n : ℕ} {v : ℕ → ℕ} {from : ℕ} {d₀ : List ℕ} {p₀ i : �
 
   -- what stands before the entries stays as it was
   pub entries-before : (j : ℕ) → j < p₀ → getD d j 0 ≡ getD d₀ j 0
-  entries-before j h =
-      let same : take p₀ d ≡ take p₀ d₀ =
-      sym (take-sets p₀ (entriesFrom n v i) d p (e .low))
-      ∙ ap (take p₀) (sym (e .rest))
-      ∙ take-sets p₀ (entriesFrom n v from) d₀ p₀ (omega arith) in
-      sym (getD-take p₀ d j 0 h) ∙ ap (λ (l : List ℕ). getD l j 0) same ∙ getD-take p₀ d₀ j 0 h
+  entries-before j h = rest-before (entriesFrom n v from) (entriesFrom n v i) d₀ d p₀ p (e .low) (e .rest) j h
 
   -- the entry of slot i is written
   pub entries-more : i < n → 255 ≤ v i → (x : ℕ) (d' : List ℕ) (p' : ℕ) → x ≡ v i → d' ≡ sets d p (le 8 i ++ le 4 x) → p' ≡ p + 12
@@ -193,11 +203,16 @@ module _ {n : ℕ} {v : ℕ → ℕ} {from : ℕ} {d₀ : List ℕ} {p₀ i : �
         rest = e .rest ∙ f .rest;
       }
 
+-- no slot in overflow is left
+pub entries-done : {n : ℕ} {v : ℕ → ℕ} {d₀ : List ℕ} {p₀ i : ℕ} {d : List ℕ} {p : ℕ} → EntriesLeft n v d₀ p₀ i d p
+    → length (slotsFrom n v i) ≡ 0 → d ≡ sets d₀ p₀ (overflowPart n v)
+entries-done {n} {v} {d₀} {p₀} {i} {d} {p} e none =
+    sym (ap (sets d₀ p₀) (sym (entriesFrom-start n v)) ∙ e .rest ∙ rw (entriesFrom-none n v i none))
+
 -- no slot is left
 pub entries-end : {n : ℕ} {v : ℕ → ℕ} {d₀ : List ℕ} {p₀ i : ℕ} {d : List ℕ} {p : ℕ} → EntriesLeft n v d₀ p₀ i d p → n ≤ i
     → d ≡ sets d₀ p₀ (overflowPart n v)
-entries-end {n} {v} {d₀} {p₀} {i} {d} {p} e h =
-    sym (ap (sets d₀ p₀) (sym (entriesFrom-start n v)) ∙ e .rest ∙ rw (entriesFrom-end n v i h))
+entries-end {n} {v} {d₀} {p₀} {i} {d} {p} e h = entries-done e (ap length (slotsFrom-end n v i h))
 
 -- ---- a walk that counts: c slots below i are in overflow
 

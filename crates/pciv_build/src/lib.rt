@@ -23,6 +23,8 @@ use pciv_format::MAGIC;
 use pciv_format::Refusal;
 use pciv_format::Summary;
 
+pub mod slots;
+
 // The summary of a file with n slots and k overflow entries.
 pub fn counts(n: usize, k: usize) -> Summary
     requires { ⌜ (n ≤ maxSlots) × (k ≤ n) ⌝ }
