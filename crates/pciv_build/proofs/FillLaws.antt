@@ -5,10 +5,11 @@
 --   Filling            the invariant: the entries of the slots from i on are left, and their slots stand in the buffer
 --   Next, fill-next    the next slot in overflow is the one that stands at the next entry
 --   fill-start, -more, -end    before the first entry; one entry on; after the last
+--   fill-over          what `put_slots` has written does not count then
 -- Axioms: none.
 use mathlib.Core.Path.{_≡_, refl, sym, ap, _∙_}
 use Prim.Native.Nat.{ℕ, zero, suc, _+_, _-_, _*_, _^_, _≤_, _<_}
-use native.Mathlib.Nat.{le-refl, add-zero}
+use native.Mathlib.Nat.{le-refl}
 use native.Mathlib.Omega.{arith}
 use native.Mathlib.Decide.{decLe}
 use mathlib.Core.Bool.{Bool, true, false}
@@ -25,9 +26,10 @@ use Rattle.pciv_bytes.proofs.LittleEndianLaws.{length-le, get-past, get-at}
 use Rattle.pciv_bytes.proofs.WriteLaws.{sets-over}
 use Rattle.pciv_format.specs.Layout.{maxSlots, inOverflow, primaryByte, overflowCount, overflowPart}
 use Rattle.pciv_format.proofs.PartsLaws.{primaryByte-overflow, primaryByte-inline}
-use Rattle.pciv_build.specs.Entries.{slotsFrom, entriesFrom, EntriesLeft}
+use Rattle.pciv_format.proofs.LayoutLaws.{length-overflowPart}
+use Rattle.pciv_build.specs.Entries.{slotsFrom, EntriesLeft}
 use Rattle.pciv_build.specs.Slots.{isFull, fullSlots, blankEntry, blankEntries, HoldsPrimary}
-use Rattle.pciv_build.proofs.EntriesLaws.{slotsFrom-is, length-entriesFrom, count-slotsFrom, entries-more, entries-gap, entries-done}
+use Rattle.pciv_build.proofs.EntriesLaws.{slotsFrom-is, count-slotsFrom, entries-start, entries-more, entries-gap, entries-done}
 use Rattle.pciv_build.proofs.SlotsLaws.{length-blankEntry, length-blankEntries}
 
 -- ---- the first of some positions
@@ -123,33 +125,34 @@ pub record Filling (n : ℕ) (v : ℕ → ℕ) (d₀ : List ℕ) (i : ℕ) (d : 
   pub left : EntriesLeft n v d₀ (40 + n) i d at
   pub stand : (j : ℕ) → j < length (slotsFrom n v i) → get 8 d (at + 12 * j) ≡ getD (slotsFrom n v i) j 0
 
-pub fill-start : (n : ℕ) (v : ℕ → ℕ) (d₀ d : List ℕ) → n ≤ maxSlots → HoldsPrimary n v d₀
-    → 40 + n + 12 * overflowCount n v ≤ length d₀ → d ≡ sets d₀ (40 + n) (blankEntries (fullSlots d₀ 0 n))
-    → Filling n v d₀ 0 d (40 + n)
-fill-start n v d₀ d few holds room put =
-    let xs : List ℕ = slotsFrom n v 0 in
-    let is : d ≡ sets d₀ (40 + n) (blankEntries xs) = put ∙ rw (same-slots n v d₀ holds) in
-    let long : length d ≡ length d₀ = ap length is ∙ length-sets d₀ (40 + n) (blankEntries xs) in
-    let count : length xs ≡ overflowCount n v = count-slotsFrom n v in
-    let short : length (blankEntries xs) ≤ length (entriesFrom n v 0) =
-    omega (arith, length-blankEntries xs, length-entriesFrom n v 0) in
-    record {
-      left = record {
-        inside = omega arith;
-        size = long;
-        low = le-refl (40 + n);
-        count = refl;
-        room = omega arith;
-        rest = rw is (sym (sets-over (blankEntries xs) (entriesFrom n v 0) d₀ (40 + n) short));
-      };
-      stand = λ j h. rw is (blanks-read xs d₀ (40 + n) (omega arith) j h (slot-small j h));
-    }
-  where
-    slot-small : (j : ℕ) → j < length (slotsFrom n v 0) → getD (slotsFrom n v 0) j 0 < 256 ^ 8
-    slot-small j h =
-        let e = slotsFrom-is n v 0 in
-        let at = positions-at (λ (j : ℕ). inOverflow (v j)) 0 (n - 0) j (rw e at h) in
-        rw e (omega (arith, at .high))
+module _ (n : ℕ) (v : ℕ → ℕ) (d₀ d : List ℕ) (holds : HoldsPrimary n v d₀) (room : 40 + n + 12 * overflowCount n v ≤ length d₀)
+    (put : d ≡ sets d₀ (40 + n) (blankEntries (fullSlots d₀ 0 n))) where
+  put-is : d ≡ sets d₀ (40 + n) (blankEntries (slotsFrom n v 0))
+  put-is = put ∙ rw (same-slots n v d₀ holds)
+
+  slot-small : n ≤ maxSlots → (j : ℕ) → j < length (slotsFrom n v 0) → getD (slotsFrom n v 0) j 0 < 256 ^ 8
+  slot-small few j h =
+      let e = slotsFrom-is n v 0 in
+      let at = positions-at (λ (j : ℕ). inOverflow (v j)) 0 (n - 0) j (rw e at h) in
+      rw e (omega (arith, at .high))
+
+  pub fill-start : n ≤ maxSlots → Filling n v d 0 d (40 + n)
+  fill-start few =
+      let xs : List ℕ = slotsFrom n v 0 in
+      let long : length d ≡ length d₀ = ap length put-is ∙ length-sets d₀ (40 + n) (blankEntries xs) in
+      let count : length xs ≡ overflowCount n v = count-slotsFrom n v in
+      record {
+        left = entries-start n v d (40 + n) (omega arith);
+        stand = λ j h. rw put-is (blanks-read xs d₀ (40 + n) (omega arith) j h (slot-small few j h));
+      }
+
+  -- the entries that were written before do not count
+  pub fill-over : sets d (40 + n) (overflowPart n v) ≡ sets d₀ (40 + n) (overflowPart n v)
+  fill-over =
+      let xs : List ℕ = slotsFrom n v 0 in
+      rw put-is
+      (sets-over (blankEntries xs) (overflowPart n v) d₀ (40 + n)
+      (omega (arith, length-blankEntries xs, count-slotsFrom n v, length-overflowPart n v)))
 
 -- the slot s is the next in overflow
 pub record Next (n : ℕ) (v : ℕ → ℕ) (i : ℕ) (d : List ℕ) (at s : ℕ) : Type 0 where

@@ -6,11 +6,11 @@
 -- Axioms: none.
 use mathlib.Core.Path.{_≡_, refl, sym, ap, _∙_}
 use Prim.Native.Nat.{ℕ, zero, suc, _+_, _-_, _*_, _/_, _%_, _^_, _≤_, _<_}
-use native.Mathlib.Nat.{add-zero, zero-add, mul-one, mul-assoc, pow-suc, div-one, div-div-eq-div-mul, mul-comm, lt-of-lt-of-le}
+use native.Mathlib.Nat.{add-zero, zero-add, mul-assoc, pow-suc, div-one, div-div-eq-div-mul, mul-comm, lt-of-lt-of-le}
 use native.Mathlib.Omega.{arith}
 use mathlib.Core.Bool.{Bool, true, false}
 use mathlib.Core.List.{List, [], _∷_}
-use lib.Count.{trailingZeros, under}
+use lib.Count.{trailingZeros}
 use lib.Dec.{lit<}
 use lib.Pow.{shl-exact, pow-mono}
 use Rattle.pciv_bytes.specs.Ranges.{flag, positions, keepIf}

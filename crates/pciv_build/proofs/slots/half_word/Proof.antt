@@ -40,8 +40,7 @@ loop-again : tie.Need-loop-again Inv-loop μ-loop
 loop-again c =
     let d = c .before .before in
     let a = d .before .args in
-    let there : 40 + a .from + d .loop .i ≡ 40 + (a .from + d .loop .i) = omega arith in
-    (
+    let there : 40 + a .from + d .loop .i ≡ 40 + (a .from + d .loop .i) = omega arith in (
       omega arith,
       rw (there, boolByte-flag (eqb (byteAt (a .file .now) (40 + (a .from + d .loop .i))) 255), d .loop .inv .1)
           (word-more (isFull (a .file .now)) (a .from) (d .loop .i) (omega arith)),

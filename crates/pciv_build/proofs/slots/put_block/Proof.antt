@@ -83,8 +83,7 @@ loop-again c =
     let a = entry (d .before) .args in
     let b = next-bit d in
     let left : a .from + a .count - l .slot - (trailingZeros 64 (l .bits) + 1)
-        ≡ a .from + a .count - (l .slot + trailingZeros 64 (l .bits) + 1) = omega arith in
-    (
+    ≡ a .from + a .count - (l .slot + trailingZeros 64 (l .bits) + 1) = omega arith in (
       omega (arith, l .inv .0),
       omega (arith, b .inside),
       rw left at (b .rest),

@@ -1,6 +1,6 @@
 -- Proves slots::put_slots. Invariant: the entries of the slots from i on are left. Falls: n - i.
 use mathlib.Core.Path.{_≡_, sym, ap, _∙_}
-use Prim.Native.Nat.{ℕ, _+_, _-_, _*_, _≤_, _<_}
+use Prim.Native.Nat.{ℕ, _+_, _-_, _*_, _≤_}
 use native.Mathlib.Nat.{sub-zero}
 use native.Mathlib.Omega.{arith}
 use mathlib.Core.List.{List, _++_}
@@ -88,8 +88,7 @@ loop-again-2 : tie.Need-loop-again-2 Inv-loop μ-loop
 loop-again-2 c =
     let l = c .before .before .before .before in
     let a = entry l .args in
-    let i = l .loop .i in
-    (
+    let i = l .loop .i in (
       omega arith,
       blanks-skip (l .loop .inv .1) _
           (split l 64 (omega arith)
