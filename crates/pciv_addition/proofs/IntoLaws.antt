@@ -4,7 +4,7 @@
 --   mapInto-cong, mapBuffer-cong    the distances of the n slots alone count
 --   holds-primary          the primary bytes stand in a buffer where they were written
 -- Axioms: none.
-use mathlib.Core.Path.{_≡_, sym, ap, _∙_}
+use mathlib.Core.Path.{_≡_, ap, _∙_}
 use Prim.Native.Nat.{ℕ, _+_, _≤_, _<_}
 use native.Mathlib.Nat.{zero-add}
 use native.Mathlib.Omega.{arith}
@@ -13,7 +13,7 @@ use lib.ListN.{length}
 use lib.Seq.{sets}
 use lib.Dec.{ltb}
 use borrow.Author.Tests.{le-ltb, ltb-false}
-use Rattle.pciv_bytes.specs.Ranges.{firstBelow, table}
+use Rattle.pciv_bytes.specs.Ranges.{firstBelow}
 use Rattle.pciv_bytes.specs.Counts.{byteAt}
 use Rattle.pciv_bytes.proofs.RangesLaws.{firstBelow-all, firstBelow-cong, getD-table}
 use Rattle.pciv_bytes.proofs.WriteLaws.{sets-at}
@@ -23,7 +23,8 @@ use Rattle.pciv_format.specs.Write.{fileInto, mapInto, fileBuffer}
 use Rattle.pciv_format.specs.declared.Summary.{Summary}
 use Rattle.pciv_format.proofs.RefusalsLaws.{refuseFirst-none, refuseFirst-some}
 use Rattle.pciv_format.proofs.LayoutLaws.{length-primary, file-cong, summary-cong}
-use Rattle.pciv_addition.specs.Addition.{Fits, HoldsPrimary}
+use Rattle.pciv_build.specs.Slots.{HoldsPrimary}
+use Rattle.pciv_addition.specs.Addition.{Fits}
 
 module _ (n : ℕ) (v : ℕ → ℕ) where
   pub map-large : (room place : ℕ) → place ≡ firstBelow (λ (i : ℕ). ltb maxDistance (v i)) n → place < n
