@@ -34,7 +34,9 @@ fits : (c : tie.Else1) → (let a = c .before .before .before .args in fileLen (
 fits c = omega (arith, c .before .file-len .ensures, c .if1 .left)
 
 file-len-requires : tie.Need-file-len-requires
-file-len-requires c κs = (c .before .pre .0 .checked .header .small, few c)
+file-len-requires c κs =
+    let h = c .before .pre .0 .checked .header in
+    (h .small, omega (arith, h .small, h .few, law c .few))
 
 refused-requires : tie.Need-refused-requires
 refused-requires c κs = search needs
