@@ -1,11 +1,11 @@
 -- Laws of gathering 64 flags in sixteen lanes.
 --   bitAt-get          the bits of a little-endian number are those of its bytes
---   Lanes p i f j      the first j bytes of f are lanes of flags p;  lanes-more  one lane on
+--   Lanes p i f at j   the j bytes of f from `at` on are lanes of flags p;  lanes-kept, -more  one byte of f changed
 --   lanes-gathered     sixteen lanes, the last eight one bit up, are the 64 flags
 --   gathered-word      transposed, they are the word of the flags
 -- Axioms: none.
 use mathlib.Core.Path.{_≡_, refl, sym, ap, _∙_}
-use Prim.Native.Nat.{ℕ, zero, suc, _+_, _-_, _*_, _/_, _%_, _^_, _≤_, _<_, max}
+use Prim.Native.Nat.{ℕ, zero, suc, _+_, _-_, _*_, _/_, _%_, _^_, _≤_, _<_}
 use native.Mathlib.Nat.{zero-add, add-zero}
 use native.Mathlib.Omega.{arith}
 use native.Mathlib.Decide.{decLe}
@@ -26,22 +26,23 @@ use Rattle.pciv_flags.specs.Flags.{spread, transposed, Gathered}
 
 -- ---- the bits of a little-endian number
 
-module _ (b : List ℕ) (bytes : (k : ℕ) → k < length b → getD b k 0 < 256) where
-  pub bitAt-get : (w at k j : ℕ) → at + w ≤ length b → k < w → j < 8
+-- of bytes from lo up to hi
+module _ (b : List ℕ) (lo hi : ℕ) (bytes : (k : ℕ) → lo ≤ k → k < hi → getD b k 0 < 256) (inside : hi ≤ length b) where
+  pub bitAt-get : (w at k j : ℕ) → lo ≤ at → at + w ≤ hi → k < w → j < 8
       → bitAt (get w b at) (8 * k + j) ≡ bitAt (byteAt b (at + k)) j
-  bitAt-get zero at k j room h l = absurd (omega arith)
-  bitAt-get (suc w) at zero j room h l =
+  bitAt-get zero at k j low room h l = absurd (omega arith)
+  bitAt-get (suc w) at zero j low room h l =
       let e : 8 * 0 + j ≡ j = omega arith in
-      let byte : (getD b at 0 + 256 * get w b (suc at)) % 2 ^ 8 ≡ getD b at 0 = omega (arith, bytes at (omega arith)) in
+      let byte : (getD b at 0 + 256 * get w b (suc at)) % 2 ^ 8 ≡ getD b at 0 = omega (arith, bytes at low (omega arith)) in
       rw (e, add-zero at, get-suc w b at (omega arith))
       (sym (bitAt-mod (getD b at 0 + 256 * get w b (suc at)) 8 j l) ∙ rw byte)
-  bitAt-get (suc w) at (suc k) j room h l =
+  bitAt-get (suc w) at (suc k) j low room h l =
       let e : 8 * suc k + j ≡ 8 + (8 * k + j) = omega arith in
       let f : at + suc k ≡ suc at + k = omega arith in
-      let rest : (getD b at 0 + 256 * get w b (suc at)) / 2 ^ 8 ≡ get w b (suc at) = omega (arith, bytes at (omega arith)) in
+      let rest : (getD b at 0 + 256 * get w b (suc at)) / 2 ^ 8 ≡ get w b (suc at) = omega (arith, bytes at low (omega arith)) in
       rw (e, f, get-suc w b at (omega arith))
       (sym (bitAt-shr (getD b at 0 + 256 * get w b (suc at)) 8 (8 * k + j))
-      ∙ rw rest (bitAt-get w (suc at) k j (omega arith) (omega arith) l))
+      ∙ rw rest (bitAt-get w (suc at) k j (omega arith) (omega arith) (omega arith) l))
 
 -- ---- places
 
@@ -77,70 +78,85 @@ spread-bit p i b h =
 
 -- ---- the lanes
 
-abbrev pub Lanes : (ℕ → Bool) → ℕ → List ℕ → ℕ → Type 0
-Lanes p i f j = (k : ℕ) → k < j → byteAt f k ≡ spread p (i + k)
+abbrev pub Lanes : (ℕ → Bool) → ℕ → List ℕ → ℕ → ℕ → Type 0
+Lanes p i f at j = (k : ℕ) → k < j → byteAt f (at + k) ≡ spread p (i + k)
 
-module _ (p : ℕ → Bool) (i : ℕ) (f : List ℕ) where
-  pub lanes-more : (j v : ℕ) → Lanes p i f j → j < length f → v ≡ spread p (i + j) → Lanes p i (set f j v) (j + 1)
-  lanes-more j v so inside e k h =
+module _ (p : ℕ → Bool) (i : ℕ) (f : List ℕ) (at : ℕ) where
+  -- a byte changed beside them
+  pub lanes-kept : (j q v : ℕ) → Lanes p i f at j → ((k : ℕ) → k < j → at + k ≡ q → ⊥) → Lanes p i (set f q v) at j
+  lanes-kept j q v so beside k h = getD-set-other f q (at + k) v 0 (beside k h) ∙ so k h
+
+  pub lanes-more : (j q v : ℕ) → Lanes p i f at j → q ≡ at + j → q < length f → v ≡ spread p (i + j)
+      → Lanes p i (set f q v) at (j + 1)
+  lanes-more j q v so place inside e k h =
       elim (decLe j k) [
-        | yes d ↦ (let z : k ≡ j = omega arith in rw z (getD-set-same f j v 0 inside ∙ e))
-        | no d ↦ getD-set-other f j k v 0 (λ q. omega arith) ∙ so k (omega arith)
+        | yes d ↦ (let z : k ≡ j = omega arith in
+            let y : at + k ≡ q = omega arith in
+            ap (byteAt (set f q v)) y ∙ getD-set-same f q v 0 inside ∙ e ∙ ap (λ (t : ℕ). spread p (i + t)) (sym z))
+        | no d ↦ getD-set-other f q (at + k) v 0 (λ z. omega arith) ∙ so k (omega arith)
       ]
 
-  module _ (all : Lanes p i f 16) (long : length f ≡ 16) where
-    bytes : (k : ℕ) → k < length f → getD f k 0 < 256
-    bytes k h = rw (all k (omega arith)) (spread-lt p (i + k))
+  module _ (all : Lanes p i f at 16) (long : at + 16 ≤ length f) where
+    bytes : (k : ℕ) → at ≤ k → k < at + 16 → getD f k 0 < 256
+    bytes k low high =
+        let e : k ≡ at + (k - at) = omega arith in
+        rw e (rw (all (k - at) (omega arith)) (spread-lt p (i + (k - at))))
 
-    -- eight lanes from `at` on
-    half-bit : (at j : ℕ) → at ≤ 8 → j < 64 → bitAt (get 8 f at) j ≡ flag (eqb (j % 2) 0 && p (i + at + transposed j))
-    half-bit at j low h =
+    -- eight lanes from lane q on
+    half-bit : (from q j : ℕ) → from ≡ at + q → q ≤ 8 → j < 64
+        → bitAt (get 8 f from) j ≡ flag (eqb (j % 2) 0 && p (i + q + transposed j))
+    half-bit from q j start low h =
         let place : j ≡ 8 * (j / 8) + j % 8 = omega arith in
         let odd : j % 8 % 2 ≡ j % 2 = omega arith in
-        let slot : i + (at + j / 8) + 8 * (j % 8) ≡ i + at + transposed j = omega arith in
-        ap (bitAt (get 8 f at)) place
-        ∙ bitAt-get f bytes 8 at (j / 8) (j % 8) (omega arith) (omega arith) (omega arith)
-        ∙ ap (λ (x : ℕ). bitAt x (j % 8)) (all (at + j / 8) (omega arith))
-        ∙ spread-bit p (i + (at + j / 8)) (j % 8) (omega arith)
+        let byte : from + j / 8 ≡ at + (q + j / 8) = omega arith in
+        let slot : i + (q + j / 8) + 8 * (j % 8) ≡ i + q + transposed j = omega arith in
+        ap (bitAt (get 8 f from)) place
+        ∙ bitAt-get f at (at + 16) bytes long 8 from (j / 8) (j % 8) (omega arith) (omega arith) (omega arith) (omega arith)
+        ∙ ap (λ (x : ℕ). bitAt x (j % 8)) (ap (byteAt f) byte ∙ all (q + j / 8) (omega arith))
+        ∙ spread-bit p (i + (q + j / 8)) (j % 8) (omega arith)
         ∙ rw (odd, slot)
 
-    half-even : (at j : ℕ) → at ≤ 8 → j < 64 → j % 2 ≡ 0 → bitAt (get 8 f at) j ≡ flag (p (i + at + transposed j))
-    half-even at j low h even = half-bit at j low h ∙ rw even
+    half-even : (from q j : ℕ) → from ≡ at + q → q ≤ 8 → j < 64 → j % 2 ≡ 0
+        → bitAt (get 8 f from) j ≡ flag (p (i + q + transposed j))
+    half-even from q j start low h even = half-bit from q j start low h ∙ rw even
 
-    half-odd : (at j : ℕ) → at ≤ 8 → j < 64 → j % 2 ≡ 1 → bitAt (get 8 f at) j ≡ 0
-    half-odd at j low h odd = half-bit at j low h ∙ rw odd
+    half-odd : (from q j : ℕ) → from ≡ at + q → q ≤ 8 → j < 64 → j % 2 ≡ 1 → bitAt (get 8 f from) j ≡ 0
+    half-odd from q j start low h odd = half-bit from q j start low h ∙ rw odd
 
     -- the last eight lanes, one bit up
-    up-even : (j : ℕ) → j < 64 → j % 2 ≡ 0 → bitAt (get 8 f 8 * 2 ^ 1 % 2 ^ 64) j ≡ 0
-    up-even zero h even = bitAt-mod (get 8 f 8 * 2 ^ 1) 64 0 h ∙ bitAt-lowest (get 8 f 8 * 2 ^ 1) ∙ omega arith
+    abbrev up : ℕ
+    up = get 8 f (at + 8) * 2 ^ 1
+
+    up-even : (j : ℕ) → j < 64 → j % 2 ≡ 0 → bitAt (up % 2 ^ 64) j ≡ 0
+    up-even zero h even = bitAt-mod up 64 0 h ∙ bitAt-lowest up ∙ omega arith
     up-even (suc j) h even =
         let e : suc j ≡ 1 + j = omega arith in
-        bitAt-mod (get 8 f 8 * 2 ^ 1) 64 (suc j) h
-        ∙ ap (bitAt (get 8 f 8 * 2 ^ 1)) e
-        ∙ bitAt-shl (get 8 f 8) 1 j
-        ∙ half-odd 8 j (omega arith) (omega arith) (omega arith)
+        bitAt-mod up 64 (suc j) h
+        ∙ ap (bitAt up) e
+        ∙ bitAt-shl (get 8 f (at + 8)) 1 j
+        ∙ half-odd (at + 8) 8 j refl (omega arith) (omega arith) (omega arith)
 
-    up-odd : (j : ℕ) → j < 64 → j % 2 ≡ 1 → bitAt (get 8 f 8 * 2 ^ 1 % 2 ^ 64) j ≡ flag (p (i + transposed j))
+    up-odd : (j : ℕ) → j < 64 → j % 2 ≡ 1 → bitAt (up % 2 ^ 64) j ≡ flag (p (i + transposed j))
     up-odd zero h odd = absurd (omega arith)
     up-odd (suc j) h odd =
         let e : suc j ≡ 1 + j = omega arith in
         let slot : i + 8 + transposed j ≡ i + transposed (suc j) = omega (arith, transposed-next j odd) in
-        bitAt-mod (get 8 f 8 * 2 ^ 1) 64 (suc j) h
-        ∙ ap (bitAt (get 8 f 8 * 2 ^ 1)) e
-        ∙ bitAt-shl (get 8 f 8) 1 j
-        ∙ half-even 8 j (omega arith) (omega arith) (omega arith)
+        bitAt-mod up 64 (suc j) h
+        ∙ ap (bitAt up) e
+        ∙ bitAt-shl (get 8 f (at + 8)) 1 j
+        ∙ half-even (at + 8) 8 j refl (omega arith) (omega arith) (omega arith)
         ∙ ap (λ (z : ℕ). flag (p z)) slot
 
-    pub lanes-gathered : Gathered p i (bitOr (get 8 f 0) (get 8 f 8 * 2 ^ 1 % 2 ^ 64))
+    pub lanes-gathered : Gathered p i (bitOr (get 8 f at) (get 8 f (at + 8) * 2 ^ 1 % 2 ^ 64))
     lanes-gathered j h =
-        bitAt-or (get 8 f 0) (get 8 f 8 * 2 ^ 1 % 2 ^ 64) j
+        bitAt-or (get 8 f at) (up % 2 ^ 64) j
         ∙ elim (decLe 1 (j % 2)) [
           | yes d ↦ (let odd : j % 2 ≡ 1 = omega arith in
-              omega (arith, half-odd 0 j (omega arith) h odd, up-odd j h odd))
+              omega (arith, half-odd at 0 j (omega arith) (omega arith) h odd, up-odd j h odd))
           | no d ↦ (let even : j % 2 ≡ 0 = omega arith in
               let slot : flag (p (i + 0 + transposed j)) ≡ flag (p (i + transposed j)) =
               ap flag (ap p (let z : i + 0 + transposed j ≡ i + transposed j = omega arith in z)) in
-              omega (arith, half-even 0 j (omega arith) h even, up-even j h even))
+              omega (arith, half-even at 0 j (omega arith) (omega arith) h even, up-even j h even))
         ]
 
 -- ---- in order

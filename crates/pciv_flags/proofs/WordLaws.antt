@@ -2,23 +2,23 @@
 --   word-flip          the word of flags, or of their negations
 --   word-alike         the word of flags that are all alike
 --   word-end, -more    a word made from its highest bit down
---   rest n p w         the words of the mask of p from word w on;  -start, -more, -two, -end  writing them
 --   maskWord-is        word w of a mask, by the slots that it has
+--   left-two, -mask    two words of a table written, and the last of a mask
 -- Axioms: none.
 use mathlib.Core.Path.{_≡_, refl, sym, ap, _∙_}
 use Prim.Native.Nat.{ℕ, zero, suc, _+_, _-_, _*_, _/_, _^_, _≤_, _<_, min}
-use native.Mathlib.Nat.{pow-suc, zero-add, sub-zero}
+use native.Mathlib.Nat.{pow-suc}
 use native.Mathlib.Omega.{arith}
 use mathlib.Core.Bool.{Bool, true, false, not, cond}
 use mathlib.Core.List.{List}
-use lib.ListN.{length, set}
+use lib.ListN.{set}
 use lib.Seq.{sets}
 use lib.Pow.{ones-split, ones-lt, high, pow-mono}
-use Rattle.pciv_bytes.specs.Ranges.{flag, table}
-use Rattle.pciv_bytes.proofs.WriteLaws.{sets-table-start, sets-table-more, sets-table-end}
+use Rattle.pciv_bytes.specs.Ranges.{flag}
 use Rattle.pciv_format.specs.Mask.{maskLen, word, maskOf}
 use Rattle.pciv_words.proofs.BitLaws.{word-lt}
-use Rattle.pciv_words.proofs.MaskLaws.{maskWord}
+use Rattle.pciv_words.proofs.MaskLaws.{maskWord, maskOf-table}
+use Rattle.pciv_words.proofs.FrontLaws.{Left, left-more, left-end}
 use Rattle.pciv_flags.specs.Flags.{flipIf}
 
 -- c set bits, as the highest bits of 64 moved down
@@ -81,23 +81,14 @@ word-fits p i c h =
 pub maskWord-is : (n : ℕ) (p : ℕ → Bool) (w i c : ℕ) → i ≡ 64 * w → c ≡ min 64 (n - 64 * w) → word p i c ≡ maskWord n p w
 maskWord-is n p w i c e f = rw (e, f)
 
-module _ (n : ℕ) (p : ℕ → Bool) where
-  abbrev pub rest : ℕ → List ℕ
-  rest w = table (maskWord n p) w (maskLen n - w)
+-- two words written
+pub left-two : {f : ℕ → ℕ} {n : ℕ} {out₀ out : List ℕ} {i : ℕ} → Left f n out₀ out i → (x y : ℕ) → i + 2 ≤ n → x ≡ f i
+    → y ≡ f (i + 1) → Left f n out₀ (set (set out i x) (i + 1) y) (i + 2)
+left-two {f} {n} {out₀} {out} {i} left x y h e g =
+    let two : i + 1 + 1 ≡ i + 2 = omega arith in
+    rw two at (left-more (left-more left x (omega arith) e) y (omega arith) g)
 
-  pub rest-start : (d : List ℕ) → sets d 0 (maskOf n p) ≡ sets d 0 (rest 0)
-  unfolding maskOf
-  rest-start d = rw (sub-zero (maskLen n))
-
-  pub rest-more : (w x : ℕ) (d : List ℕ) → w < maskLen n → x ≡ maskWord n p w
-      → sets d w (rest w) ≡ sets (set d w x) (w + 1) (rest (w + 1))
-  rest-more w x d h e = rw e (rw (zero-add w, zero-add (w + 1)) at (sets-table-more (maskWord n p) 0 (maskLen n) w d h))
-
-  pub rest-two : (w x y : ℕ) (d : List ℕ) → w + 2 ≤ maskLen n → x ≡ maskWord n p w → y ≡ maskWord n p (w + 1)
-      → sets d w (rest w) ≡ sets (set (set d w x) (w + 1) y) (w + 2) (rest (w + 2))
-  rest-two w x y d h e f =
-      let two : w + 1 + 1 ≡ w + 2 = omega arith in
-      rest-more w x d (omega arith) e ∙ (rw two at (rest-more (w + 1) y (set d w x) (omega arith) f))
-
-  pub rest-end : (w : ℕ) (d : List ℕ) → maskLen n ≤ w → sets d w (rest w) ≡ d
-  rest-end w d h = rw zero-add at (sets-table-end (maskWord n p) 0 (maskLen n) w d h)
+-- the last word written
+pub left-mask : (n : ℕ) (p : ℕ → Bool) (out₀ out : List ℕ) (w : ℕ) → Left (maskWord n p) (maskLen n) out₀ out w → maskLen n ≤ w
+    → out ≡ sets out₀ 0 (maskOf n p)
+left-mask n p out₀ out w left h = left-end left h ∙ ap (sets out₀ 0) (sym (maskOf-table n p))

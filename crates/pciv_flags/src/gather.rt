@@ -1,4 +1,4 @@
-// The flags of 64 bytes in one word, set where a byte is below a limit. The bytes are taken in sixteen lanes, which the
+// The flags of 64 bytes in a word, set where a byte is below a limit. The bytes are taken in sixteen lanes, which the
 // compiler does at once; so the flags stand in the order of the lanes and not in that of the bytes.
 ghost use mathlib.Core.Path.{_≡_};
 ghost use Prim.Native.Nat.{_+_, _*_, _≤_, _<_};
@@ -26,16 +26,27 @@ fn lane(a: &[u8], i: usize, limit: u8) -> u8
         + weigh(a[i + 48], limit, 64)
 }
 
-// The flags of the 64 bytes from i on: the lanes from 8 on fill the bits that the others leave.
-pub fn gather(a: &[u8], i: usize, limit: u8) -> u64
-    requires { ⌜ i + 64 ≤ length (now a) ⌝ }
-    ensures { λ r. ⌜ Gathered (isBelow (now (a .entry)) limit) i r ⌝ }
+// Two words.
+pub struct Pair {
+    pub first: u64,
+    pub second: u64,
+}
+
+// The flags of the 128 bytes from i on, in two words: of the sixteen lanes of each, the last eight fill the bits that the
+// others leave. (For one word alone the compiler would unroll the loop, and not take the lanes at once.)
+pub fn gather(a: &[u8], i: usize, limit: u8) -> Pair
+    requires { ⌜ i + 128 ≤ length (now a) ⌝ }
+    ensures { λ r. ⌜ Gathered (isBelow (now (a .entry)) limit) i (r .first) × Gathered (isBelow (now (a .entry)) limit) (i + 64) (r .second) ⌝ }
 {
-    let mut lanes: [u8; 16] = [0; 16];
+    let mut lanes: [u8; 32] = [0; 32];
     let mut j: usize = 0;
     while j < 16 {
         lanes[j] = lane(a, i + j, limit);
+        lanes[16 + j] = lane(a, i + 64 + j, limit);
         j += 1;
     }
-    (get64(&lanes, 0) | (get64(&lanes, 8) << 1)) as u64
+    Pair {
+        first: (get64(&lanes, 0) | (get64(&lanes, 8) << 1)) as u64,
+        second: (get64(&lanes, 16) | (get64(&lanes, 24) << 1)) as u64,
+    }
 }

@@ -10,6 +10,7 @@ ghost use lib.ListN.{length};
 ghost use lib.Seq.{sets};
 ghost use Rattle.pciv_format.specs.Mask.{maskLen, word, maskOf};
 ghost use Rattle.pciv_flags.specs.Flags.{passesAt};
+use crate::gather::Pair;
 use crate::gather::gather;
 use crate::transpose::transpose;
 
@@ -41,12 +42,16 @@ fn least(x: usize, y: usize) -> usize
     if x < y { x } else { y }
 }
 
-// The word of the 64 bytes from i on.
-fn full_word(a: &[u8], i: usize, limit: u8, negated: bool) -> u64
-    requires { ⌜ i + 64 ≤ length (now a) ⌝ }
-    ensures { λ r. ⌜ r ≡ word (passesAt (now (a .entry)) limit negated) i 64 ⌝ }
+// The two words of the 128 bytes from i on.
+fn full_words(a: &[u8], i: usize, limit: u8, negated: bool) -> Pair
+    requires { ⌜ i + 128 ≤ length (now a) ⌝ }
+    ensures { λ r. ⌜ (r .first ≡ word (passesAt (now (a .entry)) limit negated) i 64) × (r .second ≡ word (passesAt (now (a .entry)) limit negated) (i + 64) 64) ⌝ }
 {
-    flip_if(negated, ALL_BITS, transpose(gather(a, i, limit)))
+    let gathered = gather(a, i, limit);
+    Pair {
+        first: flip_if(negated, ALL_BITS, transpose(gathered.first)),
+        second: flip_if(negated, ALL_BITS, transpose(gathered.second)),
+    }
 }
 
 // The word of the bytes from `from` up to `to`, at most 64, one bit a turn.
@@ -63,8 +68,7 @@ fn part_word(a: &[u8], from: usize, to: usize, limit: u8, negated: bool) -> u64
     flip_if(negated, ones(to - from), x)
 }
 
-// The mask of the bytes that pass, to the front of out. Two words a turn, both made before either is written: so the
-// compiler makes them at once.
+// The mask of the bytes that pass, to the front of out: two words a turn, while there are.
 pub fn flags_into(a: &[u8], limit: u8, negated: bool, out: &mut [u64])
     requires { ⌜ maskLen (length (now a)) ≤ length (now out) ⌝ }
     ensures { λ _. ⌜ now (out .exit) ≡ sets (now (out .entry)) 0 (maskOf (length (now (a .entry))) (passesAt (now (a .entry)) limit negated)) ⌝ }
@@ -73,10 +77,9 @@ pub fn flags_into(a: &[u8], limit: u8, negated: bool, out: &mut [u64])
     let full = n / 64;
     let mut w = 0;
     while 2 <= full - w {
-        let x = full_word(a, 64 * w, limit, negated);
-        let y = full_word(a, 64 * w + 64, limit, negated);
-        out[w] = x;
-        out[w + 1] = y;
+        let pair = full_words(a, 64 * w, limit, negated);
+        out[w] = pair.first;
+        out[w + 1] = pair.second;
         w += 2;
     }
     while 64 * w < n {

@@ -21,7 +21,7 @@ use borrow.Author.Tests.{lt-ltb, le-ltb, le-leb, lt-leb, eq-eqb, ne-eqb}
 use Rattle.pciv_bytes.specs.Ranges.{flag}
 use Rattle.pciv_bytes.proofs.WriteLaws.{sets-at, set-sets, sets-over}
 use Rattle.pciv_format.specs.Mask.{maskLen, maskOf}
-use Rattle.pciv_format.specs.Parts.{Parts, lowestSlot, valueOf, SoundParts}
+use Rattle.pciv_format.specs.Parts.{Parts, lowestSlot, SoundParts}
 use Rattle.pciv_format.proofs.PartsLaws.{entry-good, valueOf-slot}
 use Rattle.pciv_map.proofs.EntryLaws.{gap-inline, gap-value}
 use Rattle.pciv_words.proofs.MaskLaws.{length-maskOf, maskOf-cong}

@@ -4,7 +4,7 @@
 --   maskOf-flip        a mask with one slot flipped is a mask
 -- Axioms: none.
 use mathlib.Core.Path.{_≡_, refl, sym, ap, ap₂, _∙_}
-use Prim.Native.Nat.{ℕ, suc, _+_, _-_, _*_, _/_, _%_, _^_, _≤_, _<_}
+use Prim.Native.Nat.{ℕ, _+_, _-_, _*_, _/_, _%_, _^_, _<_}
 use native.Mathlib.Nat.{zero-mul, one-mul, mod-self}
 use native.Mathlib.Omega.{arith}
 use native.Mathlib.Decide.{decLe}
@@ -16,7 +16,7 @@ use lib.Bits.{bitXor, differ, xor-lt}
 use lib.Dec.{eqb, lit<}
 use borrow.Author.Tests.{eq-eqb, ne-eqb}
 use Rattle.pciv_bytes.specs.Ranges.{flag}
-use Rattle.pciv_format.specs.Mask.{maskLen, bitAt, maskHas, maskOf}
+use Rattle.pciv_format.specs.Mask.{bitAt, maskHas, maskOf}
 use Rattle.pciv_format.proofs.PartsLaws.{and-false}
 use Rattle.pciv_words.specs.Words.{Words}
 use Rattle.pciv_words.proofs.BitLaws.{eqb-flag, bitAt-lowest, bitAt-shl, bitAt-mod, bitAt-xor, bitAt-past, bitAt-none}

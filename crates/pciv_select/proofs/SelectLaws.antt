@@ -15,7 +15,6 @@ use lib.Seq.{sets}
 use lib.Dec.{ltb, leb}
 use borrow.Author.Tests.{lt-ltb, le-ltb, le-leb, lt-leb}
 use Rattle.pciv_bytes.specs.LittleEndian.{Bytes}
-use Rattle.pciv_bytes.specs.Counts.{byteAt}
 use Rattle.pciv_bytes.proofs.WriteLaws.{sets-front}
 use Rattle.pciv_format.specs.Layout.{at}
 use Rattle.pciv_format.specs.Refusals.{Outcome, done, refused, refuse, written}

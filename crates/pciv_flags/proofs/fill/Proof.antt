@@ -1,13 +1,14 @@
--- Proves pciv_flags::fill. Invariant: writing all words from the start is writing the rest from word w on.
+-- Proves pciv_flags::fill. Invariant: the words from w on are left to write.
 -- Falls: n / 64 - w.
-use mathlib.Core.Path.{_≡_, refl, sym, _∙_}
+use mathlib.Core.Path.{refl, _∙_}
 use Prim.Native.Nat.{ℕ, _+_, _-_, _*_, _/_, _%_, _≤_}
 use native.Mathlib.Omega.{arith}
 use mathlib.Core.Bool.{Bool}
-use lib.ListN.{length, set, length-set}
-use lib.Seq.{sets}
-use Rattle.pciv_format.specs.Mask.{maskOf}
-use Rattle.pciv_flags.proofs.WordLaws.{word-alike, maskWord-is, rest, rest-start, rest-more, rest-end}
+use lib.ListN.{set}
+use Rattle.pciv_format.specs.Mask.{maskLen}
+use Rattle.pciv_words.proofs.MaskLaws.{maskWord}
+use Rattle.pciv_words.proofs.FrontLaws.{Left, left-start, left-more}
+use Rattle.pciv_flags.proofs.WordLaws.{word-alike, maskWord-is, left-mask}
 use borrow.Author.Needs.{needs}
 use Rattle.pciv_flags.proofs.fill.Statement.{statement}
 use Rattle.pciv_flags.proofs.fill.Tie as tie
@@ -16,8 +17,7 @@ abbrev alike : Bool → ℕ → Bool
 alike bit i = bit
 
 abbrev Inv-loop : tie.InvT-loop
-Inv-loop n bit out₀ full tail x w₀ out w =
-    (w ≤ n / 64) × (length out ≡ length out₀) × (sets out₀ 0 (maskOf n (alike bit)) ≡ sets out w (rest n (alike bit) w))
+Inv-loop n bit out₀ full tail x w₀ out w = (w ≤ n / 64) × Left (maskWord n (alike bit)) (maskLen n) out₀ out w
 
 abbrev μ-loop : tie.MeasureT-loop
 μ-loop n bit out₀ full tail x w₀ out w = n / 64 - w
@@ -26,7 +26,9 @@ uniform-requires : tie.Need-uniform-requires Inv-loop μ-loop
 uniform-requires c κs = search needs
 
 loop-holds : tie.Need-loop-holds Inv-loop μ-loop
-loop-holds c = let a = c .before .before .args in (search needs, refl, rest-start (a .n) (alike (a .bit)) (a .out .now))
+loop-holds c =
+    let a = c .before .before .args in
+    (search needs, left-start (maskWord (a .n) (alike (a .bit))) (maskLen (a .n)) (a .out .now))
 
 mul-out : tie.Need-mul-out Inv-loop μ-loop
 mul-out c = search needs
@@ -45,13 +47,9 @@ loop-again c =
     let d = c .before in
     let u = d .before in
     let a = u .before .before .args in
-    let p = alike (a .bit) in
     let w = d .loop .w in
-    let e = u .uniform .ensures ∙ word-alike (a .bit) (64 * w) 64 ∙ maskWord-is (a .n) p w (64 * w) 64 refl (omega arith) in (
-      search needs,
-      simp length-set (d .loop .inv .1),
-      d .loop .inv .2 ∙ rest-more (a .n) p w (u .uniform .result) (d .loop .out) (omega arith) e,
-    )
+    let e = u .uniform .ensures ∙ word-alike (a .bit) (64 * w) 64 ∙ maskWord-is (a .n) (alike (a .bit)) w (64 * w) 64 refl (omega arith) in
+    (search needs, left-more (d .loop .inv .1) (u .uniform .result) (omega arith) e)
 
 uniform-requires-2 : tie.Need-uniform-requires-2 Inv-loop μ-loop
 uniform-requires-2 c κs = search needs
@@ -74,10 +72,7 @@ returns c =
     let x = c .uniform2 .result in
     let e = c .uniform2 .ensures ∙ word-alike (a .bit) (64 * w) (a .n % 64)
     ∙ maskWord-is (a .n) p w (64 * w) (a .n % 64) refl (omega arith) in
-    sym
-    (d .loop .inv .2
-    ∙ rest-more (a .n) p w x (d .loop .out) (omega arith) e
-    ∙ rest-end (a .n) p (w + 1) (set (d .loop .out) w x) (omega arith))
+    left-mask (a .n) p (a .out .now) (set (d .loop .out) w x) (w + 1) (left-more (d .loop .inv .1) x (omega arith) e) (omega arith)
 
 same-length-2 : tie.Need-same-length-2 Inv-loop μ-loop
 same-length-2 c = search needs
@@ -86,7 +81,7 @@ returns-2 : tie.Need-returns-2 Inv-loop μ-loop
 returns-2 c =
     let d = c .before .before in
     let a = d .before .before .before .args in
-    sym (d .loop .inv .2 ∙ rest-end (a .n) (alike (a .bit)) (d .loop .w) (d .loop .out) (omega arith))
+    left-mask (a .n) (alike (a .bit)) (a .out .now) (d .loop .out) (d .loop .w) (d .loop .inv .1) (omega arith)
 
 pub fill-spec : {M : Type 1} → statement M
 fill-spec =

@@ -1,22 +1,24 @@
--- Proves pciv_flags::flags_into. Invariant of both loops: writing all words from the start is writing the rest from word
--- w on. Fall: full - w, and the words that are left.
-use mathlib.Core.Path.{_≡_, refl, sym, _∙_}
+-- Proves pciv_flags::flags_into. Invariant of both loops: the words from w on are left to write. Fall: full - w, and how many
+-- are left.
+use mathlib.Core.Path.{_≡_, refl, _∙_}
 use Prim.Native.Nat.{ℕ, _+_, _-_, _*_, _/_, _≤_}
 use native.Mathlib.Omega.{arith}
 use mathlib.Core.Bool.{Bool}
+use mathlib.Core.List.{List}
 use lib.ListN.{length, length-set}
-use lib.Seq.{sets}
-use Rattle.pciv_format.specs.Mask.{maskLen, maskOf}
+use Rattle.pciv_format.specs.Mask.{maskLen}
+use Rattle.pciv_words.proofs.MaskLaws.{maskWord}
+use Rattle.pciv_words.proofs.FrontLaws.{Left, left-start, left-more}
 use Rattle.pciv_flags.specs.Flags.{passesAt}
-use Rattle.pciv_flags.proofs.WordLaws.{maskWord-is, rest, rest-start, rest-more, rest-two, rest-end}
+use Rattle.pciv_flags.proofs.WordLaws.{maskWord-is, left-two, left-mask}
 use borrow.Author.Needs.{needs}
 use Rattle.pciv_flags.proofs.flags_into.Statement.{statement}
 use Rattle.pciv_flags.proofs.flags_into.Tie as tie
 
 abbrev Inv-loop : tie.InvT-loop
 Inv-loop a limit negated out₀ n full w₀ out w =
-    (w ≤ full) × (n ≡ length a) × (full ≡ length a / 64) × (length out ≡ length out₀)
-    × (sets out₀ 0 (maskOf (length a) (passesAt a limit negated)) ≡ sets out w (rest (length a) (passesAt a limit negated) w))
+    (w ≤ full) × (n ≡ length a) × (full ≡ length a / 64)
+    × Left (maskWord (length a) (passesAt a limit negated)) (maskLen (length a)) out₀ out w
 
 abbrev μ-loop : tie.MeasureT-loop
 μ-loop a limit negated out₀ n full w₀ out w = full - w
@@ -24,7 +26,9 @@ abbrev μ-loop : tie.MeasureT-loop
 abbrev Inv-loop2 : tie.InvT-loop2
 Inv-loop2 a limit negated out₀ n full w₀ out w =
     (w ≤ maskLen (length a)) × (n ≡ length a) × (length out ≡ length out₀)
-    × (sets out₀ w₀ (rest (length a) (passesAt a limit negated) w₀) ≡ sets out w (rest (length a) (passesAt a limit negated) w))
+    × ((start : List ℕ)
+    → Left (maskWord (length a) (passesAt a limit negated)) (maskLen (length a)) start out₀ w₀
+    → Left (maskWord (length a) (passesAt a limit negated)) (maskLen (length a)) start out w)
 
 abbrev μ-loop2 : tie.MeasureT-loop2
 μ-loop2 a limit negated out₀ n full w₀ out w = maskLen (length a) - w
@@ -32,26 +36,17 @@ abbrev μ-loop2 : tie.MeasureT-loop2
 loop-holds : tie.Need-loop-holds Inv-loop μ-loop Inv-loop2 μ-loop2
 loop-holds c =
     let a = c .before .before .args in
-    let start = rest-start (length (a .a .now)) (passesAt (a .a .now) (a .limit) (a .negated)) (a .out .now) in
-    (search needs, search needs, search needs, refl, start)
+    let n : ℕ = length (a .a .now) in
+    (search needs, search needs, search needs, left-start (maskWord n (passesAt (a .a .now) (a .limit) (a .negated))) (maskLen n) (a .out .now))
 
 sub-loop : tie.Need-sub-loop Inv-loop μ-loop Inv-loop2 μ-loop2
 sub-loop c = search needs
 
-mul-full-word : tie.Need-mul-full-word Inv-loop μ-loop Inv-loop2 μ-loop2
-mul-full-word c = search needs
+mul-full-words : tie.Need-mul-full-words Inv-loop μ-loop Inv-loop2 μ-loop2
+mul-full-words c = search needs
 
-full-word-requires : tie.Need-full-word-requires Inv-loop μ-loop Inv-loop2 μ-loop2
-full-word-requires c κs = search needs
-
-mul-full-word-2 : tie.Need-mul-full-word-2 Inv-loop μ-loop Inv-loop2 μ-loop2
-mul-full-word-2 c = search needs
-
-add-full-word : tie.Need-add-full-word Inv-loop μ-loop Inv-loop2 μ-loop2
-add-full-word c = search needs
-
-full-word-requires-2 : tie.Need-full-word-requires-2 Inv-loop μ-loop Inv-loop2 μ-loop2
-full-word-requires-2 c κs = search needs
+full-words-requires : tie.Need-full-words-requires Inv-loop μ-loop Inv-loop2 μ-loop2
+full-words-requires c κs = search needs
 
 mul-out : tie.Need-mul-out Inv-loop μ-loop Inv-loop2 μ-loop2
 mul-out c = search needs
@@ -76,24 +71,22 @@ loop-less c = search needs
 
 loop-again : tie.Need-loop-again Inv-loop μ-loop Inv-loop2 μ-loop2
 loop-again c =
-    let d = c .before .before .before in
+    let d = c .before .before in
     let a = d .before .before .before .args in
     let n : ℕ = length (a .a .now) in
     let p : ℕ → Bool = passesAt (a .a .now) (a .limit) (a .negated) in
     let w : ℕ = d .loop .w in
-    let x = c .before .full-word in
-    let y = c .full-word2 in
-    let e = x .ensures ∙ maskWord-is n p w (64 * w) 64 refl (omega arith) in
-    let f = y .ensures ∙ maskWord-is n p (w + 1) (64 * w + 64) 64 (omega arith) (omega arith) in (
+    let pair = c .full-words in
+    let e = pair .ensures .0 ∙ maskWord-is n p w (64 * w) 64 refl (omega arith) in
+    let f = pair .ensures .1 ∙ maskWord-is n p (w + 1) (64 * w + 64) 64 (omega arith) (omega arith) in (
       search needs,
       search needs,
       search needs,
-      simp length-set (d .loop .inv .3),
-      d .loop .inv .4 ∙ rest-two n p w (x .result) (y .result) (d .loop .out) (omega arith) e f,
+      left-two (d .loop .inv .3) (pair .result .first) (pair .result .second) (omega arith) e f,
     )
 
 loop2-holds : tie.Need-loop2-holds Inv-loop μ-loop Inv-loop2 μ-loop2
-loop2-holds c = (omega arith, search needs, refl, refl)
+loop2-holds c = (omega arith, search needs, refl, λ start left. left)
 
 mul-loop2 : tie.Need-mul-loop2 Inv-loop μ-loop Inv-loop2 μ-loop2
 mul-loop2 c = search needs
@@ -138,7 +131,7 @@ loop2-again c =
       omega arith,
       search needs,
       simp length-set (d .loop2 .inv .2),
-      d .loop2 .inv .3 ∙ rest-more n p w (x .result) (d .loop2 .out) (omega arith) e,
+      λ start left. left-more (d .loop2 .inv .3 start left) (x .result) (omega arith) e,
     )
 
 same-length : tie.Need-same-length Inv-loop μ-loop Inv-loop2 μ-loop2
@@ -150,7 +143,7 @@ returns c =
     let l = d .before .before in
     let a = l .before .before .before .args in
     let p : ℕ → Bool = passesAt (a .a .now) (a .limit) (a .negated) in
-    sym (l .loop .inv .4 ∙ d .loop2 .inv .3 ∙ rest-end (length (a .a .now)) p (d .loop2 .w) (d .loop2 .out) (omega arith))
+    left-mask (length (a .a .now)) p (a .out .now) (d .loop2 .out) (d .loop2 .w) (d .loop2 .inv .3 (a .out .now) (l .loop .inv .3)) (omega arith)
 
 pub flags-into-spec : {M : Type 1} → statement M
 flags-into-spec =
@@ -162,11 +155,8 @@ flags-into-spec =
     μ-loop2
     loop-holds
     sub-loop
-    mul-full-word
-    full-word-requires
-    mul-full-word-2
-    add-full-word
-    full-word-requires-2
+    mul-full-words
+    full-words-requires
     mul-out
     slice-write-out
     add-out

@@ -1,6 +1,5 @@
 -- Proves pciv_select::select.
 use mathlib.Core.Path.{_≡_, sym, ap, _∙_}
-use Prim.Native.Nat.{_+_, _≤_, _<_}
 use native.Mathlib.Omega.{arith}
 use lib.ListN.{length}
 use Rattle.pciv_format.specs.Refusals.{done, refused, numberAnswer}

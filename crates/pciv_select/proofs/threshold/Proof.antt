@@ -1,5 +1,5 @@
 -- Proves pciv_select::threshold.
-use mathlib.Core.Path.{_≡_, _∙_}
+use mathlib.Core.Path.{_∙_}
 use Prim.Native.Nat.{ℕ}
 use mathlib.Core.Bool.{Bool}
 use Rattle.pciv_format.specs.Mask.{holds, thresholdOutcome, thresholdWords}

@@ -1,9 +1,6 @@
 -- Proves gather::weigh.
-use Prim.Native.Nat.{_*_}
 use native.Mathlib.Omega.{arith}
-use mathlib.Core.Path.{_≡_}
 use borrow.Author.Tests.{lt-ltb, le-ltb}
-use borrow.Author.Needs.{needs}
 use Rattle.pciv_flags.proofs.gather.weigh.Statement.{statement}
 use Rattle.pciv_flags.proofs.gather.weigh.Tie as tie
 
