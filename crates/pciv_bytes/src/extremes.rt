@@ -30,7 +30,7 @@ struct BlockSums {
 }
 
 // The bytes that are taken at once: at most 255, so that a byte can hold their count.
-const BLOCK: usize = 240;
+const BLOCK: usize = 192;
 
 // How many pass the test from `from` up to `to`.
 fn count_block(test: Test, a: &[u8], b: &[u8], from: usize, to: usize) -> BlockCounts

@@ -10,7 +10,7 @@ use mathlib.Core.Path.{_≡_, refl, sym, ap, ap₂, _∙_}
 use Prim.Native.Nat.{ℕ, _+_, _-_, _^_, _≤_, _<_, min, max}
 use native.Mathlib.Omega.{arith}
 use native.Mathlib.Decide.{decLe}
-use mathlib.Core.Bool.{false, _||_, xor}
+use mathlib.Core.Bool.{Bool, true, false, _&&_, _||_, xor}
 use mathlib.Core.List.{List}
 use lib.ListN.{length}
 use lib.Dec.{leb}
@@ -42,32 +42,35 @@ use Rattle.pciv_compare.proofs.ExactLaws.{quotient-nearest}
 
 -- ---- at one slot
 
-flag-xor : (t x y : ℕ) → flag (xor (leb t x) (leb t y)) + flag (leb t (min x y)) ≡ flag (leb t (max x y))
-unfolding xor
-flag-xor t x y =
+-- the smaller of two is at t or above where both are, and the larger one where either is
+leb-min : (t x y : ℕ) → leb t (min x y) ≡ (leb t x && leb t y)
+leb-min t x y =
     elim (decLe t x) [
       | yes d ↦
           elim (decLe t y) [
-            | yes e ↦ rw (le-leb t x d, le-leb t y e, le-leb t (min x y) (omega arith), le-leb t (max x y) (omega arith))
-            | no e ↦ rw (le-leb t x d, lt-leb t y (omega arith), lt-leb t (min x y) (omega arith), le-leb t (max x y) (omega arith))
+            | yes e ↦ rw (le-leb t x d, le-leb t y e) (le-leb t (min x y) (omega arith))
+            | no e ↦ rw (le-leb t x d, lt-leb t y (omega arith)) (lt-leb t (min x y) (omega arith))
           ]
+      | no d ↦ rw (lt-leb t x (omega arith)) (lt-leb t (min x y) (omega arith))
+    ]
+
+leb-max : (t x y : ℕ) → leb t (max x y) ≡ (leb t x || leb t y)
+leb-max t x y =
+    elim (decLe t x) [
+      | yes d ↦ rw (le-leb t x d) (le-leb t (max x y) (omega arith))
       | no d ↦
           elim (decLe t y) [
-            | yes e ↦ rw (lt-leb t x (omega arith), le-leb t y e, lt-leb t (min x y) (omega arith), le-leb t (max x y) (omega arith))
-            | no e ↦ rw (lt-leb t x (omega arith), lt-leb t y (omega arith), lt-leb t (min x y) (omega arith), lt-leb t (max x y) (omega arith))
+            | yes e ↦ rw (lt-leb t x (omega arith), le-leb t y e) (le-leb t (max x y) (omega arith))
+            | no e ↦ rw (lt-leb t x (omega arith), lt-leb t y (omega arith)) (lt-leb t (max x y) (omega arith))
           ]
     ]
 
-flag-or : (t x y : ℕ) → flag (leb t x || leb t y) ≡ flag (leb t (max x y))
-flag-or t x y =
-    elim (decLe t x) [
-      | yes d ↦ rw (le-leb t x d, le-leb t (max x y) (omega arith))
-      | no d ↦
-          elim (decLe t y) [
-            | yes e ↦ rw (lt-leb t x (omega arith), le-leb t y e, le-leb t (max x y) (omega arith))
-            | no e ↦ rw (lt-leb t x (omega arith), lt-leb t y (omega arith), lt-leb t (max x y) (omega arith))
-          ]
-    ]
+flag-xor : (p q : Bool) → flag (xor p q) + flag (p && q) ≡ flag (p || q)
+unfolding xor
+flag-xor true true = refl
+flag-xor true false = refl
+flag-xor false true = refl
+flag-xor false false = refl
 
 -- ---- over all slots of two checked maps
 
@@ -80,7 +83,8 @@ module _ (a b : List ℕ) (n ka kb : ℕ) (pair : CheckedPair a b n ka kb) where
 
   -- f of the two distances at every slot of the lists
   over-lists : (f : ℕ → ℕ → ℕ)
-      → sumFrom (λ (i : ℕ). f (at (listOf a) i) (at (listOf b) i)) 0 (length (listOf a)) ≡ sumFrom (λ (i : ℕ). f (u i) (v i)) 0 n
+      → sumFrom (λ (i : ℕ). f (at (listOf a) i) (at (listOf b) i)) 0 (length (listOf a))
+      ≡ sumFrom (λ (i : ℕ). f (u i) (v i)) 0 n
   over-lists f =
       let ha = pair .first .header in
       let hb = pair .second .header in
@@ -105,7 +109,7 @@ module _ (a b : List ℕ) (n ka kb : ℕ) (pair : CheckedPair a b n ka kb) where
   numerator-is (From t) =
       rw (over-lists (λ (x y : ℕ). flag (xor (leb t x) (leb t y))))
       (sumFrom-plus (λ (i : ℕ). flag (xor (leb t (u i)) (leb t (v i)))) (λ (i : ℕ). flag (leb t (min (u i) (v i))))
-      (λ (i : ℕ). flag (leb t (max (u i) (v i)))) 0 n (λ i h₁ h₂. flag-xor t (u i) (v i)))
+      (λ (i : ℕ). flag (leb t (max (u i) (v i)))) 0 n (λ i h₁ h₂. rw (leb-min t (u i) (v i), leb-max t (u i) (v i)) (flag-xor (leb t (u i)) (leb t (v i)))))
 
   -- those at t or above in either map
   either-is : (t : ℕ) → countAt _||_ t (listOf a) (listOf b) ≡ over max (weightOf (From t)) u v n
@@ -113,10 +117,11 @@ module _ (a b : List ℕ) (n ka kb : ℕ) (pair : CheckedPair a b n ka kb) where
   either-is t =
       over-lists (λ (x y : ℕ). flag (leb t x || leb t y))
       ∙ sumFrom-cong (λ (i : ℕ). flag (leb t (u i) || leb t (v i))) (λ (i : ℕ). flag (leb t (max (u i) (v i)))) 0 n
-      (λ i h₁ h₂. flag-or t (u i) (v i))
+      (λ i h₁ h₂. ap flag (sym (leb-max t (u i) (v i))))
 
   module _ (r : Extremes) where
-    denominator-is : (w : Weight) → Weighed (weightOf w) u v n r → denominatorOf w (listOf a) (listOf b) ≡ divisorOf w (r .least) (r .most)
+    denominator-is : (w : Weight) → Weighed (weightOf w) u v n r
+        → denominatorOf w (listOf a) (listOf b) ≡ divisorOf w (r .least) (r .most)
     denominator-is Distance x = totals ∙ sym (weighed-both (weightOf Distance) u v n r x)
     denominator-is (From t) x = either-is t ∙ sym (x .most)
 

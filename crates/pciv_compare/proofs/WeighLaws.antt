@@ -110,7 +110,8 @@ combined-shared A B s j h r at = at .distance ∙ ap (λ (x : ℕ). min x (value
 module _ (A B : Parts) (n : A .n ≡ B .n) (sa : SoundParts A) (sb : SoundParts B)
     (bytesA : (i : ℕ) → A .byte i < 256) (bytesB : (i : ℕ) → B .byte i < 256) where
   module _ (w : Weight) (late : Late w) where
-    shared-all : over min (beyondOf w) (valueOf A) (valueOf B) (A .n) ≡ sumFrom (λ (j : ℕ). beyondOf w (sharedAt A B j)) 0 (A .k)
+    shared-all : over min (beyondOf w) (valueOf A) (valueOf B) (A .n)
+        ≡ sumFrom (λ (j : ℕ). beyondOf w (sharedAt A B j)) 0 (A .k)
     shared-all =
         entries-alone A sa bytesA (λ (i x : ℕ). beyondOf w (min x (valueOf B i)))
         (λ i x h. late (min x (valueOf B i)) (omega arith))
@@ -151,17 +152,20 @@ module _ (A B : Parts) (n : A .n ≡ B .n) (sa : SoundParts A) (sb : SoundParts 
       record {
         least =
             w .least
-            ∙ over-same min (A .n) f g (A .byte) (B .byte) (valueOf A) (valueOf B) (λ i h. ap f (cut-at i h .0) ∙ each (min (valueOf A i) (valueOf B i)));
+            ∙ over-same min (A .n) f g (A .byte) (B .byte) (valueOf A) (valueOf B)
+            (λ i h. ap f (cut-at i h .0) ∙ each (min (valueOf A i) (valueOf B i)));
         most =
             w .most
-            ∙ over-same max (A .n) f g (A .byte) (B .byte) (valueOf A) (valueOf B) (λ i h. ap f (cut-at i h .1) ∙ each (max (valueOf A i) (valueOf B i)));
+            ∙ over-same max (A .n) f g (A .byte) (B .byte) (valueOf A) (valueOf B)
+            (λ i h. ap f (cut-at i h .1) ∙ each (max (valueOf A i) (valueOf B i)));
       }
 
   -- ---- of distances
 
   pub weighed-distance : (r s : Extremes) → Weighed (termOf Byte) (A .byte) (B .byte) (A .n) r
       → Weighed (beyondOf Distance) (valueOf A) (valueOf B) (A .n) s
-      → Weighed (weightOf Distance) (valueOf A) (valueOf B) (A .n) (record { least = r .least + s .least; most = r .most + s .most })
+      → Weighed (weightOf Distance) (valueOf A) (valueOf B) (A .n)
+      (record { least = r .least + s .least; most = r .most + s .most })
   weighed-distance r s wr ws =
       let cut : ℕ → ℕ = λ x. min x 255 in
       let w = weighed-cut (termOf Byte) cut (λ x. refl) r wr in
@@ -206,6 +210,7 @@ module _ (a b : List ℕ) (n ka kb : ℕ) (ca : CheckedMap a n ka) (cb : Checked
       let same : (m : ℕ → ℕ → ℕ)
       → over m (termOf of) (byteAt (primaryOf a n)) (byteAt (primaryOf b n)) n
       ≡ over m (termOf of) (fileParts a n ka .byte) (fileParts b n kb .byte) n =
-      λ m. over-same m n (termOf of) (termOf of) (byteAt (primaryOf a n)) (byteAt (primaryOf b n)) (fileParts a n ka .byte) (fileParts b n kb .byte)
+      λ m. over-same m n (termOf of) (termOf of) (byteAt (primaryOf a n)) (byteAt (primaryOf b n)) (fileParts a n ka .byte)
+      (fileParts b n kb .byte)
       (λ i h. ap₂ (λ (x y : ℕ). termOf of (m x y)) (primary-at a n ka ca i h) (primary-at b n kb cb i h)) in
       record { least = (rw whole at (e .least)) ∙ same min; most = (rw whole at (e .most)) ∙ same max }

@@ -1,7 +1,7 @@
 // What the smaller and the larger distances of two checked maps weigh, over all slots: a distance weighs itself, or
 // 1 where it is t or more. The primary bytes are weighed in one pass, and where a distance in overflow weighs more than
-// its byte, the overflow entries tell how much. The entries of the first map lead to the slots that are in overflow in
-// both maps; the larger distances weigh what the smaller ones do not.
+// its byte, the overflow entries tell how much: those of the first map lead to the slots that are in overflow in both,
+// and so to the smaller distances; the larger ones weigh what is left of the entries of both maps.
 ghost use mathlib.Core.Path.{_≡_};
 ghost use Prim.Native.Nat.{ℕ};
 ghost use Rattle.pciv_bytes.specs.Ranges.{sumFrom};
