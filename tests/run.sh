@@ -48,6 +48,21 @@ rust_tests() {
     cargo test --release --offline --workspace && echo 'all passed'
 }
 
+# The examples: C and Rust print the same and write the same file.
+examples() {
+    gcc -std=c11 -D_DEFAULT_SOURCE -pedantic -Wall -Wextra -Werror -O2 -Iinclude -o "$work/stroke" \
+        examples/stroke.c "$PCIV_LIB_DIR/libpciv_c.a" &&
+        cargo build --release --offline -p pciv --examples &&
+        map=examples/portrait-160x120.pciv &&
+        "$work/stroke" $map 100 "$work/c.pciv" >"$work/c.txt" &&
+        "$programs/examples/stroke" $map 100 "$work/rust.pciv" >"$work/rust.txt" &&
+        cmp "$work/c.txt" "$work/rust.txt" && cmp "$work/c.pciv" "$work/rust.pciv" &&
+        while IFS= read -r line; do
+            grep -qxF -e "$line" README.md || { echo "README.md does not have: $line"; return 1; }
+        done <"$work/c.txt" &&
+        echo 'C and Rust agree, and README.md has their output'
+}
+
 report_program() {
     "$programs/make_report_inputs" "$work/report" && sh tests/report.sh "$report" "$work/report"
 }
@@ -58,6 +73,7 @@ part header-c++ header_cpp
 part c_smoke c_smoke
 part cargo-build build
 part cargo-test rust_tests
+part examples examples
 part compare "$programs/compare"
 part report report_program
 

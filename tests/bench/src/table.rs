@@ -3,6 +3,9 @@
 use crate::timing::{best, keep, race};
 use std::hint::black_box;
 
+/// Bytes.
+const PAGE_OFFSET: usize = 2_112;
+
 /// A table of calls on maps with this many slots.
 pub struct Table {
     n: usize,
@@ -36,11 +39,13 @@ impl Table {
     ) {
         assert!(library().is_ok() && reference().is_ok(), "{call} refused");
         let from = vec![1u8; traffic / 2];
-        let mut to = from.clone();
+        // Not at the same place in a page as what it is copied from: that would slow a copy down.
+        let mut to = vec![1u8; traffic / 2 + PAGE_OFFSET];
+        let to = &mut to[PAGE_OFFSET..];
         let [library, reference, memcpy] = best(&race([
             &mut || keep(library()),
             &mut || keep(reference()),
-            &mut || black_box(&mut to[..]).copy_from_slice(black_box(&from)),
+            &mut || black_box(&mut *to).copy_from_slice(black_box(&from)),
         ]));
         print_row([
             call,
