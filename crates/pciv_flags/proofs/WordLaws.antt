@@ -1,7 +1,8 @@
 -- Laws of words of flags: negated, all alike, and made one bit a turn; and of a mask written one or two words a turn.
+--   ones-shr           the word of c set bits
 --   word-flip          the word of flags, or of their negations
 --   word-alike         the word of flags that are all alike
---   word-end, -more    a word made from its highest bit down
+--   word-end, -more, -fits    a word made from its highest bit down
 --   maskWord-is        word w of a mask, by the slots that it has
 --   left-two, -mask    two words of a table written, and the last of a mask
 -- Axioms: none.

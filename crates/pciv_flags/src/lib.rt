@@ -36,6 +36,7 @@ fn flip_if(negated: bool, all: u64, x: u64) -> u64
     x
 }
 
+// The smaller of two numbers.
 fn least(x: usize, y: usize) -> usize
     ensures { λ r. ⌜ r ≡ min x y ⌝ }
 {

@@ -5,7 +5,7 @@
 --   flip-front                     a slot flipped in a mask at the front of a list
 --   mask-over, -again              a mask written where another of n slots stands, or where it stands already
 -- Axioms: none.
-use mathlib.Core.Path.{_≡_, refl, sym, ap, _∙_}
+use mathlib.Core.Path.{_≡_, refl, sym, ap, ap₂, _∙_}
 use Prim.Native.Nat.{ℕ, suc, _+_, _/_, _%_, _^_, _*_, _≤_, _<_}
 use native.Mathlib.Nat.{zero-add}
 use native.Mathlib.Numerals.{add-one}
@@ -129,15 +129,16 @@ module _ (P : Parts) (s : SoundParts P) (bytes : (i : ℕ) → P .byte i < 256) 
 
 -- ---- at the front of a list
 
-pub flip-front : (d : List ℕ) (n : ℕ) (p : ℕ → Bool) (s : ℕ) (b : Bool) → maskLen n ≤ length d → s < n
-    → set (sets d 0 (maskOf n p)) (s / 64) (flipped (sets d 0 (maskOf n p)) s b) ≡ sets d 0 (maskOf n (flipAt p s b))
-flip-front d n p s b long h =
+pub flip-front : (d : List ℕ) (n : ℕ) (p : ℕ → Bool) (s : ℕ) (b : Bool) (x : ℕ) → x ≡ flag b → maskLen n ≤ length d → s < n
+    → set (sets d 0 (maskOf n p)) (s / 64) (bitXor (getD (sets d 0 (maskOf n p)) (s / 64) 0) (x * 2 ^ (s % 64) % 2 ^ 64))
+    ≡ sets d 0 (maskOf n (flipAt p s b))
+flip-front d n p s b x e long h =
     let ws : List ℕ = maskOf n p in
     let room : 0 + length ws ≤ length d = rw (zero-add (length ws), length-maskOf n p) long in
     let inside : s / 64 < length ws = rw (length-maskOf n p) (omega arith) in
     let old : getD (sets d 0 ws) (s / 64) 0 ≡ getD ws (s / 64) 0 =
     rw (zero-add (s / 64)) at (sets-at d ws 0 (s / 64) 0 room inside) in
-    ap (λ (x : ℕ). set (sets d 0 ws) (s / 64) (bitXor x (flag b * 2 ^ (s % 64) % 2 ^ 64))) old
+    ap₂ (λ (y z : ℕ). set (sets d 0 ws) (s / 64) (bitXor y (z * 2 ^ (s % 64) % 2 ^ 64))) old e
     ∙ (rw (zero-add (s / 64)) at (set-sets d ws 0 (s / 64) (flipped ws s b) room inside))
     ∙ ap (sets d 0) (maskOf-flip n p s b h)
 

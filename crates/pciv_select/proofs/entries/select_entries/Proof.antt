@@ -113,13 +113,9 @@ loop-again c =
       omega arith,
       simp length-set (d .loop .inv .1),
       d .loop .inv .2,
-      rw (
-        d .loop .inv .3,
-        c .before .before .entry-slot .ensures,
-        c .before .entry-distance .ensures,
-        boolByte-flag (leb (a .limit) (P .distance j)),
-      )
-          (flip-front _ (a .n) (settled P (a .limit) (a .negated) j) (P .slot j) (leb (a .limit) (P .distance j)) (d .loop .inv .2) (inside d here)
+      rw (d .loop .inv .3, c .before .before .entry-slot .ensures, c .before .entry-distance .ensures)
+          (flip-front _ (a .n) (settled P (a .limit) (a .negated) j) (P .slot j) (leb (a .limit) (P .distance j)) _
+          (boolByte-flag (leb (a .limit) (P .distance j))) (d .loop .inv .2) (inside d here)
           ∙ ap (sets _ 0) (settled-more P (entry w .pre .0 .parts) (bytes w) (a .limit) (entry w .pre .1 .0) (a .negated) j here)),
     )
 
