@@ -176,7 +176,7 @@ fn write_next(out: &mut [u8], primary: &[u8], k: usize, job: Job, e: Entry) -> J
         return then;
     }
     finish(out, n, k);
-    let answer = job.answer;
+    let answer = then.answer;
     ended(k, answer)
 }
 

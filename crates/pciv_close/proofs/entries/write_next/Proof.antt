@@ -5,6 +5,7 @@ use native.Mathlib.Omega.{arith}
 use lib.ListN.{length}
 use Rattle.pciv_bytes.specs.LittleEndian.{Bytes}
 use Rattle.pciv_close.specs.Entries.{Call, endedJob, Writing, Doing, Next}
+use Rattle.pciv_close.specs.declared.entries.Job.{Job}
 use Rattle.pciv_close.specs.declared.entries.Pass.the-variants.{Write}
 use Rattle.pciv_close.proofs.EntriesLaws.{writing-few, writing-fits, writing-room, writing-more, writing-end}
 use Rattle.pciv_close.proofs.StepLaws.{writing-of, step-ended, step-onward}
@@ -94,7 +95,8 @@ returns-2 c =
     let s = p .before .before in
     let a = s .args in
     λ call nx d.
-    step-ended (a .primary .now) call (a .k) (a .job) (a .e) nx (a .job .answer) (c .ended .result) _ (c .ended .ensures)
+    step-ended (a .primary .now) call (a .k) (a .job) (a .e) nx (a .job .answer) (c .ended .result) _
+    (c .ended .ensures ∙ ap (λ (j : Job). endedJob (a .k) (j .answer)) (o .onward .ensures))
     (writing-end (a .primary .now) call (a .k) (a .job) (a .e) nx (bytes p) (a .out .now) (writing s call nx d)
     (y .put-entry .last .0) (y .put-entry .ensures .1) (rw (o .onward .ensures) at (l .if1 .left)) _ (f .finish .ensures))
 
