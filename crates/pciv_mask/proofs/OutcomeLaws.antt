@@ -8,7 +8,6 @@ use lib.Seq.{sets}
 use lib.Dec.{ltb}
 use borrow.Author.Tests.{lt-ltb, le-ltb, ltb-false}
 use Rattle.pciv_bytes.specs.Ranges.{flag, table, sumFrom}
-use Rattle.pciv_bytes.proofs.RangesLaws.{true-false}
 use Rattle.pciv_bytes.proofs.WriteLaws.{sets-front}
 use Rattle.pciv_format.specs.Layout.{maxSlots}
 use Rattle.pciv_format.specs.Refusals.{Outcome, done, refused, refuse, refuseIf, written}
@@ -18,7 +17,7 @@ use Rattle.pciv_format.specs.declared.MaskOp.{MaskOp}
 use Rattle.pciv_format.specs.declared.Refusal.{Refusal}
 use Rattle.pciv_format.proofs.RefusalsLaws.{refuseIf-done}
 use Rattle.pciv_words.specs.Words.{Words, IsMask}
-use Rattle.pciv_words.proofs.MaskLaws.{badMask-good, good-badMask, length-maskOf}
+use Rattle.pciv_words.proofs.MaskLaws.{or-false, badMask-good, good-badMask, length-maskOf}
 use Rattle.pciv_mask.specs.Combine.{opAt, flipAt}
 use Rattle.pciv_mask.proofs.CombineLaws.{combined-words, flipped-words, setBits-all}
 
@@ -66,10 +65,6 @@ not-not true = refl
 not-not false = refl
 
 -- ---- and, or, exclusive or
-
-or-false : (a b : Bool) → a || b ≡ false → (a ≡ false) × (b ≡ false)
-or-false true b h = absurd (true-false h)
-or-false false b h = (refl, h)
 
 or-not : (a b : Bool) → a || b ≡ not (not a && not b)
 or-not true b = refl

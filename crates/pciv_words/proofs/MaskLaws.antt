@@ -205,7 +205,7 @@ ones-maskHas ws words w =
 
 -- ---- a mask and the test for it
 
-or-false : (a b : Bool) → a || b ≡ false → (a ≡ false) × (b ≡ false)
+pub or-false : (a b : Bool) → a || b ≡ false → (a ≡ false) × (b ≡ false)
 or-false true b e = absurd (true-false e)
 or-false false b e = (refl, e)
 

@@ -1,5 +1,5 @@
 -- Proves flip_words. Invariant: `Left`, what remains to be written. Falls: full - i.
-use Prim.Native.Nat.{_-_, _/_, _%_, _≤_}
+use Prim.Native.Nat.{_-_, _/_, _≤_}
 use mathlib.Core.Path.{_≡_, refl}
 use native.Mathlib.Omega.{arith}
 use borrow.Author.Needs.{needs}
