@@ -4,6 +4,7 @@
 ghost use mathlib.Core.Path.{_≡_};
 ghost use mathlib.Core.Bool.{not};
 ghost use Prim.Native.Nat.{ℕ, _*_, _≤_};
+ghost use lib.Count.{ones};
 ghost use lib.ListN.{length};
 ghost use lib.Seq.{sets};
 ghost use Rattle.pciv_bytes.specs.Ranges.{flag, table, sumFrom};
@@ -147,6 +148,13 @@ pub fn complement(n: usize, words: &[u64], out: &mut [u64]) -> NumberAnswer
     }
 }
 
+// The set bits of a word.
+fn count_word(x: u64) -> usize
+    ensures { λ r. ⌜ (r ≡ ones x) × (r ≤ 64) ⌝ }
+{
+    u64::count_ones(x) as usize
+}
+
 // The set bits of all words.
 fn count_bits(words: &[u64]) -> usize
     requires { ⌜ length (now words) ≤ 16384 ⌝ }
@@ -155,7 +163,7 @@ fn count_bits(words: &[u64]) -> usize
     let mut sum: usize = 0;
     let mut i = 0;
     while i < words.len() {
-        sum += u64::count_ones(words[i]) as usize;
+        sum += count_word(words[i]);
         i += 1;
     }
     sum

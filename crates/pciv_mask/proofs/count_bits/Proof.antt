@@ -1,11 +1,10 @@
--- Proves count_bits. Invariant: `Added`, the bits of i words are counted. Falls: length words - i.
+-- Proves count_bits. Invariant: `Added`, the bits of i words are counted, at most 64 for each. Falls: length words - i.
+use mathlib.Core.Path.{_≡_, _∙_}
 use Prim.Native.Nat.{ℕ, _+_, _-_, _*_, _≤_}
 use native.Mathlib.Nat.{sub-zero}
 use native.Mathlib.Omega.{arith}
-use mathlib.Core.Path.{_≡_}
 use mathlib.Core.List.{List}
-use lib.Count.{ones, ones-le}
-use lib.ListN.{length, getD}
+use lib.ListN.{length}
 use borrow.Author.Needs.{needs}
 use Rattle.pciv_bytes.specs.Ranges.{flag, sumFrom}
 use Rattle.pciv_bytes.proofs.SumLaws.{Added, added-none, added-part, added-all}
@@ -27,27 +26,20 @@ abbrev μ-loop : tie.MeasureT-loop
 
 loop-holds : tie.Need-loop-holds Inv-loop μ-loop
 loop-holds c =
-    let ws = c .args .words .now in
+    let ws = c .before .args .words .now in
     (omega arith, rw (sub-zero (64 * length ws)) at (added-none (bits ws) 0 (64 * length ws) (omega arith)))
 
--- a word has no more than 64 ones
-few : (c : tie.After-shared-slice-known Inv-loop μ-loop)
-    → ones (getD (c .before .before .before .args .words .now) (c .before .before .loop .i) 0) ≤ 64
-few c =
-    let d = c .before .before in
-    ones-le 64 (getD (d .before .args .words .now) (d .loop .i) 0) (c .shared-slice-known .given (d .loop .i) .fits)
+mul-count-word : tie.Need-mul-count-word Inv-loop μ-loop
+mul-count-word c = search needs
 
-mul-sum : tie.Need-mul-sum Inv-loop μ-loop
-mul-sum c = search needs
+shared-slice-read-count-word : tie.Need-shared-slice-read-count-word Inv-loop μ-loop
+shared-slice-read-count-word c = search needs
 
-shared-slice-read-sum : tie.Need-shared-slice-read-sum Inv-loop μ-loop
-shared-slice-read-sum c = search needs
-
-cast-sum : tie.Need-cast-sum Inv-loop μ-loop
-cast-sum c = omega (arith, few c)
+count-word-requires : tie.Need-count-word-requires Inv-loop μ-loop
+count-word-requires c κs = search needs
 
 add-sum : tie.Need-add-sum Inv-loop μ-loop
-add-sum c = omega (arith, few c)
+add-sum c = search needs
 
 add-i : tie.Need-add-i Inv-loop μ-loop
 add-i c = search needs
@@ -57,13 +49,14 @@ loop-less c = search needs
 
 loop-again : tie.Need-loop-again Inv-loop μ-loop
 loop-again c =
-    let d = c .before .before in
+    let d = c .before .before .before in
     let l = d .loop in
-    let ws = d .before .args .words .now in
-    let next : 64 * (l .i + 1) - 64 * l .i ≡ 64 = omega arith in
-    let word = ones-maskHas ws (λ w. c .shared-slice-known .given w .fits) (l .i) in
+    let known = d .before in
+    let ws = known .before .args .words .now in
+    let word = c .count-word .ensures .0 ∙ ones-maskHas ws (λ w. known .shared-slice-known .given w .fits) (l .i) in
+    let width : 64 * (l .i + 1) - 64 * l .i ≡ 64 = omega arith in
     let more = added-part (l .inv .1) (64 * (l .i + 1)) (omega arith) (omega arith) in
-    (omega (arith, few c), rw (next, ← word) at more)
+    (omega arith, rw (width, ← word) at more)
 
 returns : tie.Need-returns Inv-loop μ-loop
 returns c = added-all (c .before .loop .inv .1) (omega arith)
@@ -75,9 +68,9 @@ count-bits-spec =
     Inv-loop
     μ-loop
     loop-holds
-    mul-sum
-    shared-slice-read-sum
-    cast-sum
+    mul-count-word
+    shared-slice-read-count-word
+    count-word-requires
     add-sum
     add-i
     loop-less

@@ -57,7 +57,7 @@ shl-out : tie.Need-shl-out Inv-loop μ-loop
 shl-out c = search needs
 
 sub-out : tie.Need-sub-out Inv-loop μ-loop
-sub-out c = one-bit-pos (c .before .before .before .before .args .n % 64) (omega arith)
+sub-out c = one-bit-pos _ (omega arith)
 
 mul-out-4 : tie.Need-mul-out-4 Inv-loop μ-loop
 mul-out-4 c = search needs
