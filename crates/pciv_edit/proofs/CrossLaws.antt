@@ -2,17 +2,15 @@
 --   sets-swap          writes to disjoint places, in either order
 --   put-in             an entry written after those behind it were moved
 --   crossing           what the editor answers, what the change asks for, and that the steps leave the new file
-use Rattle.pciv_format.proofs.FrontLaws.{Holds}
-use mathlib.Core.Bool.{Bool, true, false}
 use mathlib.Core.Path.{_≡_, refl, sym, ap, ap₂, _∙_}
-use Prim.Native.Nat.{zero, ℕ, suc, _+_, _-_, _*_, _≤_, _<_, max}
-use native.Mathlib.Nat.{zero-add, add-zero}
+use Prim.Native.Nat.{ℕ, suc, _+_, _-_, _*_, _≤_, _<_, max}
+use native.Mathlib.Nat.{add-zero}
 use native.Mathlib.Omega.{arith}
 use native.Mathlib.Decide.{decLe}
 use mathlib.Core.List.{List, [], _∷_, _++_, append-assoc}
 use lib.ListN.{length, getD, take, drop, set, replicate, length-append, length-set, length-drop, length-replicate, take-append-drop}
-use lib.Seq.{sets-eq, length-sets, sets, take-at, drop-at, drop-drop, drop-append-le, length-take-le}
-use lib.Dec.{leb, ltb, eqb}
+use lib.Seq.{sets, take-at, drop-at, drop-drop, drop-append-le, length-take-le}
+use lib.Dec.{ltb, eqb}
 use borrow.Author.Tests.{lt-ltb, le-ltb, eqb-true, eqb-false}
 use Rattle.pciv_bytes.specs.LittleEndian.{le, Bytes}
 use Rattle.pciv_bytes.proofs.LittleEndianLaws.{length-le}
@@ -26,7 +24,7 @@ use Rattle.pciv_format.proofs.EditLaws.{set-behind, set-front, sets-behind, set
 use Rattle.pciv_map.specs.Lookup.{entriesBelow}
 use Rattle.pciv_build.specs.Build.{beginOutcome, indexFrom}
 use Rattle.pciv_build.proofs.BuildLaws.{begin-fits, built}
-use Rattle.pciv_edit.specs.Change.{entryIn, entryOut, entryAt, newCount, putIn, takenOut, changed, EditAt, Changes}
+use Rattle.pciv_edit.specs.Change.{entryAt, newCount, putIn, takenOut, changed, EditAt, Changes}
 use Rattle.pciv_edit.proofs.CaseLaws.{held, holds, new-at, others, file-edited, old-inline, old-overflow, below-count, edit-counted, buffer-done}
 
 -- ---- lists

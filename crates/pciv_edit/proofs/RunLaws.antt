@@ -5,13 +5,12 @@
 --   checked-run        the theorem on runs, of the file at the front of a checked buffer
 --   list-refused, list-fewer-slots, list-fewer-distances, list-short, list-done   what a run in one call answers
 --   refused-run, made-run   what it leaves
-use mathlib.Core.Path.{_≡_, refl, sym, ap, ap₂, _∙_}
+use mathlib.Core.Path.{_≡_, refl, sym, ap, _∙_}
 use Prim.Native.Nat.{ℕ, suc, _+_, _-_, _*_, _≤_, _<_, min}
 use native.Mathlib.Nat.{le-refl, sub-zero}
 use native.Mathlib.Omega.{arith}
-use mathlib.Core.Bool.{not}
-use mathlib.Core.List.{List, [], _∷_, _++_}
-use lib.ListN.{length, getD, drop, set, length-append, length-set}
+use mathlib.Core.List.{List, [], _∷_}
+use lib.ListN.{length, drop, set, length-append, length-set}
 use lib.Seq.{sets}
 use lib.Dec.{ltb, leb}
 use borrow.Author.Tests.{le-ltb, lt-ltb, ne-eqb}
@@ -26,7 +25,6 @@ use Rattle.pciv_format.specs.Edit.{Edit, edited, plainOutcome, editOutcome, rep
 use Rattle.pciv_format.specs.declared.Summary.{Summary}
 use Rattle.pciv_format.specs.declared.Refusal.{Refusal}
 use Rattle.pciv_format.proofs.PartsLaws.{eqb-not}
-use Rattle.pciv_format.proofs.LayoutLaws.{length-file}
 use Rattle.pciv_format.proofs.RefusalsLaws.{refuseIf-done}
 use Rattle.pciv_format.proofs.CheckLaws.{checkWith-done, done-buffer}
 use Rattle.pciv_format.proofs.FileLaws.{file-checked}

@@ -1,6 +1,6 @@
 -- Proves pciv_edit::run::edit_all. Invariant: the buffer holds a checked map of n slots and `count` entries, and all edits
 -- from the start do what the rest does from here. Falls: length slots - i.
-use mathlib.Core.Path.{_≡_, refl, sym, ap, _∙_}
+use mathlib.Core.Path.{_≡_, refl, _∙_}
 use Prim.Native.Nat.{_+_, _-_, _*_, _≤_}
 use native.Mathlib.Omega.{arith}
 use lib.ListN.{length}
