@@ -11,7 +11,14 @@ use pciv_map::entries::entry_distance;
 use pciv_map::entries::entry_slot;
 
 // All slots as the inline ones first; then the slot of each entry that is not below the limit is flipped.
-pub fn select_entries(file: &[u8], n: usize, k: usize, limit: u64, negated: bool, out: &mut [u64])
+pub(crate) fn select_entries(
+    file: &[u8],
+    n: usize,
+    k: usize,
+    limit: u64,
+    negated: bool,
+    out: &mut [u64],
+)
     requires { ⌜ CheckedMap (now file) n k ⌝ }
     requires { ⌜ (255 ≤ limit) × (maskLen n ≤ length (now out)) ⌝ }
     ensures { λ _. ⌜ now (out .exit) ≡ sets (now (out .entry)) 0 (maskOf n (selected (fileParts (now (file .entry)) n k) limit negated)) ⌝ }
