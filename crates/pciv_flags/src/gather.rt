@@ -27,14 +27,14 @@ fn lane(a: &[u8], i: usize, limit: u8) -> u8
 }
 
 // Two words.
-pub struct Pair {
-    pub first: u64,
-    pub second: u64,
+pub(crate) struct Pair {
+    pub(crate) first: u64,
+    pub(crate) second: u64,
 }
 
 // The flags of the 128 bytes from i on, in two words: of the sixteen lanes of each, the last eight fill the bits that the
 // others leave. (For one word alone the compiler would unroll the loop, and not take the lanes at once.)
-pub fn gather(a: &[u8], i: usize, limit: u8) -> Pair
+pub(crate) fn gather(a: &[u8], i: usize, limit: u8) -> Pair
     requires { ⌜ i + 128 ≤ length (now a) ⌝ }
     ensures { λ r. ⌜ Gathered (isBelow (now (a .entry)) limit) i (r .first) × Gathered (isBelow (now (a .entry)) limit) (i + 64) (r .second) ⌝ }
 {

@@ -6,7 +6,7 @@ ghost use Rattle.pciv_flags.specs.Flags.{transposed};
 
 // Three rounds exchange the squares of one, two and four bits beside the diagonal: in each some bits stay, some move
 // down and some move up.
-pub fn transpose(x: u64) -> u64
+pub(crate) fn transpose(x: u64) -> u64
     ensures { λ r. ⌜ ((j : ℕ) → j < 64 → bitAt r j ≡ bitAt x (transposed j)) ⌝ }
 {
     let y = (x & 0xAA55AA55AA55AA55)
