@@ -5,10 +5,14 @@ ghost use lib.ListN.{length};
 ghost use Rattle.pciv_format.specs.Layout.{maxSlots};
 ghost use Rattle.pciv_format.specs.Refusals.{fileAnswer};
 ghost use Rattle.pciv_format.specs.Write.{fileInto, fileBuffer};
-ghost use Rattle.pciv_format.specs.Mask.{maskValue, mapOfMaskOutcome, mapOfMaskBuffer};
+ghost use Rattle.pciv_format.specs.Mask.{maskValue, mapOfMaskOutcome, mapOfMaskBuffer, maskedOutcome, maskedBuffer, keepMaskedOutcome, keepMaskedBuffer, incrementMaskedOutcome, incrementMaskedBuffer};
 ghost use Rattle.pciv_words.specs.Words.{IsMask};
+ghost use Rattle.pciv_masked.specs.Masked.{maskedOf};
 use crate::bits::put_bits;
+use crate::bytes::MaskedOp;
+use crate::masked::masked_into;
 use pciv_build::begin;
+use pciv_check::check;
 use pciv_format::BAD_MASK;
 use pciv_format::FileAnswer;
 use pciv_format::MAX_SLOTS;
@@ -17,6 +21,10 @@ use pciv_format::TOO_MANY_SLOTS;
 use pciv_words::is_mask;
 
 mod bits;
+mod bytes;
+mod kept;
+mod masked;
+mod raised;
 mod rows;
 
 // Writes the file of a mask as a map of 0 and 1, which has no overflow entry and no index. Refusal: 12.
@@ -57,4 +65,46 @@ pub fn map_of_mask(n: usize, words: &[u64], out: &mut [u8]) -> FileAnswer
         });
     }
     bits_into(n, words, out)
+}
+
+// Both of the following.
+fn mask_map(op: MaskedOp, file: &[u8], words: &[u64], out: &mut [u8]) -> FileAnswer
+    ensures answer { λ r. ⌜ r ≡ fileAnswer (maskedOutcome (maskedOf op) (now (file .entry)) (now (words .entry)) (length (now (out .entry)))) ⌝ }
+    ensures buffer { λ _. ⌜ now (out .exit) ≡ maskedBuffer (maskedOf op) (now (file .entry)) (now (words .entry)) (now (out .entry)) ⌝ }
+{
+    let checked = check(file, 1);
+    match checked {
+        FileAnswer::Refused(r) => FileAnswer::Refused(r),
+        FileAnswer::Done(s) => {
+            let n = s.n;
+            let k = s.k;
+            if !is_mask(n, words) {
+                return FileAnswer::Refused(Refusal {
+                    number: BAD_MASK,
+                    map: 0,
+                    place: 0,
+                });
+            }
+            masked_into(op, file, n, k, words, out)
+        }
+    }
+}
+
+// Writes the file of the map with distance 0 where the mask is 0 ("cut") to the front of the caller's buffer.
+// Refusals: 1 to 8, then 13, then 12. A refused call changes no byte, and bytes past the file stay as they were.
+pub fn keep_masked(file: &[u8], words: &[u64], out: &mut [u8]) -> FileAnswer
+    ensures answer { λ r. ⌜ r ≡ fileAnswer (keepMaskedOutcome (now (file .entry)) (now (words .entry)) (length (now (out .entry)))) ⌝ }
+    ensures buffer { λ _. ⌜ now (out .exit) ≡ keepMaskedBuffer (now (file .entry)) (now (words .entry)) (now (out .entry)) ⌝ }
+{
+    mask_map(MaskedOp::Keep, file, words, out)
+}
+
+// Writes the file of the map with 1 added where the mask is 1 ("tally") to the front of the caller's buffer.
+// Refusals: 1 to 8, then 13, then 11 with the least slot whose result is no distance, then 12. A refused call changes
+// no byte, and bytes past the file stay as they were.
+pub fn increment_masked(file: &[u8], words: &[u64], out: &mut [u8]) -> FileAnswer
+    ensures answer { λ r. ⌜ r ≡ fileAnswer (incrementMaskedOutcome (now (file .entry)) (now (words .entry)) (length (now (out .entry)))) ⌝ }
+    ensures buffer { λ _. ⌜ now (out .exit) ≡ incrementMaskedBuffer (now (file .entry)) (now (words .entry)) (now (out .entry)) ⌝ }
+{
+    mask_map(MaskedOp::Increment, file, words, out)
 }
