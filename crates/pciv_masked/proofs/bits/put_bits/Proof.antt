@@ -1,0 +1,163 @@
+-- Proves bits::put_bits. Invariant of both loops: what is left to write are the bits of the slots from i on; in the first
+-- i is a multiple of eight. Falls: n - i.
+use mathlib.Core.Path.{_≡_, refl, sym, ap, _∙_}
+use Prim.Native.Nat.{ℕ, _+_, _-_, _*_, _%_, _≤_, _<_}
+use native.Mathlib.Omega.{arith}
+use mathlib.Core.List.{List}
+use lib.ListN.{length, length-set}
+use lib.Seq.{sets, length-sets}
+use Rattle.pciv_bytes.specs.Ranges.{table}
+use Rattle.pciv_bytes.proofs.WriteLaws.{sets-table-start, sets-table-more, sets-table-end}
+use Rattle.pciv_format.specs.Mask.{bitsRow, maskValue}
+use Rattle.pciv_masked.proofs.RowLaws.{row-of-word, sets-table-part}
+use borrow.Author.Needs.{needs}
+use Rattle.pciv_masked.proofs.bits.put_bits.Statement.{statement}
+use Rattle.pciv_masked.proofs.bits.put_bits.Tie as tie
+
+-- all that was left at slot i₀ of d₀ is what is left at slot i of d
+abbrev Left : List ℕ → ℕ → List ℕ → ℕ → List ℕ → ℕ → Type 0
+Left ws n d₀ i₀ d i =
+    (i ≤ n) × (length d ≡ length d₀)
+    × (sets d₀ (40 + i₀) (table (maskValue ws) i₀ (n - i₀)) ≡ sets d (40 + i) (table (maskValue ws) i (n - i)))
+
+abbrev Inv-loop : tie.InvT-loop
+Inv-loop out₀ n words rows i₀ out i = (i % 8 ≡ 0) × Left words n out₀ 0 out i
+
+abbrev μ-loop : tie.MeasureT-loop
+μ-loop out₀ n words rows i₀ out i = n - i
+
+abbrev Inv-loop2 : tie.InvT-loop2
+Inv-loop2 out₀ n words i₀ out i = Left words n out₀ i₀ out i
+
+abbrev μ-loop2 : tie.MeasureT-loop2
+μ-loop2 out₀ n words i₀ out i = n - i
+
+abbrev start : tie.In-loop Inv-loop μ-loop Inv-loop2 μ-loop2 → tie.Start Inv-loop μ-loop Inv-loop2 μ-loop2
+start c = c .before .before .before .before .before
+
+abbrev start2 : tie.In-loop2 Inv-loop μ-loop Inv-loop2 μ-loop2 → tie.Start Inv-loop μ-loop Inv-loop2 μ-loop2
+start2 c = c .before .before .before .before .before .before .before
+
+bit-rows-requires : tie.Need-bit-rows-requires Inv-loop μ-loop Inv-loop2 μ-loop2
+bit-rows-requires c κs = search needs
+
+loop-holds : tie.Need-loop-holds Inv-loop μ-loop Inv-loop2 μ-loop2
+loop-holds c = (refl, (omega arith, refl, refl))
+
+sub-loop : tie.Need-sub-loop Inv-loop μ-loop Inv-loop2 μ-loop2
+sub-loop c = search needs
+
+mul-eight-bits : tie.Need-mul-eight-bits Inv-loop μ-loop Inv-loop2 μ-loop2
+mul-eight-bits c = search needs
+
+shared-slice-read-eight-bits : tie.Need-shared-slice-read-eight-bits Inv-loop μ-loop Inv-loop2 μ-loop2
+shared-slice-read-eight-bits c = search needs
+
+eight-bits-requires : tie.Need-eight-bits-requires Inv-loop μ-loop Inv-loop2 μ-loop2
+eight-bits-requires c κs = search needs
+
+add-put-row : tie.Need-add-put-row Inv-loop μ-loop Inv-loop2 μ-loop2
+add-put-row c = search needs
+
+put-row-requires : tie.Need-put-row-requires Inv-loop μ-loop Inv-loop2 μ-loop2
+put-row-requires c κs =
+    let e = c .before .before in
+    (e .before .before .before .before .bit-rows .ensures, omega (arith, e .eight-bits .ensures), search needs)
+
+add-i : tie.Need-add-i Inv-loop μ-loop Inv-loop2 μ-loop2
+add-i c = search needs
+
+loop-less : tie.Need-loop-less Inv-loop μ-loop Inv-loop2 μ-loop2
+loop-less c = search needs
+
+loop-again : tie.Need-loop-again Inv-loop μ-loop Inv-loop2 μ-loop2
+loop-again c =
+    let p = c .before .before in
+    let e = p .before .before .before in
+    let w = e .before .before in
+    let l = w .before .loop in
+    let a = start w .args in
+    let f : ℕ → ℕ = maskValue (a .words .now) in
+    let put : p .put-row .last .0 ≡ sets (l .out) (40 + l .i) (table f (l .i) 8) =
+    p .put-row .ensures ∙ ap (sets (l .out) (40 + l .i)) (ap bitsRow (e .eight-bits .ensures) ∙ row-of-word (a .words .now) (l .i) (l .inv .0)) in
+    let left = sets-table-part f 40 (a .n) (l .i) 8 (l .out) (omega (arith, l .inv .1 .0, w .loop-test .taken)) in (
+      omega (arith, l .inv .0),
+      (
+        omega (arith, l .inv .1 .0, w .loop-test .taken),
+        ap length put ∙ length-sets (l .out) (40 + l .i) (table f (l .i) 8) ∙ l .inv .1 .1,
+        l .inv .1 .2 ∙ left ∙ ap (λ (d : List ℕ). sets d (40 + (l .i + 8)) (table f (l .i + 8) (a .n - (l .i + 8)))) (sym put),
+      ),
+    )
+
+loop2-holds : tie.Need-loop2-holds Inv-loop μ-loop Inv-loop2 μ-loop2
+loop2-holds c = (search needs, refl, refl)
+
+bit-of-requires : tie.Need-bit-of-requires Inv-loop μ-loop Inv-loop2 μ-loop2
+bit-of-requires c κs = omega (arith, start2 c .pre .0, c .loop2-test .taken)
+
+add-out : tie.Need-add-out Inv-loop μ-loop Inv-loop2 μ-loop2
+add-out c = search needs
+
+slice-write-out : tie.Need-slice-write-out Inv-loop μ-loop Inv-loop2 μ-loop2
+slice-write-out c =
+    let w = c .before in
+    let l = w .before in
+    omega (arith, start2 w .pre .1, w .loop2-test .taken, l .loop2 .inv .1, l .before .before .loop .inv .1 .1)
+
+add-i-2 : tie.Need-add-i-2 Inv-loop μ-loop Inv-loop2 μ-loop2
+add-i-2 c = search needs
+
+loop2-less : tie.Need-loop2-less Inv-loop μ-loop Inv-loop2 μ-loop2
+loop2-less c = search needs
+
+loop2-again : tie.Need-loop2-again Inv-loop μ-loop Inv-loop2 μ-loop2
+loop2-again c =
+    let w = c .before in
+    let l = w .before .loop2 in
+    let a = start2 w .args in
+    let more = sets-table-more (maskValue (a .words .now)) 40 (a .n) (l .i) (l .out) (w .loop2-test .taken) in
+    (omega (arith, w .loop2-test .taken), simp length-set (l .inv .1), l .inv .2 ∙ more ∙ rw (c .bit-of .ensures))
+
+same-length : tie.Need-same-length Inv-loop μ-loop Inv-loop2 μ-loop2
+same-length c = search needs
+
+returns : tie.Need-returns Inv-loop μ-loop Inv-loop2 μ-loop2
+returns c =
+    let l = c .before in
+    let k = l .before .before in
+    let a = k .before .before .before .before .args in
+    let f : ℕ → ℕ = maskValue (a .words .now) in
+    sym
+    (sets-table-start f 40 (a .n) (a .out .now)
+    ∙ k .loop .inv .1 .2
+    ∙ l .loop2 .inv .2
+    ∙ sets-table-end f 40 (a .n) (l .loop2 .i) (l .loop2 .out) (omega (arith, c .loop2-test .left)))
+
+pub put-bits-spec : {M : Type 1} → statement M
+put-bits-spec =
+    tie.close
+    (tie.spec
+    Inv-loop
+    μ-loop
+    Inv-loop2
+    μ-loop2
+    bit-rows-requires
+    loop-holds
+    sub-loop
+    mul-eight-bits
+    shared-slice-read-eight-bits
+    eight-bits-requires
+    add-put-row
+    put-row-requires
+    add-i
+    loop-less
+    loop-again
+    loop2-holds
+    bit-of-requires
+    add-out
+    slice-write-out
+    add-i-2
+    loop2-less
+    loop2-again
+    same-length
+    returns)

@@ -1,0 +1,45 @@
+// A mask as bytes 0 and 1, one for each slot.
+ghost use mathlib.Core.Path.{_≡_};
+ghost use Prim.Native.Nat.{_+_, _*_, _/_, _%_, _^_, _≤_, _<_};
+ghost use lib.ListN.{length};
+ghost use lib.Seq.{sets};
+ghost use Rattle.pciv_bytes.specs.Ranges.{table};
+ghost use Rattle.pciv_format.specs.Mask.{maskValue};
+use crate::rows::bit_rows;
+use crate::rows::put_row;
+use pciv_format::HEADER_LEN;
+
+// 1 where a slot is set, else 0.
+pub(crate) fn bit_of(words: &[u64], slot: usize) -> u8
+    requires { ⌜ slot < 64 * length (now words) ⌝ }
+    ensures { λ r. ⌜ r ≡ maskValue (now (words .entry)) slot ⌝ }
+{
+    ((words[slot / 64] >> (slot % 64)) % 2) as u8
+}
+
+// Eight bits of a word, from bit j on.
+fn eight_bits(word: u64, j: usize) -> usize
+    requires { ⌜ j < 64 ⌝ }
+    ensures { λ r. ⌜ r ≡ word / 2 ^ j % 256 ⌝ }
+{
+    ((word >> j) % 256) as usize
+}
+
+// Writes the bits of the n slots where a file has its primary array: eight at once through the table, and then what is
+// left.
+pub(crate) fn put_bits(out: &mut [u8], n: usize, words: &[u64])
+    requires { ⌜ (n ≤ 64 * length (now words)) × (40 + n ≤ length (now out)) ⌝ }
+    ensures { λ _. ⌜ now (out .exit) ≡ sets (now (out .entry)) 40 (table (maskValue (now (words .entry))) 0 n) ⌝ }
+{
+    let rows = bit_rows();
+    let mut i = 0;
+    while 8 <= n - i {
+        let b = eight_bits(words[i / 64], i % 64);
+        put_row(out, HEADER_LEN + i, &rows, b);
+        i += 8;
+    }
+    while i < n {
+        out[HEADER_LEN + i] = bit_of(words, i);
+        i += 1;
+    }
+}

@@ -1,0 +1,50 @@
+// The overflow entries of a map that is kept where a mask is 1: those of its entries whose slots are set.
+ghost use mathlib.Core.Path.{_≡_};
+ghost use Prim.Native.Nat.{_+_, _*_, _≤_};
+ghost use lib.ListN.{length};
+ghost use lib.Seq.{sets};
+ghost use Rattle.pciv_format.specs.Layout.{overflowCount, overflowPart};
+ghost use Rattle.pciv_format.specs.Check.{fileParts, CheckedMap};
+ghost use Rattle.pciv_words.specs.Words.{IsMask};
+ghost use Rattle.pciv_masked.specs.Masked.{maskedAt};
+ghost use Rattle.pciv_masked.specs.declared.bytes.MaskedOp.the-variants.{Keep};
+use crate::bits::bit_of;
+use pciv_build::put_entry;
+use pciv_format::HEADER_LEN;
+use pciv_map::entries::entry_distance;
+use pciv_map::entries::entry_slot;
+
+// How many entries are kept.
+pub(crate) fn count_kept(file: &[u8], n: usize, k: usize, words: &[u64]) -> usize
+    requires { ⌜ CheckedMap (now file) n k ⌝ }
+    requires { ⌜ IsMask n (now words) ⌝ }
+    ensures { λ r. ⌜ r ≡ overflowCount n (maskedAt Keep (fileParts (now (file .entry)) n k) (now (words .entry))) ⌝ }
+{
+    let mut count: usize = 0;
+    let mut j = 0;
+    while j < k {
+        count += bit_of(words, entry_slot(file, n, j)) as usize;
+        j += 1;
+    }
+    count
+}
+
+// Writes the entries that are kept.
+pub(crate) fn put_kept(out: &mut [u8], file: &[u8], n: usize, k: usize, words: &[u64])
+    requires { ⌜ CheckedMap (now file) n k ⌝ }
+    requires { ⌜ IsMask n (now words) ⌝ }
+    requires { ⌜ 40 + n + 12 * overflowCount n (maskedAt Keep (fileParts (now file) n k) (now words)) ≤ length (now out) ⌝ }
+    ensures { λ _. ⌜ now (out .exit) ≡ sets (now (out .entry)) (40 + n) (overflowPart n (maskedAt Keep (fileParts (now (file .entry)) n k) (now (words .entry)))) ⌝ }
+{
+    let mut at = HEADER_LEN + n;
+    let mut j = 0;
+    while j < k {
+        let slot = entry_slot(file, n, j);
+        let x = entry_distance(file, n, j);
+        let bit = bit_of(words, slot);
+        j += 1;
+        if 0 < bit {
+            at = put_entry(out, at, slot, x);
+        }
+    }
+}
