@@ -9,7 +9,7 @@ ghost use Rattle.pciv_format.specs.Read.{lookupOutcome, lookupListOutcome, look
 ghost use Rattle.pciv_format.specs.Write.{writeOutcome, writeBuffer, closeOutcome, closeBuffer};
 ghost use Rattle.pciv_format.specs.Arith.{combineMapsOutcome, combineMapsBuffer, shiftOutcome, shiftBuffer, signedDifferenceOutcome, signedDifferenceList};
 ghost use Rattle.pciv_format.specs.declared.SlotOp.the-variants.{Minimum, Maximum, Difference, Sum};
-ghost use Rattle.pciv_format.specs.Mask.{thresholdOutcome, thresholdWords, nearMaskOutcome, nearMaskWords, combineOutcome, combineWords, complementOutcome, complementWords, setBitsOutcome};
+ghost use Rattle.pciv_format.specs.Mask.{thresholdOutcome, thresholdWords, nearMaskOutcome, nearMaskWords, combineOutcome, combineWords, complementOutcome, complementWords, setBitsOutcome, mapOfMaskOutcome, mapOfMaskBuffer, keepMaskedOutcome, keepMaskedBuffer, incrementMaskedOutcome, incrementMaskedBuffer};
 ghost use Rattle.pciv_format.specs.declared.Comparison.the-variants.{Below, AtMost, Above, AtLeast};
 ghost use Rattle.pciv_format.specs.declared.MaskOp.the-variants.{And, Or, Xor};
 ghost use Rattle.pciv_format.specs.Figures.{brayCurtisOutcome, jaccardOutcome};
@@ -40,6 +40,9 @@ use pciv_mask::complement;
 use pciv_mask::or;
 use pciv_mask::set_bits;
 use pciv_mask::xor;
+use pciv_masked::increment_masked;
+use pciv_masked::keep_masked;
+use pciv_masked::map_of_mask;
 use pciv_read::lookup;
 use pciv_read::lookup_list;
 use pciv_read::readings;
@@ -480,6 +483,50 @@ pub extern "C" fn pciv_set_bits(
     ensures told { λ r. ⌜ ToldNumber (setBitsOutcome n (now (mask .entry))) r (now (count .entry)) (now (count .exit)) (now (refusal .exit)) ⌝ }
 {
     tell_number(set_bits(n, mask), count, refusal)
+}
+
+// ---- files from masks
+
+#[no_mangle]
+pub extern "C" fn pciv_map_of_mask(
+    n: usize,
+    mask: &[u64],
+    out: &mut [u8],
+    summary: &mut [usize; 5],
+    refusal: &mut [usize; 3],
+) -> usize
+    ensures told { λ r. ⌜ ToldFile (mapOfMaskOutcome n (now (mask .entry)) (length (now (out .entry)))) r (now (summary .entry)) (now (summary .exit)) (now (refusal .exit)) ⌝ }
+    ensures buffer { λ _. ⌜ now (out .exit) ≡ mapOfMaskBuffer n (now (mask .entry)) (now (out .entry)) ⌝ }
+{
+    tell_file(map_of_mask(n, mask, out), summary, refusal)
+}
+
+#[no_mangle]
+pub extern "C" fn pciv_keep_masked(
+    file: &[u8],
+    mask: &[u64],
+    out: &mut [u8],
+    summary: &mut [usize; 5],
+    refusal: &mut [usize; 3],
+) -> usize
+    ensures told { λ r. ⌜ ToldFile (keepMaskedOutcome (now (file .entry)) (now (mask .entry)) (length (now (out .entry)))) r (now (summary .entry)) (now (summary .exit)) (now (refusal .exit)) ⌝ }
+    ensures buffer { λ _. ⌜ now (out .exit) ≡ keepMaskedBuffer (now (file .entry)) (now (mask .entry)) (now (out .entry)) ⌝ }
+{
+    tell_file(keep_masked(file, mask, out), summary, refusal)
+}
+
+#[no_mangle]
+pub extern "C" fn pciv_increment_masked(
+    file: &[u8],
+    mask: &[u64],
+    out: &mut [u8],
+    summary: &mut [usize; 5],
+    refusal: &mut [usize; 3],
+) -> usize
+    ensures told { λ r. ⌜ ToldFile (incrementMaskedOutcome (now (file .entry)) (now (mask .entry)) (length (now (out .entry)))) r (now (summary .entry)) (now (summary .exit)) (now (refusal .exit)) ⌝ }
+    ensures buffer { λ _. ⌜ now (out .exit) ≡ incrementMaskedBuffer (now (file .entry)) (now (mask .entry)) (now (out .entry)) ⌝ }
+{
+    tell_file(increment_masked(file, mask, out), summary, refusal)
 }
 
 // ---- comparison figures

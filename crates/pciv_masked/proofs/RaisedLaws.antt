@@ -29,14 +29,15 @@ use Rattle.pciv_format.specs.Parts.{Parts, lowestSlot, valueOf, SoundParts}
 use Rattle.pciv_format.specs.Check.{fileParts, CheckedMap}
 use Rattle.pciv_format.specs.Mask.{maskHas, maskValue}
 use Rattle.pciv_format.proofs.PartsLaws.{entry-good, valueOf-slot, primaryByte-valueOf, overflowCount-is}
-use Rattle.pciv_build.proofs.EntriesLaws.{EntriesLeft, entries-start, entries-before, entries-more, entries-gap, entries-end, overflowCount-sum}
+use Rattle.pciv_build.proofs.EntriesLaws.{entriesFrom, EntriesLeft, entries-start, rest-before, entries-more, entries-gap, entries-end, overflowCount-sum}
 use Rattle.pciv_map.specs.Cursor.{Cursor, TakenAt}
 use Rattle.pciv_map.specs.declared.cursor.Taken.{Taken}
 use Rattle.pciv_map.proofs.EntryLaws.{gap-value, gap-inline}
 use Rattle.pciv_map.proofs.CursorLaws.{cursor-start, cursor-gap}
 use Rattle.pciv_map.proofs.MapLaws.{primaryOf, primary-at}
-use Rattle.pciv_addition.specs.Addition.{HoldsPrimary}
-use Rattle.pciv_addition.proofs.BytesLaws.{primaryByte-min, full-is}
+use Rattle.pciv_build.specs.Slots.{HoldsPrimary}
+use Rattle.pciv_build.proofs.FillLaws.{full-is}
+use Rattle.pciv_addition.proofs.BytesLaws.{primaryByte-min}
 use Rattle.pciv_words.specs.Words.{IsMask}
 use Rattle.pciv_words.proofs.MaskLaws.{flag-maskHas}
 use Rattle.pciv_masked.specs.Masked.{maskedAt, raisedAt, picked}
@@ -198,7 +199,7 @@ module _ (P : Parts) (s : SoundParts P) (bytes : (i : ℕ) → P .byte i < 256) 
       let low : i ≤ slot = next .before .low in
       let high : slot ≤ P .n = next .before .high in
       let full-at : (t : ℕ) → t < P .n → fullIn d t ≡ inOverflow (u t) =
-      λ t h. ap (λ (x : ℕ). eqb x 255) (entries-before left (40 + t) (omega arith) ∙ holds t h) ∙ full-is (u t) in
+      λ t h. ap (λ (x : ℕ). eqb x 255) (rest-before (entriesFrom (P .n) u 0) (entriesFrom (P .n) u i) d₀ d (40 + P .n) at (left .low) (left .rest) (40 + t) (omega arith) ∙ holds t h) ∙ full-is (u t) in
       let none : (t : ℕ) → i ≤ t → t < slot → u t < 255 =
       λ t h₁ h₂. leb-false 255 (u t) (sym (full-at t (omega arith)) ∙ next .before .clear t h₁ h₂) in
       record {
