@@ -14,12 +14,12 @@ use pciv_format::SENTINEL;
 
 // The slots of a block: as many as a word has bits.
 const BLOCK: usize = 64;
-// The slots whose bits are put together at once.
+// The slots of half a block, whose bits the compiler puts together at once.
 const HALF: usize = 32;
 
 // A bit for each of count slots from `from` on, the lowest for the first: set where the primary byte is 255.
-fn half_word(file: &[u8], from: usize, count: usize) -> usize
-    requires { ⌜ (count ≤ 32) × (40 + from + count ≤ length (now file)) ⌝ }
+fn some_bits(file: &[u8], from: usize, count: usize) -> usize
+    requires { ⌜ (count ≤ 64) × (40 + from + count ≤ length (now file)) ⌝ }
     ensures { λ r. ⌜ r ≡ word (isFull (now (file .entry))) from count ⌝ }
 {
     let mut bits: usize = 0;
@@ -31,15 +31,15 @@ fn half_word(file: &[u8], from: usize, count: usize) -> usize
     bits
 }
 
-// The same for the slots of up to a whole block.
+// The same; for a whole block in two halves.
 fn full_word(file: &[u8], from: usize, count: usize) -> usize
     requires { ⌜ (count ≤ 64) × (40 + from + count ≤ length (now file)) ⌝ }
     ensures { λ r. ⌜ r ≡ word (isFull (now (file .entry))) from count ⌝ }
 {
-    if count <= HALF {
-        return half_word(file, from, count);
+    if count < BLOCK {
+        return some_bits(file, from, count);
     }
-    half_word(file, from, HALF) + (half_word(file, from + HALF, count - HALF) << HALF)
+    some_bits(file, from, HALF) + (some_bits(file, from + HALF, HALF) << HALF)
 }
 
 // Writes the entries of those of count slots from `from` on whose primary byte is 255, and answers the place after

@@ -1,5 +1,5 @@
 -- Proves slots::full_word: the bits of one half, or of two.
-use mathlib.Core.Path.{_≡_}
+use mathlib.Core.Path.{_≡_, ap, _∙_}
 use Prim.Native.Nat.{_+_, _*_, _%_, _^_}
 use native.Mathlib.Omega.{arith}
 use Rattle.pciv_format.specs.Mask.{word}
@@ -10,31 +10,29 @@ use Rattle.pciv_build.proofs.slots.full_word.Statement.{statement}
 use Rattle.pciv_build.proofs.slots.full_word.Tie as tie
 
 -- both halves together
-whole : (c : tie.After-half-word3)
+whole : (c : tie.After-some-bits3)
     → (let a = c .before .before .before .before .args in
-    c .before .half-word2 .result + c .half-word3 .result * 2 ^ 32 % 2 ^ 64 ≡ word (isFull (a .file .now)) (a .from) (a .count))
+    c .before .some-bits2 .result + c .some-bits3 .result * 2 ^ 32 % 2 ^ 64 ≡ word (isFull (a .file .now)) (a .from) (a .count))
 whole c =
     let a = c .before .before .before .before .args in
-    rw (c .before .half-word2 .ensures, c .half-word3 .ensures)
-    (word-halves (isFull (a .file .now)) (a .from) (a .count) (omega arith) (omega arith))
+    let all : 64 ≡ a .count = omega arith in
+    rw (c .before .some-bits2 .ensures, c .some-bits3 .ensures)
+    (word-halves (isFull (a .file .now)) (a .from) 64 (omega arith) (omega arith) ∙ ap (word (isFull (a .file .now)) (a .from)) all)
 
-half-word-requires : tie.Need-half-word-requires
-half-word-requires c κs = search needs
+some-bits-requires : tie.Need-some-bits-requires
+some-bits-requires c κs = search needs
 
 returns : tie.Need-returns
 returns c = search needs
 
-half-word-requires-2 : tie.Need-half-word-requires-2
-half-word-requires-2 c κs = search needs
+some-bits-requires-2 : tie.Need-some-bits-requires-2
+some-bits-requires-2 c κs = search needs
 
-add-half-word : tie.Need-add-half-word
-add-half-word c = search needs
+add-some-bits : tie.Need-add-some-bits
+add-some-bits c = search needs
 
-sub-half-word : tie.Need-sub-half-word
-sub-half-word c = search needs
-
-half-word-requires-3 : tie.Need-half-word-requires-3
-half-word-requires-3 c κs = search needs
+some-bits-requires-3 : tie.Need-some-bits-requires-3
+some-bits-requires-3 c κs = search needs
 
 add-result : tie.Need-add-result
 add-result c =
@@ -48,11 +46,10 @@ pub full-word-spec : {M : Type 1} → statement M
 full-word-spec =
     tie.close
     (tie.spec
-    half-word-requires
+    some-bits-requires
     returns
-    half-word-requires-2
-    add-half-word
-    sub-half-word
-    half-word-requires-3
+    some-bits-requires-2
+    add-some-bits
+    some-bits-requires-3
     add-result
     returns-2)

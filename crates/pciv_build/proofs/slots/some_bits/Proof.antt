@@ -1,4 +1,4 @@
--- Proves slots::half_word. Invariant: bits are those of the first i slots. Falls: count - i.
+-- Proves slots::some_bits. Invariant: bits are those of the first i slots. Falls: count - i.
 use mathlib.Core.Path.{_≡_, _∙_}
 use Prim.Native.Nat.{_+_, _-_, _≤_}
 use native.Mathlib.Omega.{arith}
@@ -9,8 +9,8 @@ use Rattle.pciv_format.specs.Mask.{word}
 use Rattle.pciv_build.specs.Slots.{isFull}
 use Rattle.pciv_build.proofs.WordLaws.{word-start, word-small, word-more}
 use borrow.Author.Needs.{needs}
-use Rattle.pciv_build.proofs.slots.half_word.Statement.{statement}
-use Rattle.pciv_build.proofs.slots.half_word.Tie as tie
+use Rattle.pciv_build.proofs.slots.some_bits.Statement.{statement}
+use Rattle.pciv_build.proofs.slots.some_bits.Tie as tie
 
 abbrev Inv-loop : tie.InvT-loop
 Inv-loop file from count bits₀ i₀ bits i = (i ≤ count) × (bits ≡ word (isFull file) from i)
@@ -64,8 +64,8 @@ returns c =
     let all : l .i ≡ c .before .before .args .count = omega arith in
     l .inv .1 ∙ rw all
 
-pub half-word-spec : {M : Type 1} → statement M
-half-word-spec =
+pub some-bits-spec : {M : Type 1} → statement M
+some-bits-spec =
     tie.close
     (tie.spec
     Inv-loop
