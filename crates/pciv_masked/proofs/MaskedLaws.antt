@@ -4,8 +4,8 @@
 --   masked-refused, -bad, -outcome  what a mask makes of a map: a refused file, no mask, or what is written
 --   masked-kept, masked-buffer      the buffer after a refusal, and after what is written
 -- Axioms: none.
-use mathlib.Core.Path.{_≡_, refl, sym, ap, _∙_}
-use Prim.Native.Nat.{ℕ, _+_, _≤_, _<_}
+use mathlib.Core.Path.{_≡_, sym, ap, _∙_}
+use Prim.Native.Nat.{ℕ, _≤_, _<_}
 use native.Mathlib.Omega.{arith}
 use mathlib.Core.Bool.{Bool, true, false}
 use mathlib.Core.List.{List}

@@ -6,7 +6,7 @@
 --   Raising         the walk that writes the entries: those of slots from `slot` on are left, the cursor is at `slot`,
 --                   which is in overflow; -start, -more, -end
 -- Axioms: none.
-use mathlib.Core.Path.{_≡_, refl, sym, ap, ap₂, _∙_}
+use mathlib.Core.Path.{_≡_, refl, sym, ap, _∙_}
 use Prim.Native.Nat.{ℕ, zero, suc, _+_, _-_, _*_, _≤_, _<_}
 use native.Mathlib.Nat.{sub-zero}
 use native.Mathlib.Numerals.{add-one}
@@ -23,7 +23,7 @@ use Rattle.pciv_bytes.specs.LittleEndian.{Bytes, le}
 use Rattle.pciv_bytes.specs.Counts.{byteAt, byteIs}
 use Rattle.pciv_bytes.specs.Find.{Next}
 use Rattle.pciv_bytes.proofs.RangesLaws.{firstBelow-at, firstBelow-none}
-use Rattle.pciv_bytes.proofs.SumLaws.{flag-le, sumFrom-cong, sumFrom-split, sumFrom-le}
+use Rattle.pciv_bytes.proofs.SumLaws.{flag-le, sumFrom-split, sumFrom-le}
 use Rattle.pciv_format.specs.Layout.{maxDistance, inOverflow, primaryByte, overflowCount, overflowPart}
 use Rattle.pciv_format.specs.Parts.{Parts, lowestSlot, valueOf, SoundParts}
 use Rattle.pciv_format.specs.Check.{fileParts, CheckedMap}

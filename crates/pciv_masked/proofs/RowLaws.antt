@@ -1,26 +1,22 @@
 -- Laws of rows and bits: eight bits at once, and a mask's bits as bytes.
---   bitRows-at           a row of the table, byte by byte
---   row-of-word          the row of eight bits of a word has the bits of eight slots
---   bit-of-word          one bit of a word is one slot
---   sets-table-part      a part of a table, written at once
---   primary-bits         bits are primary bytes
---   overflow-none        a map below 255 has no overflow entry, and its file no index
+--   table-shift, sets-table-part    the same table from another place on; a part of a table, written at once
+--   bitRows-at, bitsRow-table       a row of the table, byte by byte
+--   bit-of-word, row-of-word        one bit of a word is one slot, a row eight slots
+--   primary-bits                    bits are primary bytes
+--   count-none, part-none, index-none    a map below 255 has no overflow entry, and its file no index
 -- Axioms: none.
 use mathlib.Core.Path.{_≡_, refl, sym, ap, ap₂, _∙_}
 use Prim.Native.Nat.{ℕ, zero, suc, _+_, _-_, _*_, _/_, _%_, _^_, _≤_, _<_}
 use native.Mathlib.Nat.{zero-add, add-zero}
-use native.Mathlib.Numerals.{add-one}
 use native.Mathlib.Omega.{arith}
-use mathlib.Core.Bool.{Bool, true, false}
 use mathlib.Core.List.{List, [], _∷_, _++_}
 use lib.ListN.{length, getD}
 use lib.Seq.{sets}
-use borrow.Author.Tests.{lt-leb}
-use Rattle.pciv_bytes.specs.Ranges.{flag, table, positions, joined}
+use Rattle.pciv_bytes.specs.Ranges.{table, joined}
 use Rattle.pciv_bytes.proofs.RangesLaws.{length-table, getD-table, table-cong}
 use Rattle.pciv_bytes.proofs.SumLaws.{flag-le}
 use Rattle.pciv_bytes.proofs.WriteLaws.{sets-append}
-use Rattle.pciv_format.specs.Layout.{inOverflow, primaryByte, primary, overflowCount, overflowSlots, overflowPart}
+use Rattle.pciv_format.specs.Layout.{primaryByte, primary, overflowCount, overflowSlots, overflowPart}
 use Rattle.pciv_format.specs.Mask.{bitAt, bitsRow, maskHas, maskValue}
 use Rattle.pciv_format.proofs.PartsLaws.{primaryByte-inline}
 use Rattle.pciv_format.proofs.LayoutLaws.{indexStep-few, indexLen-zero}

@@ -1,7 +1,7 @@
 -- Proves bits::put_bits. Invariant of both loops: what is left to write are the bits of the slots from i on; in the first
 -- i is a multiple of eight. Falls: n - i.
 use mathlib.Core.Path.{_≡_, refl, sym, ap, _∙_}
-use Prim.Native.Nat.{ℕ, _+_, _-_, _*_, _%_, _≤_, _<_}
+use Prim.Native.Nat.{ℕ, _+_, _-_, _%_, _≤_}
 use native.Mathlib.Omega.{arith}
 use mathlib.Core.List.{List}
 use lib.ListN.{length, length-set}

@@ -1,7 +1,7 @@
 -- Proves bytes::mask_bytes. Invariant: what is left to write are the bytes from i on, and those of out from there on are
 -- still the bits. Falls: the length of a, less i.
 use mathlib.Core.Path.{_≡_, refl, sym, ap, _∙_}
-use Prim.Native.Nat.{ℕ, _+_, _-_, _≤_, _<_}
+use Prim.Native.Nat.{ℕ, _+_, _-_, _≤_}
 use native.Mathlib.Nat.{le-refl}
 use native.Mathlib.Omega.{arith}
 use mathlib.Core.List.{List}

@@ -1,6 +1,4 @@
 -- Proves bytes::put_primary.
-use mathlib.Core.Path.{_≡_, ap, _∙_}
-use Prim.Native.Nat.{ℕ, _+_}
 use native.Mathlib.Nat.{add-sub-cancel-left}
 use Rattle.pciv_map.proofs.MapLaws.{primary-inside}
 use Rattle.pciv_masked.proofs.ByteLaws.{masked-primary}

@@ -1,5 +1,5 @@
 -- Proves kept::put_kept. Invariant: the entries of slots from the least that entry j may have on are left. Falls: k - j.
-use mathlib.Core.Path.{_≡_, sym, ap, _∙_}
+use mathlib.Core.Path.{_≡_, ap, _∙_}
 use Prim.Native.Nat.{ℕ, _+_, _-_, _≤_, _<_}
 use native.Mathlib.Omega.{arith}
 use Rattle.pciv_format.specs.Parts.{Parts, lowestSlot}

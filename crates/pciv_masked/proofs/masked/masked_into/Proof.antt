@@ -1,10 +1,9 @@
 -- Proves masked::masked_into: the parts are written one after another, which is the file (the laws of pciv_build).
-use mathlib.Core.Path.{_≡_, refl, sym, ap, _∙_}
-use Prim.Native.Nat.{ℕ, _+_, _≤_}
+use mathlib.Core.Path.{_≡_, sym, ap, _∙_}
+use Prim.Native.Nat.{ℕ, _≤_}
 use native.Mathlib.Omega.{arith}
 use mathlib.Core.List.{List}
 use lib.ListN.{length}
-use Rattle.pciv_format.specs.Layout.{overflowCount}
 use Rattle.pciv_format.specs.Refusals.{Outcome, done, refused, fileAnswer}
 use Rattle.pciv_format.specs.Check.{fileParts}
 use Rattle.pciv_format.specs.Write.{fileInto, mapInto, fileBuffer}

@@ -1,7 +1,7 @@
 -- Proves raised::count_raised. Invariant: count and the set slots with byte 254 in the words from w on make the whole. Falls:
 -- the number of words that are left.
 use mathlib.Core.Path.{_≡_, sym, ap, _∙_}
-use Prim.Native.Nat.{ℕ, _+_, _-_, _*_, _≤_, _<_}
+use Prim.Native.Nat.{ℕ, _+_, _-_, _*_, _≤_}
 use native.Mathlib.Nat.{sub-zero}
 use native.Mathlib.Omega.{arith}
 use lib.ListN.{length}

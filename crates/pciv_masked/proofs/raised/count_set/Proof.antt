@@ -1,12 +1,12 @@
 -- Proves raised::count_set. Invariant: count and what the set bits that are left pick make the whole. Falls: the bits that
 -- are left, as a number.
-use mathlib.Core.Path.{_≡_, refl, sym, ap, _∙_}
-use Prim.Native.Nat.{ℕ, _+_, _-_, _^_, _≤_, _<_}
+use mathlib.Core.Path.{_≡_, ap, _∙_}
+use Prim.Native.Nat.{_+_, _-_, _^_, _≤_, _<_}
 use native.Mathlib.Nat.{zero-add}
 use native.Mathlib.Omega.{arith}
 use lib.Bits.{bitAnd, and-le-r}
 use lib.Count.{trailingZeros, trailing-le}
-use lib.ListN.{length, getD}
+use lib.ListN.{length}
 use lib.Dec.{eqb}
 use mir.Val.{boolByte}
 use Rattle.pciv_bytes.specs.Ranges.{flag}

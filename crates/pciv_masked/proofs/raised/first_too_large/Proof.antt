@@ -1,6 +1,6 @@
 -- Proves raised::first_too_large. Invariant: no slot below the least that entry j may have is too large. Falls: k - j.
 use mathlib.Core.Path.{_≡_, ap, _∙_}
-use Prim.Native.Nat.{ℕ, _+_, _-_, _*_, _^_, _≤_, _<_}
+use Prim.Native.Nat.{_+_, _-_, _*_, _^_, _≤_, _<_}
 use native.Mathlib.Omega.{arith}
 use Rattle.pciv_bytes.specs.LittleEndian.{Bytes}
 use Rattle.pciv_bytes.proofs.LittleEndianLaws.{get-lt}

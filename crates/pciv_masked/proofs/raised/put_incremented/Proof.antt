@@ -1,5 +1,4 @@
 -- Proves raised::put_incremented. Invariant: `Raising`. Falls: n - slot.
-use mathlib.Core.Path.{_≡_, refl, ap, _∙_}
 use Prim.Native.Nat.{ℕ, _+_, _-_, _≤_, _<_}
 use native.Mathlib.Omega.{arith}
 use Rattle.pciv_bytes.proofs.SumLaws.{flag-le}
