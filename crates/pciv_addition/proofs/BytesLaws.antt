@@ -1,14 +1,13 @@
--- The primary bytes of the result, from those of the two maps, and which of them are 255.
+-- The primary bytes of the result, from those of the two maps.
 --   added-byte     the sum of two primary bytes, at most 255, is the primary byte of the sum
 --   primaryByte-min    a primary byte is at most 255
---   full-is        a primary byte is 255 where the distance is in overflow
 -- Axioms: none.
 use mathlib.Core.Path.{_≡_, refl, sym, _∙_}
-use Prim.Native.Nat.{ℕ, _+_, _-_, _≤_, _<_, min}
+use Prim.Native.Nat.{ℕ, _+_, _-_, _<_, min}
 use native.Mathlib.Omega.{arith}
 use native.Mathlib.Decide.{decLe}
-use lib.Dec.{leb, eqb}
-use borrow.Author.Tests.{le-leb, lt-leb, eq-eqb, ne-eqb}
+use lib.Dec.{leb}
+use borrow.Author.Tests.{le-leb, lt-leb}
 use Rattle.pciv_format.specs.Layout.{inOverflow, primaryByte}
 use Rattle.pciv_format.specs.Parts.{Parts, valueOf}
 use Rattle.pciv_format.proofs.PartsLaws.{primaryByte-overflow, primaryByte-inline, primaryByte-valueOf}
@@ -22,13 +21,6 @@ primaryByte-min x =
     elim (decLe 255 x) [
       | yes d ↦ primaryByte-overflow x d ∙ omega arith
       | no d ↦ primaryByte-inline x (omega arith) ∙ omega arith
-    ]
-
-pub full-is : (x : ℕ) → eqb (primaryByte x) 255 ≡ inOverflow x
-full-is x =
-    elim (decLe 255 x) [
-      | yes d ↦ eq-eqb (primaryByte x) 255 (primaryByte-overflow x d) ∙ sym (le-leb 255 x d)
-      | no d ↦ ne-eqb (primaryByte x) 255 (λ q. omega (arith, primaryByte-inline x (omega arith))) ∙ sym (lt-leb 255 x (omega arith))
     ]
 
 module _ {P Q : Parts} (p : SoundPair P Q) where

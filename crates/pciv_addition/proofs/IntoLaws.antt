@@ -4,26 +4,26 @@
 --   mapInto-cong, mapBuffer-cong    the distances of the n slots alone count
 --   holds-primary          the primary bytes stand in a buffer where they were written
 -- Axioms: none.
-use mathlib.Core.Path.{_≡_, sym, ap, _∙_}
+use mathlib.Core.Path.{_≡_, ap, _∙_}
 use Prim.Native.Nat.{ℕ, _+_, _≤_, _<_}
-use native.Mathlib.Nat.{zero-add}
 use native.Mathlib.Omega.{arith}
 use mathlib.Core.List.{List}
 use lib.ListN.{length}
 use lib.Seq.{sets}
 use lib.Dec.{ltb}
 use borrow.Author.Tests.{le-ltb, ltb-false}
-use Rattle.pciv_bytes.specs.Ranges.{firstBelow, table}
+use Rattle.pciv_bytes.specs.Ranges.{firstBelow}
 use Rattle.pciv_bytes.specs.Counts.{byteAt}
-use Rattle.pciv_bytes.proofs.RangesLaws.{firstBelow-all, firstBelow-cong, getD-table}
-use Rattle.pciv_bytes.proofs.WriteLaws.{sets-at}
-use Rattle.pciv_format.specs.Layout.{maxDistance, primaryByte, primary}
+use Rattle.pciv_bytes.proofs.RangesLaws.{firstBelow-all, firstBelow-cong}
+use Rattle.pciv_format.specs.Layout.{maxDistance, primary}
 use Rattle.pciv_format.specs.Refusals.{Outcome, refuse, written}
 use Rattle.pciv_format.specs.Write.{fileInto, mapInto, fileBuffer}
 use Rattle.pciv_format.specs.declared.Summary.{Summary}
 use Rattle.pciv_format.proofs.RefusalsLaws.{refuseFirst-none, refuseFirst-some}
-use Rattle.pciv_format.proofs.LayoutLaws.{length-primary, file-cong, summary-cong}
-use Rattle.pciv_addition.specs.Addition.{Fits, HoldsPrimary}
+use Rattle.pciv_format.proofs.LayoutLaws.{file-cong, summary-cong}
+use Rattle.pciv_build.specs.Slots.{HoldsPrimary}
+use Rattle.pciv_build.proofs.PrimaryLaws.{primary-at}
+use Rattle.pciv_addition.specs.Addition.{Fits}
 
 module _ (n : ℕ) (v : ℕ → ℕ) where
   pub map-large : (room place : ℕ) → place ≡ firstBelow (λ (i : ℕ). ltb maxDistance (v i)) n → place < n
@@ -40,13 +40,7 @@ module _ (n : ℕ) (v : ℕ → ℕ) where
       ltb-false maxDistance (v i) (firstBelow-all (λ (i : ℕ). ltb maxDistance (v i)) n i (omega arith) inside)
 
   pub holds-primary : (d d' : List ℕ) → 40 + n ≤ length d → d' ≡ sets d 40 (primary n v) → HoldsPrimary n v d'
-  unfolding primary
-  holds-primary d d' room is i h =
-      let l : length (primary n v) ≡ n = length-primary n v in
-      ap (λ (b : List ℕ). byteAt b (40 + i)) is
-      ∙ sets-at d (primary n v) 40 i 0 (rw l room) (rw l h)
-      ∙ getD-table (λ (j : ℕ). primaryByte (v j)) 0 0 n i h
-      ∙ ap (λ (j : ℕ). primaryByte (v j)) (zero-add i)
+  holds-primary d d' room is i h = ap (λ (b : List ℕ). byteAt b (40 + i)) is ∙ primary-at n v d room i h
 
 -- ---- the distances of the n slots alone count
 

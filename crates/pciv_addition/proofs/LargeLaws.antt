@@ -1,22 +1,25 @@
 -- The walk for the least slot where the result is too large.
 --   Walked        its invariant: no slot below `slot` is too large, and both cursors stand there
 --   walked-start, -more, -found, -none
+--   MostOf, most-more, most-all    a distance that none is above
+--   none-large    no slot is too large where the largest of both are not
 -- Axioms: none.
 use mathlib.Core.Path.{_≡_, sym}
-use Prim.Native.Nat.{ℕ, _+_, _-_, _≤_, _<_, min}
+use Prim.Native.Nat.{ℕ, _+_, _-_, _≤_, _<_, min, max}
 use native.Mathlib.Omega.{arith}
 use native.Mathlib.Decide.{decLe}
-use mathlib.Core.Bool.{true, false}
+use mathlib.Core.Bool.{false}
 use borrow.Author.Tests.{lt-ltb, le-ltb}
 use Rattle.pciv_bytes.specs.Ranges.{firstBelow}
 use Rattle.pciv_bytes.proofs.RangesLaws.{firstBelow-at, firstBelow-none}
 use Rattle.pciv_format.specs.Layout.{maxDistance}
-use Rattle.pciv_format.specs.Parts.{Parts, valueOf}
+use Rattle.pciv_format.specs.Parts.{Parts, valueOf, SoundParts}
+use Rattle.pciv_format.proofs.PartsLaws.{slot-cases}
 use Rattle.pciv_map.specs.Cursor.{Cursor, nextSlot}
 use Rattle.pciv_map.proofs.CursorLaws.{cursor-start, cursor-to, nextSlot-low, nextSlot-le, gap-small}
-use Rattle.pciv_addition.specs.Addition.{addendAt, addedAt, tooLarge, CursorOf, nextOf, Small}
+use Rattle.pciv_addition.specs.Addition.{addendAt, addedAt, tooLarge, CursorOf, nextOf, Small, NoneAbove}
 use Rattle.pciv_addition.specs.declared.addend.Addend.{Addend}
-use Rattle.pciv_addition.proofs.PairOfParts.{SoundPair, cursorOf-start, cursorOf-to, nextOf-low, nextOf-le, addend-gap}
+use Rattle.pciv_addition.proofs.PairOfParts.{SoundPair, cursorOf-start, cursorOf-to, nextOf-low, addend-gap}
 
 pub record Walked (of : Addend) (P Q : Parts) (j t slot : ℕ) : Type 0 where
   pub inside : slot ≤ P .n
@@ -86,3 +89,33 @@ module _ {P Q : Parts} (p : SoundPair P Q) (of : Addend) (small : Small of) wher
   pub walked-none : (j t slot : ℕ) → Walked of P Q j t slot → P .n ≤ slot → P .n ≡ firstBelow (tooLarge of P Q) (P .n)
   walked-none j t slot w done =
       sym (firstBelow-none (tooLarge of P Q) (P .n) (λ i h. w .fine i (omega arith)))
+
+-- ---- where the largest of both come to a distance
+
+-- the entries before entry j are not above x, nor is what is stored inline
+pub record MostOf (P : Parts) (j x : ℕ) : Type 0 where
+  pub inline : 255 ≤ x
+  pub entries : (t : ℕ) → t < j → P .distance t ≤ x
+
+pub most-more : (P : Parts) (j x y : ℕ) → MostOf P j x → y ≡ max x (P .distance j) → MostOf P (j + 1) y
+most-more P j x y m is =
+    record {
+      inline = omega (arith, m .inline);
+      entries = λ t h.
+          elim (decLe j t) [
+            | yes d ↦ (let same : t ≡ j = omega arith in rw same (omega arith))
+            | no d ↦ omega (arith, m .entries t (omega arith))
+          ];
+    }
+
+pub most-all : (P : Parts) → SoundParts P → ((i : ℕ) → P .byte i < 256) → (j x : ℕ) → MostOf P j x → P .k ≤ j
+    → NoneAbove (P .n) (valueOf P) x
+most-all P sound bytes j x m all i h =
+    slot-cases P sound bytes i h (λ small e. omega (arith, m .inline))
+    (λ t ht at e w far. omega (arith, m .entries t (omega arith)))
+
+pub none-large : (of : Addend) (P Q : Parts) (x y : ℕ) → NoneAbove (P .n) (valueOf P) x → NoneAbove (P .n) (addendAt of Q) y
+    → y ≤ maxDistance - x → x ≤ maxDistance → P .n ≡ firstBelow (tooLarge of P Q) (P .n)
+none-large of P Q x y first second small fits =
+    sym (firstBelow-none (tooLarge of P Q) (P .n)
+    (λ i h. le-ltb maxDistance (addedAt of P Q i) (omega (arith, first i h, second i h))))

@@ -2,41 +2,40 @@
 -- writes its overflow entries.
 --   count-map, count-number        the results 255 are the slots in overflow
 --   primary-map, primary-number    the results are the primary bytes
---   Putting                        the walk's invariant: the entries of slots from `slot` on are left, the primary
---                                  bytes stand, and both cursors are at `slot`, which is in overflow
---   putting-start, -more, -end
+--   Putting                        the walk's invariant: the entries of slots from `from` on are left, and both cursors
+--                                  are there
+--   PutAt                          and at the next slot in overflow
+--   putting-start, -next, -more
 -- Axioms: none.
-use mathlib.Core.Path.{_≡_, refl, sym, ap, ap₂, _∙_}
-use Prim.Native.Nat.{ℕ, _+_, _-_, _*_, _≤_, _<_}
+use mathlib.Core.Path.{_≡_, sym, ap, ap₂, _∙_}
+use Prim.Native.Nat.{ℕ, _+_, _-_, _*_, _<_}
 use native.Mathlib.Omega.{arith}
-use mathlib.Core.Bool.{Bool, true, false}
+use mathlib.Core.Bool.{Bool}
 use mathlib.Core.List.{List, _++_}
-use lib.ListN.{length, getD, take}
-use lib.Seq.{sets, getD-take}
+use lib.ListN.{length}
+use lib.Seq.{sets}
 use lib.Dec.{leb, eqb}
-use borrow.Author.Tests.{leb-true, leb-false}
 use Rattle.pciv_bytes.specs.Ranges.{flag, table, sumFrom}
-use Rattle.pciv_bytes.specs.LittleEndian.{le}
+use Rattle.pciv_bytes.specs.LittleEndian.{le, get}
 use Rattle.pciv_bytes.specs.Counts.{byteAt, byteFrom}
-use Rattle.pciv_bytes.specs.Find.{Next}
 use Rattle.pciv_bytes.specs.Pairs.{byteOp, pairAt, oneAt, fullAt}
 use Rattle.pciv_bytes.specs.declared.pairs.ByteOp.the-variants.{Add}
 use Rattle.pciv_bytes.proofs.RangesLaws.{table-cong}
 use Rattle.pciv_bytes.proofs.SumLaws.{sumFrom-cong}
-use Rattle.pciv_bytes.proofs.WriteLaws.{take-sets}
-use Rattle.pciv_format.specs.Layout.{inOverflow, primaryByte, primary, overflowCount, overflowPart}
-use Rattle.pciv_format.specs.Parts.{Parts, valueOf}
+use Rattle.pciv_format.specs.Layout.{inOverflow, primaryByte, primary, overflowCount}
+use Rattle.pciv_format.specs.Parts.{Parts}
 use Rattle.pciv_format.specs.Check.{fileParts}
-use Rattle.pciv_build.proofs.EntriesLaws.{EntriesLeft, entries-start, entries-more, entries-gap, entries-end, overflowCount-sum}
+use Rattle.pciv_build.proofs.EntriesLaws.{overflowCount-sum}
+use Rattle.pciv_build.proofs.FillLaws.{full-is, Filling, Next, fill-next, fill-more}
 use Rattle.pciv_map.specs.Cursor.{Cursor, TakenAt}
 use Rattle.pciv_map.specs.declared.cursor.Taken.{Taken}
 use Rattle.pciv_map.proofs.MapLaws.{primaryOf, primary-length, primary-at}
 use Rattle.pciv_map.proofs.CursorLaws.{cursor-start, cursor-gap}
-use Rattle.pciv_addition.specs.Addition.{addendAt, addedAt, CursorOf, TakenOf, HoldsPrimary}
+use Rattle.pciv_addition.specs.Addition.{addedAt, CursorOf, TakenOf}
 use Rattle.pciv_addition.specs.declared.addend.Addend.{Addend}
 use Rattle.pciv_addition.specs.declared.addend.Addend.the-variants.{Map, Number}
 use Rattle.pciv_addition.proofs.PairOfParts.{SoundPair, Maps, sound, cursorOf-start, cursorOf-gap}
-use Rattle.pciv_addition.proofs.BytesLaws.{full-is, added-byte, from-is}
+use Rattle.pciv_addition.proofs.BytesLaws.{added-byte, from-is}
 
 -- ---- the count and the primary bytes
 
@@ -95,84 +94,41 @@ module _ {a b : List ℕ} {n ka kb : ℕ} (m : Maps a b n ka kb) where
 
 -- ---- the overflow entries
 
--- both cursors are at slot i, and the entries of slots from i on are left
-record PutTo (of : Addend) (P Q : Parts) (d₀ : List ℕ) (i : ℕ) (d : List ℕ) (at j t : ℕ) : Type 0 where
-  left : EntriesLeft (P .n) (addedAt of P Q) d₀ (40 + P .n) i d at
-  behind : 40 + P .n ≤ at
-  kept : take (40 + P .n) d ≡ take (40 + P .n) d₀
-  first : Cursor P j i
-  second : CursorOf of Q t i
+pub record Putting (of : Addend) (P Q : Parts) (d₀ d : List ℕ) (at j t : ℕ) : Type 0 where
+  pub from : ℕ
+  pub fill : Filling (P .n) (addedAt of P Q) d₀ from d at
+  pub first : Cursor P j from
+  pub second : CursorOf of Q t from
 
-pub record Putting (of : Addend) (P Q : Parts) (d₀ : List ℕ) (slot : ℕ) (d : List ℕ) (at j t : ℕ) : Type 0 where
-  pub left : EntriesLeft (P .n) (addedAt of P Q) d₀ (40 + P .n) slot d at
-  pub behind : 40 + P .n ≤ at
-  pub kept : take (40 + P .n) d ≡ take (40 + P .n) d₀
+pub record PutAt (of : Addend) (P Q : Parts) (from : ℕ) (d : List ℕ) (at j t slot : ℕ) : Type 0 where
+  pub next : Next (P .n) (addedAt of P Q) from d at slot
   pub first : Cursor P j slot
   pub second : CursorOf of Q t slot
-  pub full : slot < P .n → 255 ≤ addedAt of P Q slot
 
--- the places of the primary bytes 255 of d
-abbrev fullIn : List ℕ → ℕ → Bool
-fullIn d i = eqb (byteAt d (40 + i)) 255
+module _ {P Q : Parts} (p : SoundPair P Q) (of : Addend) (d₀ : List ℕ) where
+  pub putting-start : (d : List ℕ) → Filling (P .n) (addedAt of P Q) d₀ 0 d (40 + P .n) → Putting of P Q d₀ d (40 + P .n) 0 0
+  putting-start d fill = record { from = 0; fill = fill; first = cursor-start P; second = cursorOf-start of Q }
 
-module _ {P Q : Parts} (p : SoundPair P Q) (of : Addend) (d₀ : List ℕ) (holds : HoldsPrimary (P .n) (addedAt of P Q) d₀) where
-  -- in a buffer with the same primary bytes
-  full-at : (d : List ℕ) → take (40 + P .n) d ≡ take (40 + P .n) d₀ → (i : ℕ) → i < P .n
-      → fullIn d i ≡ inOverflow (addedAt of P Q i)
-  full-at d kept i h =
-      let inside : 40 + i < 40 + P .n = omega arith in
-      let same : byteAt d (40 + i) ≡ byteAt d₀ (40 + i) =
-      sym (getD-take (40 + P .n) d (40 + i) 0 inside)
-      ∙ ap (λ (l : List ℕ). getD l (40 + i) 0) kept
-      ∙ getD-take (40 + P .n) d₀ (40 + i) 0 inside in
-      ap (λ (x : ℕ). eqb x 255) (same ∙ holds i h) ∙ full-is (addedAt of P Q i)
-
-  -- from slot i on to the next primary byte 255
-  putting-to : (i slot : ℕ) (d : List ℕ) (at j t : ℕ) → PutTo of P Q d₀ i d at j t → Next (fullIn d) i (P .n) slot
-      → Putting of P Q d₀ slot d at j t
-  putting-to i slot d at j t w next =
-      let low : i ≤ slot = next .before .low in
-      let high : slot ≤ P .n = next .before .high in
-      let none : (u : ℕ) → i ≤ u → u < slot → addedAt of P Q u < 255 =
-      λ u h₁ h₂. leb-false 255 (addedAt of P Q u) (sym (full-at d (w .kept) u (omega arith)) ∙ next .before .clear u h₁ h₂) in
+  pub putting-next : (d : List ℕ) (at j t : ℕ) (w : Putting of P Q d₀ d at j t)
+      → at < 40 + P .n + 12 * overflowCount (P .n) (addedAt of P Q) → (slot : ℕ) → slot ≡ get 8 d at
+      → PutAt of P Q (w .from) d at j t slot
+  putting-next d at j t w more slot is =
+      let next : Next (P .n) (addedAt of P Q) (w .from) d at slot = rw is (fill-next (w .fill) more) in
       record {
-        left = entries-gap (w .left) slot low high none;
-        behind = w .behind;
-        kept = w .kept;
-        first = cursor-gap P (p .first) (p .bytes-first) j i slot (w .first) low (λ u h₁ h₂. omega (arith, none u h₁ h₂));
-        second = cursorOf-gap p of t i slot (w .second) low (λ u h₁ h₂. omega (arith, none u h₁ h₂));
-        full = λ h. leb-true 255 (addedAt of P Q slot) (sym (full-at d (w .kept) slot h) ∙ next .has h);
+        next = next;
+        first = cursor-gap P (p .first) (p .bytes-first) j (w .from) slot (w .first) (next .low)
+            (λ u h₁ h₂. omega (arith, next .clear u h₁ h₂));
+        second = cursorOf-gap p of t (w .from) slot (w .second) (next .low) (λ u h₁ h₂. omega (arith, next .clear u h₁ h₂));
       }
 
-  pub putting-start : (slot : ℕ) → 40 + P .n + 12 * overflowCount (P .n) (addedAt of P Q) ≤ length d₀
-      → Next (fullIn d₀) 0 (P .n) slot → Putting of P Q d₀ slot d₀ (40 + P .n) 0 0
-  putting-start slot room next =
-      putting-to 0 slot d₀ (40 + P .n) 0 0
-      (record {
-        left = entries-start (P .n) (addedAt of P Q) d₀ (40 + P .n) room;
-        behind = omega arith;
-        kept = refl;
-        first = cursor-start P;
-        second = cursorOf-start of Q;
-      })
-      next
-
   -- the entry of the slot is written
-  pub putting-more : (slot next at at' : ℕ) (d d' : List ℕ) (j t : ℕ) (x y : Taken) (z : ℕ) → Putting of P Q d₀ slot d at j t
-      → slot < P .n → TakenAt P slot x → TakenOf of Q slot y → z ≡ x .distance + y .distance
-      → d' ≡ sets d at (le 8 slot ++ le 4 z) → at' ≡ at + 12 → Next (fullIn d') (slot + 1) (P .n) next
-      → Putting of P Q d₀ next d' at' (x .next) (y .next)
-  putting-more slot next at at' d d' j t x y z w here tx ty sum put step found =
-      putting-to (slot + 1) next d' at' (x .next) (y .next)
-      (record {
-        left = entries-more (w .left) here (w .full here) z d' at' (omega (arith, tx .is, ty .is)) put step;
-        behind = omega (arith, w .behind);
-        kept = rw put (take-sets (40 + P .n) (le 8 slot ++ le 4 z) d at (w .behind) ∙ w .kept);
+  pub putting-more : (d d' : List ℕ) (at at' j t slot : ℕ) (x y : Taken) (z : ℕ) (w : Putting of P Q d₀ d at j t)
+      → PutAt of P Q (w .from) d at j t slot → TakenAt P slot x → TakenOf of Q slot y → z ≡ x .distance + y .distance
+      → d' ≡ sets d at (le 8 slot ++ le 4 z) → at' ≡ at + 12 → Putting of P Q d₀ d' at' (x .next) (y .next)
+  putting-more d d' at at' j t slot x y z w here tx ty sum put step =
+      record {
+        from = slot + 1;
+        fill = fill-more (w .fill) slot z d' at' (here .next) (omega (arith, tx .is, ty .is)) put step;
         first = tx .next;
         second = ty .next;
-      })
-      found
-
-  pub putting-end : (slot : ℕ) (d : List ℕ) (at j t : ℕ) → Putting of P Q d₀ slot d at j t → P .n ≤ slot
-      → d ≡ sets d₀ (40 + P .n) (overflowPart (P .n) (addedAt of P Q))
-  putting-end slot d at j t w done = entries-end (w .left) done
+      }

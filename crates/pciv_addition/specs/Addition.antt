@@ -5,14 +5,12 @@
 --   tooLarge of P Q i       it is above what a file can hold (refusal 11)
 --   CursorOf, TakenOf, nextOf    a cursor in the entries of Q; nothing is asked of it where a number is added
 --   Small of                a number that is added is at most what a shift can be by
---   Fits n v, HoldsPrimary n v d    every distance can stand in a file; the primary bytes stand in their place in d
+--   NoneAbove n v x, Fits n v       no distance is above x; every one can stand in a file
 -- Laws are in proofs/. Axioms: none.
 use mathlib.Core.Path.{_≡_}
 use Prim.Native.Nat.{ℕ, _+_, _^_, _≤_, _<_}
 use mathlib.Core.Bool.{Bool}
-use mathlib.Core.List.{List}
 use lib.Dec.{ltb}
-use Rattle.pciv_bytes.specs.Counts.{byteAt}
 use Rattle.pciv_format.specs.Layout.{maxDistance, primaryByte}
 use Rattle.pciv_format.specs.Parts.{Parts, valueOf}
 use Rattle.pciv_map.specs.Cursor.{Cursor, nextSlot}
@@ -52,12 +50,12 @@ abbrev pub Small : Addend → Type 0
 Small Map = Unit {0}
 Small (Number d) = d < 2 ^ 31
 
--- ---- what a buffer holds
+-- ---- how large distances are
+
+-- no distance is above x
+abbrev pub NoneAbove : ℕ → (ℕ → ℕ) → ℕ → Type 0
+NoneAbove n v x = (i : ℕ) → i < n → v i ≤ x
 
 -- every distance can stand in a file
 abbrev pub Fits : ℕ → (ℕ → ℕ) → Type 0
-Fits n v = (i : ℕ) → i < n → v i ≤ maxDistance
-
--- the primary bytes of (n, v) stand in their place
-abbrev pub HoldsPrimary : ℕ → (ℕ → ℕ) → List ℕ → Type 0
-HoldsPrimary n v d = (i : ℕ) → i < n → byteAt d (40 + i) ≡ primaryByte (v i)
+Fits n v = NoneAbove n v maxDistance

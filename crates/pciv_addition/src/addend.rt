@@ -1,10 +1,8 @@
 // What is added, at one slot. Where one number is added, the second map is not looked at.
 ghost use mathlib.Core.Path.{_≡_};
 ghost use Prim.Native.Nat.{_<_};
-ghost use Rattle.pciv_format.specs.Layout.{primaryByte};
 ghost use Rattle.pciv_format.specs.Check.{fileParts, CheckedMap};
 ghost use Rattle.pciv_addition.specs.Addition.{CursorOf, TakenOf, nextOf};
-use pciv_format::SENTINEL;
 use pciv_map::cursor::Taken;
 use pciv_map::cursor::next_slot;
 use pciv_map::cursor::take_at;
@@ -39,14 +37,4 @@ pub fn addend_slot(of: Addend, b: &[u8], n: usize, kb: usize, t: usize) -> usize
         Addend::Map => next_slot(b, n, kb, t),
         Addend::Number(_) => n,
     }
-}
-
-// The primary byte of a distance.
-pub fn primary_byte(x: u32) -> u8
-    ensures { λ r. ⌜ r ≡ primaryByte x ⌝ }
-{
-    if x < SENTINEL as u32 {
-        return x as u8;
-    }
-    SENTINEL
 }

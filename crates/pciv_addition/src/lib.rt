@@ -52,7 +52,7 @@ pub fn added_into(
         FileAnswer::Refused(r) => FileAnswer::Refused(r),
         FileAnswer::Done(s) => {
             put_primary(out, of, a, b, n, ka, kb);
-            put_entries(out, of, a, b, n, ka, kb);
+            put_entries(out, of, a, b, n, ka, kb, k);
             finish(out, n, k);
             FileAnswer::Done(s)
         }

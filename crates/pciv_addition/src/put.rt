@@ -1,21 +1,20 @@
 // The parts of the result: how many of its slots are in overflow, its primary bytes, its overflow entries.
 ghost use mathlib.Core.Path.{_≡_};
-ghost use Prim.Native.Nat.{ℕ, _+_, _*_, _≤_};
+ghost use Prim.Native.Nat.{_+_, _*_, _≤_};
 ghost use lib.ListN.{length};
-ghost use lib.Dec.{eqb};
 ghost use lib.Seq.{sets};
-ghost use Rattle.pciv_bytes.specs.Counts.{byteAt};
-ghost use Rattle.pciv_bytes.specs.Find.{Next};
 ghost use Rattle.pciv_format.specs.Layout.{primary, overflowCount, overflowPart};
 ghost use Rattle.pciv_format.specs.Check.{fileParts};
 ghost use Rattle.pciv_check.specs.Pair.{CheckedPair};
-ghost use Rattle.pciv_addition.specs.Addition.{addedAt, HoldsPrimary, Fits};
+ghost use Rattle.pciv_build.specs.Slots.{HoldsPrimary};
+ghost use Rattle.pciv_addition.specs.Addition.{addedAt, Fits};
 use crate::addend::Addend;
-use crate::addend::primary_byte;
 use crate::addend::take_addend;
+use pciv_build::primary_byte;
 use pciv_build::put_entry;
+use pciv_build::slots::put_slots;
 use pciv_bytes::counts::count_from;
-use pciv_bytes::find::next_byte;
+use pciv_bytes::little_endian::get64;
 use pciv_bytes::pairs::ByteOp;
 use pciv_bytes::pairs::count_full;
 use pciv_bytes::pairs::map_into;
@@ -61,32 +60,36 @@ pub fn put_primary(out: &mut [u8], of: Addend, a: &[u8], b: &[u8], n: usize, ka:
     }
 }
 
-// The next slot from `from` on whose primary byte is 255, or n.
-fn next_full(file: &[u8], n: usize, from: usize) -> usize
-    requires { ⌜ (from ≤ n) × (40 + n ≤ length (now file)) ⌝ }
-    ensures { λ r. ⌜ Next (λ (i : ℕ). eqb (byteAt (now (file .entry)) (40 + i)) 255) from n r ⌝ }
-{
-    next_byte(file, HEADER_LEN + from, HEADER_LEN + n, SENTINEL) - HEADER_LEN
-}
-
-// Writes the overflow entries of the result, whose primary bytes stand in the buffer.
-pub fn put_entries(out: &mut [u8], of: Addend, a: &[u8], b: &[u8], n: usize, ka: usize, kb: usize)
+// Writes the overflow entries of the result, k of them, whose primary bytes stand in the buffer: first their slots, then
+// at each slot the distance.
+pub fn put_entries(
+    out: &mut [u8],
+    of: Addend,
+    a: &[u8],
+    b: &[u8],
+    n: usize,
+    ka: usize,
+    kb: usize,
+    k: usize,
+)
     requires { ⌜ CheckedPair (now a) (now b) n ka kb ⌝ }
     requires { ⌜ Fits n (addedAt of (fileParts (now a) n ka) (fileParts (now b) n kb)) ⌝ }
     requires { ⌜ HoldsPrimary n (addedAt of (fileParts (now a) n ka) (fileParts (now b) n kb)) (now out) ⌝ }
-    requires { ⌜ 40 + n + 12 * overflowCount n (addedAt of (fileParts (now a) n ka) (fileParts (now b) n kb)) ≤ length (now out) ⌝ }
+    requires { ⌜ k ≡ overflowCount n (addedAt of (fileParts (now a) n ka) (fileParts (now b) n kb)) ⌝ }
+    requires { ⌜ 40 + n + 12 * k ≤ length (now out) ⌝ }
     ensures { λ _. ⌜ now (out .exit) ≡ sets (now (out .entry)) (40 + n) (overflowPart n (addedAt of (fileParts (now (a .entry)) n ka) (fileParts (now (b .entry)) n kb))) ⌝ }
 {
+    put_slots(out, n);
     let mut at = HEADER_LEN + n;
+    let end = at + 12 * k;
     let mut j = 0;
     let mut t = 0;
-    let mut slot = next_full(out, n, 0);
-    while slot < n {
+    while at < end {
+        let slot = get64(out, at);
         let x = take_at(a, n, ka, j, slot);
         let y = take_addend(of, b, n, kb, t, slot);
         j = x.next;
         t = y.next;
         at = put_entry(out, at, slot, x.distance + y.distance);
-        slot = next_full(out, n, slot + 1);
     }
 }

@@ -4,26 +4,28 @@
 --   -start, -more, -skip, -gap, -end
 --                  before the first slot; past a slot in overflow; past one that is not; past all slots up
 --                  to s, none of which is in overflow; after the last slot
---   entries-over   past a slot whose entry is written in any case, and overwritten by the next where it does not count
+--   entries-done   where no slot in overflow is left;  rest-before  what stands before the entries stays as it was
 use mathlib.Core.Path.{_≡_, refl, sym, ap, _∙_}
 use Prim.Native.Nat.{ℕ, zero, suc, _+_, _-_, _*_, _≤_, _<_}
 use native.Mathlib.Nat.{add-zero, sub-zero, zero-add}
 use native.Mathlib.Numerals.{add-one}
 use native.Mathlib.Omega.{arith}
-use native.Mathlib.Decide.{decLe}
 use mathlib.Core.Bool.{Bool, true, false}
 use mathlib.Core.List.{List, [], _∷_, _++_}
-use lib.ListN.{length, getD, take}
-use lib.Seq.{sets, length-sets, getD-take}
+use lib.ListN.{length, getD}
+use lib.Seq.{sets, length-sets}
 use borrow.Author.Tests.{le-leb, lt-leb}
 use Rattle.pciv_bytes.specs.Ranges.{flag, positions, joined, sumFrom, keepIf}
 use Rattle.pciv_bytes.specs.LittleEndian.{le}
-use Rattle.pciv_bytes.proofs.JoinedLaws.{length-joined}
-use Rattle.pciv_bytes.proofs.WriteLaws.{sets-append, take-sets, sets-over}
+use Rattle.pciv_bytes.proofs.WriteLaws.{sets-append, getD-sets-below}
 use Rattle.pciv_format.specs.Layout.{inOverflow, overflowSlots, overflowCount, overflowEntry, overflowPart}
 use Rattle.pciv_format.proofs.LayoutLaws.{length-overflowEntry}
 unfoldable pub use Rattle.pciv_build.specs.Entries.{slotsFrom, entriesFrom}
-pub use Rattle.pciv_build.specs.Entries.{EntriesPut, EntriesLeft}
+pub use Rattle.pciv_build.specs.Entries.{EntriesLeft}
+
+pub slotsFrom-is : (n : ℕ) (v : ℕ → ℕ) (i : ℕ) → slotsFrom n v i ≡ positions (λ (j : ℕ). inOverflow (v j)) i (n - i)
+unfolding slotsFrom
+slotsFrom-is n v i = refl
 
 module _ (n : ℕ) (v : ℕ → ℕ) where
   pub slotsFrom-start : slotsFrom n v 0 ≡ overflowSlots n v
@@ -65,10 +67,6 @@ entriesFrom-start : (n : ℕ) (v : ℕ → ℕ) → entriesFrom n v 0 ≡ overfl
 unfolding entriesFrom overflowPart
 entriesFrom-start n v = rw (slotsFrom-start n v)
 
-length-entriesFrom : (n : ℕ) (v : ℕ → ℕ) (i : ℕ) → length (entriesFrom n v i) ≡ 12 * length (slotsFrom n v i)
-unfolding entriesFrom
-length-entriesFrom n v i = length-joined (overflowEntry v) 12 (length-overflowEntry v) (slotsFrom n v i)
-
 entriesFrom-more : (n : ℕ) (v : ℕ → ℕ) (i : ℕ) → i < n → 255 ≤ v i → entriesFrom n v i ≡ overflowEntry v i ++ entriesFrom n v (i + 1)
 unfolding entriesFrom joined
 entriesFrom-more n v i h far = rw (slotsFrom-more n v i h far)
@@ -77,9 +75,14 @@ entriesFrom-cong : (n : ℕ) (v : ℕ → ℕ) (i s : ℕ) → slotsFrom n v i �
 unfolding entriesFrom
 entriesFrom-cong n v i s same = ap (joined (overflowEntry v)) same
 
-entriesFrom-end : (n : ℕ) (v : ℕ → ℕ) (i : ℕ) → n ≤ i → entriesFrom n v i ≡ []
-unfolding entriesFrom joined
-entriesFrom-end n v i h = rw (slotsFrom-end n v i h)
+no-entries : (v : ℕ → ℕ) (xs : List ℕ) → length xs ≡ 0 → joined (overflowEntry v) xs ≡ []
+unfolding joined
+no-entries v [] none = refl
+no-entries v (x ∷ xs) none = absurd (omega arith)
+
+entriesFrom-none : (n : ℕ) (v : ℕ → ℕ) (i : ℕ) → length (slotsFrom n v i) ≡ 0 → entriesFrom n v i ≡ []
+unfolding entriesFrom
+entriesFrom-none n v i none = no-entries v (slotsFrom n v i) none
 
 overflowEntry-is : (v : ℕ → ℕ) (s : ℕ) → overflowEntry v s ≡ le 8 s ++ le 4 (v s)
 unfolding overflowEntry
@@ -87,32 +90,31 @@ overflowEntry-is v s = refl
 
 -- ---- a walk that writes the entries
 
--- nothing is put yet
-pub entries-none : (n : ℕ) (v : ℕ → ℕ) (i : ℕ) (d : List ℕ) (p : ℕ) → i ≤ n → p + 12 * length (slotsFrom n v i) ≤ length d
-    → EntriesPut n v i d p i d p
-entries-none n v i d p h fits =
-    record { inside = h; size = refl; low = omega arith; count = refl; room = fits; rest = refl }
+-- where writing xs from p₀ on comes to writing ys from p on, what stands before p₀ is the same
+pub rest-before : (xs ys d₀ d : List ℕ) (p₀ p : ℕ) → p₀ ≤ p → sets d₀ p₀ xs ≡ sets d p ys → (j : ℕ) → j < p₀
+    → getD d j 0 ≡ getD d₀ j 0
+rest-before xs ys d₀ d p₀ p low rest j h =
+    sym (getD-sets-below ys d p j (omega arith)) ∙ ap (λ (l : List ℕ). getD l j 0) (sym rest) ∙ getD-sets-below xs d₀ p₀ j h
 
 pub entries-start : (n : ℕ) (v : ℕ → ℕ) (d : List ℕ) (p : ℕ) → p + 12 * overflowCount n v ≤ length d → EntriesLeft n v d p 0 d p
-entries-start n v d p h = entries-none n v 0 d p (omega arith) (omega (arith, count-slotsFrom n v))
+entries-start n v d p h =
+    record {
+      inside = omega arith;
+      size = refl;
+      low = omega arith;
+      count = refl;
+      room = omega (arith, count-slotsFrom n v);
+      rest = refl;
+    }
 
-module _ {n : ℕ} {v : ℕ → ℕ} {from : ℕ} {d₀ : List ℕ} {p₀ i : ℕ} {d : List ℕ} {p : ℕ} (e : EntriesPut n v from d₀ p₀ i d p) where
+module _ {n : ℕ} {v : ℕ → ℕ} {d₀ : List ℕ} {p₀ i : ℕ} {d : List ℕ} {p : ℕ} (e : EntriesLeft n v d₀ p₀ i d p) where
   -- there is room for the entry of slot i
   pub entries-room : i < n → 255 ≤ v i → p + 12 ≤ length d
   entries-room h far = omega (arith, e .room, ap length (slotsFrom-more n v i h far))
 
-  -- what stands before the entries stays as it was
-  pub entries-before : (j : ℕ) → j < p₀ → getD d j 0 ≡ getD d₀ j 0
-  entries-before j h =
-      let same : take p₀ d ≡ take p₀ d₀ =
-      sym (take-sets p₀ (entriesFrom n v i) d p (e .low))
-      ∙ ap (take p₀) (sym (e .rest))
-      ∙ take-sets p₀ (entriesFrom n v from) d₀ p₀ (omega arith) in
-      sym (getD-take p₀ d j 0 h) ∙ ap (λ (l : List ℕ). getD l j 0) same ∙ getD-take p₀ d₀ j 0 h
-
   -- the entry of slot i is written
   pub entries-more : i < n → 255 ≤ v i → (x : ℕ) (d' : List ℕ) (p' : ℕ) → x ≡ v i → d' ≡ sets d p (le 8 i ++ le 4 x) → p' ≡ p + 12
-      → EntriesPut n v from d₀ p₀ (i + 1) d' p'
+      → EntriesLeft n v d₀ p₀ (i + 1) d' p'
   entries-more h far x d' p' is put next =
       let same : d' ≡ sets d p (overflowEntry v i) = put ∙ rw (is, overflowEntry-is v i) in
       let long : length d' ≡ length d = ap length same ∙ length-sets d p (overflowEntry v i) in
@@ -129,7 +131,7 @@ module _ {n : ℕ} {v : ℕ → ℕ} {from : ℕ} {d₀ : List ℕ} {p₀ i : �
       }
 
   -- no slot from i up to s is in overflow
-  pub entries-gap : (s : ℕ) → i ≤ s → s ≤ n → ((j : ℕ) → i ≤ j → j < s → v j < 255) → EntriesPut n v from d₀ p₀ s d p
+  pub entries-gap : (s : ℕ) → i ≤ s → s ≤ n → ((j : ℕ) → i ≤ j → j < s → v j < 255) → EntriesLeft n v d₀ p₀ s d p
   entries-gap s h₁ h₂ none =
       let slots = slotsFrom-gap n v i s h₁ h₂ none in
       record {
@@ -142,62 +144,21 @@ module _ {n : ℕ} {v : ℕ → ℕ} {from : ℕ} {d₀ : List ℕ} {p₀ i : �
       }
 
   -- slot i is not in overflow
-  pub entries-skip : i < n → v i < 255 → EntriesPut n v from d₀ p₀ (i + 1) d p
+  pub entries-skip : i < n → v i < 255 → EntriesLeft n v d₀ p₀ (i + 1) d p
   entries-skip h inline =
       entries-gap (i + 1) (omega arith) (omega arith)
       (λ j h₁ h₂. (let same : i ≡ j = omega arith in rw same at inline))
 
-  -- no entry is left
-  pub entries-full : i < n → p₀ + 12 * length (slotsFrom n v from) ≤ p → EntriesPut n v from d₀ p₀ (i + 1) d p
-  entries-full h full =
-      elim (decLe 255 (v i)) [
-        | yes far ↦ absurd (omega (arith, e .count, ap length (slotsFrom-more n v i h far)))
-        | no inline ↦ entries-skip h (omega arith)
-      ]
-
-  -- an entry is left; that of slot i is written, and where it does not count the next is written over it
-  pub entries-over : i < n → p < p₀ + 12 * length (slotsFrom n v from) → (x : ℕ) (d' : List ℕ) (p' : ℕ) → x ≡ v i
-      → d' ≡ sets d p (le 8 i ++ le 4 x) → p' ≡ p + 12 * flag (inOverflow x) → EntriesPut n v from d₀ p₀ (i + 1) d' p'
-  entries-over h left x d' p' is put next =
-      elim (decLe 255 (v i)) [
-        | yes far ↦ (let one : flag (inOverflow x) ≡ 1 = ap flag (le-leb 255 x (omega arith)) in
-            entries-more h far x d' p' is put (omega arith))
-        | no inline ↦ (let zero : flag (inOverflow x) ≡ 0 = ap flag (lt-leb 255 x (omega arith)) in
-            written (entries-skip h (omega arith)) (omega arith))
-      ]
-    where
-      written : EntriesPut n v from d₀ p₀ (i + 1) d p → p' ≡ p → EntriesPut n v from d₀ p₀ (i + 1) d' p'
-      written f there =
-          let same : d' ≡ sets d p (overflowEntry v i) = put ∙ rw (is, overflowEntry-is v i) in
-          let long : length d' ≡ length d = ap length same ∙ length-sets d p (overflowEntry v i) in
-          let short : length (overflowEntry v i) ≤ length (entriesFrom n v (i + 1)) =
-          omega (arith, length-overflowEntry v i, length-entriesFrom n v (i + 1), f .count) in
-          record {
-            inside = f .inside;
-            size = long ∙ f .size;
-            low = omega (arith, f .low);
-            count = omega (arith, f .count);
-            room = omega (arith, f .room);
-            rest = f .rest ∙ rw (same, there) (sym (sets-over (overflowEntry v i) (entriesFrom n v (i + 1)) d p short));
-          }
-
-  -- two parts, one after the other
-  pub entries-then : {s : ℕ} {d' : List ℕ} {p' : ℕ} → EntriesPut n v i d p s d' p' → EntriesPut n v from d₀ p₀ s d' p'
-  entries-then f =
-      record {
-        inside = f .inside;
-        size = f .size ∙ e .size;
-        low = omega (arith, e .low, f .low);
-        count = f .count ∙ e .count;
-        room = f .room;
-        rest = e .rest ∙ f .rest;
-      }
+-- no slot in overflow is left
+pub entries-done : {n : ℕ} {v : ℕ → ℕ} {d₀ : List ℕ} {p₀ i : ℕ} {d : List ℕ} {p : ℕ} → EntriesLeft n v d₀ p₀ i d p
+    → length (slotsFrom n v i) ≡ 0 → d ≡ sets d₀ p₀ (overflowPart n v)
+entries-done {n} {v} {d₀} {p₀} {i} {d} {p} e none =
+    sym (ap (sets d₀ p₀) (sym (entriesFrom-start n v)) ∙ e .rest ∙ rw (entriesFrom-none n v i none))
 
 -- no slot is left
 pub entries-end : {n : ℕ} {v : ℕ → ℕ} {d₀ : List ℕ} {p₀ i : ℕ} {d : List ℕ} {p : ℕ} → EntriesLeft n v d₀ p₀ i d p → n ≤ i
     → d ≡ sets d₀ p₀ (overflowPart n v)
-entries-end {n} {v} {d₀} {p₀} {i} {d} {p} e h =
-    sym (ap (sets d₀ p₀) (sym (entriesFrom-start n v)) ∙ e .rest ∙ rw (entriesFrom-end n v i h))
+entries-end {n} {v} {d₀} {p₀} {i} {d} {p} e h = entries-done e (ap length (slotsFrom-end n v i h))
 
 -- ---- a walk that counts: c slots below i are in overflow
 

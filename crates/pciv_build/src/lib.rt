@@ -7,7 +7,7 @@ ghost use Prim.Native.Nat.{_+_, _*_, _≤_};
 ghost use lib.ListN.{length};
 ghost use lib.Seq.{sets};
 ghost use Rattle.pciv_bytes.specs.LittleEndian.{le};
-ghost use Rattle.pciv_format.specs.Layout.{maxSlots, fileLen, header, countsOf};
+ghost use Rattle.pciv_format.specs.Layout.{maxSlots, fileLen, header, countsOf, primaryByte};
 ghost use Rattle.pciv_format.specs.Refusals.{fileAnswer};
 ghost use Rattle.pciv_build.specs.Build.{beginOutcome, beginBuffer, indexFrom};
 use pciv_bytes::little_endian::get64;
@@ -21,7 +21,10 @@ use pciv_format::FileAnswer;
 use pciv_format::HEADER_LEN;
 use pciv_format::MAGIC;
 use pciv_format::Refusal;
+use pciv_format::SENTINEL;
 use pciv_format::Summary;
+
+pub mod slots;
 
 // The summary of a file with n slots and k overflow entries.
 pub fn counts(n: usize, k: usize) -> Summary
@@ -63,6 +66,17 @@ pub fn begin(out: &mut [u8], n: usize, k: usize) -> FileAnswer
     }
     put_header(out, n, k);
     FileAnswer::Done(counts(n, k))
+}
+
+// The primary byte of a distance.
+pub fn primary_byte(x: u32) -> u8
+    ensures { λ r. ⌜ r ≡ primaryByte x ⌝ }
+{
+    if x < SENTINEL as u32 {
+        x as u8
+    } else {
+        SENTINEL
+    }
 }
 
 // Writes an overflow entry, and answers the place after it.

@@ -1,9 +1,8 @@
 // The operations on two distances (pciv_format, specs/Arith.antt).
 ghost use mathlib.Core.Path.{_≡_};
 ghost use Prim.Native.Nat.{_≤_};
-ghost use Rattle.pciv_format.specs.Layout.{maxDistance, primaryByte};
+ghost use Rattle.pciv_format.specs.Layout.{maxDistance};
 ghost use Rattle.pciv_format.specs.Arith.{slotOp};
-use pciv_format::SENTINEL;
 use pciv_format::SlotOp;
 
 // The operation on two distances, whose result is a distance.
@@ -17,14 +16,4 @@ pub fn slot_op(op: SlotOp, x: u32, y: u32) -> u32
         SlotOp::Sum => x + y,
         SlotOp::Difference => if x <= y { 0 } else { x - y },
     }
-}
-
-// The primary byte of a distance.
-pub fn primary_byte(x: u32) -> u8
-    ensures { λ r. ⌜ r ≡ primaryByte x ⌝ }
-{
-    if x < 255 {
-        return x as u8;
-    }
-    SENTINEL
 }

@@ -1,25 +1,19 @@
 -- What `write` answers and leaves, case by case, and what its passes know of the list.
-use mathlib.Core.Path.{_≡_, sym, ap, _∙_}
+use mathlib.Core.Path.{_≡_, sym, _∙_}
 use Prim.Native.Nat.{ℕ, _+_, _-_, _*_, _≤_, _<_}
 use native.Mathlib.Nat.{sub-zero}
 use native.Mathlib.Omega.{arith}
-use native.Mathlib.Decide.{decLe}
-use mathlib.Core.Bool.{false}
 use mathlib.Core.List.{List}
-use lib.ListN.{length, getD}
+use lib.ListN.{length}
 use lib.Seq.{sets}
-use lib.Dec.{eqb}
-use borrow.Author.Tests.{lt-ltb, le-ltb, eqb-false}
+use borrow.Author.Tests.{lt-ltb, le-ltb}
 use Rattle.pciv_bytes.specs.Ranges.{flag, sumFrom}
-use Rattle.pciv_bytes.specs.Any.{anyFrom}
 use Rattle.pciv_bytes.proofs.SumLaws.{flag-le, sumFrom-le}
-use Rattle.pciv_bytes.proofs.AnyLaws.{anyFrom-none}
-use Rattle.pciv_format.specs.Layout.{maxSlots, inOverflow, primaryByte, primary, overflowCount, overflowPart, at}
+use Rattle.pciv_format.specs.Layout.{maxSlots, inOverflow, primary, overflowCount, overflowPart, at}
 use Rattle.pciv_format.specs.Refusals.{done, refused, refuse}
 use Rattle.pciv_format.specs.Write.{fileInto, fileBuffer, writeOutcome, writeBuffer}
 use Rattle.pciv_format.specs.declared.Summary.{Summary}
 use Rattle.pciv_format.specs.declared.Refusal.{Refusal}
-use Rattle.pciv_format.proofs.PartsLaws.{primaryByte-overflow}
 use Rattle.pciv_build.specs.Build.{beginOutcome, beginBuffer, indexFrom}
 use Rattle.pciv_build.proofs.BuildLaws.{begin-is, built-done, built-refused}
 use Rattle.pciv_build.proofs.EntriesLaws.{overflowCount-sum}
@@ -35,18 +29,6 @@ count-is xs c e = e ∙ rw sub-zero (sym (overflowCount-sum (length xs) (at xs))
 
 pub count-small : (xs : List ℕ) → sumFrom (overflowAt xs) 0 (length xs - 0) ≤ length xs
 count-small xs = omega (arith, sumFrom-le (overflowAt xs) 1 (λ j. flag-le (inOverflow (at xs j))) 0 (length xs - 0))
-
--- ---- a block with no primary byte 255 has no slot in overflow
-
-pub block-clear : (v : ℕ → ℕ) (d : List ℕ) (from to : ℕ) → ((i : ℕ) → from ≤ i → i < to → getD d (40 + i) 0 ≡ primaryByte (v i))
-    → anyFrom (λ (i : ℕ). eqb (getD d i 0) 255) (40 + from) (40 + to - (40 + from)) ≡ false
-    → (i : ℕ) → from ≤ i → i < to → v i < 255
-block-clear v d from to bytes none i h₁ h₂ =
-    let here = anyFrom-none (λ (i : ℕ). eqb (getD d i 0) 255) (40 + to - (40 + from)) (40 + from) none (40 + i) (omega arith) (omega arith) in
-    elim (decLe 255 (v i)) [
-      | yes far ↦ absurd (eqb-false _ _ here (bytes i h₁ h₂ ∙ primaryByte-overflow (v i) far))
-      | no inline ↦ omega arith
-    ]
 
 -- ---- the answer and the buffer
 

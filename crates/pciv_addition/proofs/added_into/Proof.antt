@@ -1,11 +1,10 @@
 -- Proves pciv_addition::added_into: either a slot is too large, or the parts are written one after another, which is
 -- the file (the laws of pciv_build).
-use mathlib.Core.Path.{_≡_, refl, sym, ap, _∙_}
-use Prim.Native.Nat.{ℕ, _+_, _≤_}
+use mathlib.Core.Path.{_≡_, sym, ap, _∙_}
+use Prim.Native.Nat.{ℕ, _≤_}
 use native.Mathlib.Omega.{arith}
 use mathlib.Core.List.{List}
 use lib.ListN.{length}
-use Rattle.pciv_format.specs.Layout.{overflowCount}
 use Rattle.pciv_format.specs.Refusals.{Outcome, done, refused, fileAnswer}
 use Rattle.pciv_format.specs.Check.{fileParts}
 use Rattle.pciv_format.specs.Write.{fileInto, mapInto, fileBuffer}
@@ -120,7 +119,7 @@ put-entries-requires c κs =
         fits (e .before),
         (
           holds-primary (s .args .n) (v s) _ _ (omega (arith, b .begin .kept .0, g .entries)) (p .put-primary .ensures),
-          omega (arith, p .put-primary .kept .0, b .begin .kept .0, g .entries, e .count-added .ensures),
+          (e .count-added .ensures, omega (arith, p .put-primary .kept .0, b .begin .kept .0, g .entries)),
         ),
       ),
     )

@@ -1,35 +1,44 @@
--- Proves pciv_write::put_entries. Invariant: the entries of the slots from i on are left. Falls: n - i.
--- The list reasoning is in EntriesLaws.antt of pciv_build.
-use mathlib.Core.Path.{_≡_, sym, _∙_}
-use Prim.Native.Nat.{_+_, _-_, _*_}
+-- Proves pciv_write::put_entries. Invariant: the entries of the slots from some slot on are left. Falls: end - place.
+use mathlib.Core.Path.{_≡_, refl, _∙_}
+use Prim.Native.Nat.{ℕ, _+_, _-_, _*_, _≤_}
 use native.Mathlib.Omega.{arith}
+use mathlib.Core.List.{List}
 use lib.ListN.{length}
-use Rattle.pciv_format.specs.Layout.{at}
-use Rattle.pciv_build.specs.Entries.{slotsFrom, EntriesLeft}
-use Rattle.pciv_build.proofs.EntriesLaws.{count-slotsFrom, entries-start, entries-before, entries-gap, entries-then, entries-end}
-use Rattle.pciv_write.proofs.WriteLaws.{block-clear}
+use Rattle.pciv_bytes.specs.LittleEndian.{get}
+use Rattle.pciv_format.specs.Layout.{overflowCount, at}
+use Rattle.pciv_build.proofs.FillLaws.{same-count, Filling, Next, fill-start, fill-next, fill-more, fill-over, fill-end}
 use borrow.Author.Needs.{needs}
 use Rattle.pciv_write.proofs.put_entries.Statement.{statement}
 use Rattle.pciv_write.proofs.put_entries.Tie as tie
 
 abbrev Inv-loop : tie.InvT-loop
-Inv-loop out₀ distances k n place₀ end i₀ out place i =
-    EntriesLeft (length distances) (at distances) out₀ (40 + length distances) i out place
+Inv-loop out₀ distances k n place₀ end out place = (from : ℕ) × Filling (length distances) (at distances) out₀ from out place
 
 abbrev μ-loop : tie.MeasureT-loop
-μ-loop out₀ distances k n place₀ end i₀ out place i = length distances - i
+μ-loop out₀ distances k n place₀ end out place = end - place
 
 -- from the loop: the function's entry
 abbrev entry : tie.At-loop Inv-loop μ-loop → tie.Start Inv-loop μ-loop
-entry c = c .before .before .before
+entry c = c .before .before .before .before .before .before .before
 
--- the entries that are left stand before the index
-end-is : (c : tie.At-loop Inv-loop μ-loop)
-    → (let xs = entry c .args .distances .now in
-    c .loop .place + 12 * length (slotsFrom (length xs) (at xs) (c .loop .i)) ≡ 40 + length xs + 12 * entry c .args .k)
-end-is c =
-    let xs = entry c .args .distances .now in
-    omega (arith, c .loop .inv .count, count-slotsFrom (length xs) (at xs), entry c .pre .0)
+abbrev list : tie.Start Inv-loop μ-loop → List ℕ
+list s = s .args .distances .now
+
+room : (s : tie.Start Inv-loop μ-loop)
+    → 40 + length (list s) + 12 * overflowCount (length (list s)) (at (list s)) ≤ length (s .args .out .now)
+room s = omega (arith, s .pre .1 .0, s .pre .1 .1 .0)
+
+-- the next slot in overflow
+next-at : (c : tie.In-loop Inv-loop μ-loop)
+    → (let l = c .before .loop in
+    let xs = list (entry (c .before)) in
+    (slot : ℕ) → slot ≡ get 8 (l .out) (l .place) → Next (length xs) (at xs) (l .inv .0) (l .out) (l .place) slot)
+next-at c slot is = rw is (fill-next (c .before .loop .inv .1) (omega (arith, c .loop-test .taken, entry (c .before) .pre .1 .0)))
+
+put-slots-requires : tie.Need-put-slots-requires Inv-loop μ-loop
+put-slots-requires c κs =
+    let s = c .before .before .before in
+    omega (arith, same-count (length (list s)) (at (list s)) (s .args .out .now) (s .pre .1 .1 .1), room s)
 
 add-place : tie.Need-add-place Inv-loop μ-loop
 add-place c = search needs
@@ -41,61 +50,55 @@ add-end : tie.Need-add-end Inv-loop μ-loop
 add-end c = search needs
 
 loop-holds : tie.Need-loop-holds Inv-loop μ-loop
-loop-holds c = entries-start _ _ _ _ (omega (arith, c .before .before .pre .0))
+loop-holds c =
+    let p = c .before .before in
+    let s = p .before .before .before .before in
+    (0, fill-start (length (list s)) (at (list s)) (s .args .out .now) _ (s .pre .1 .1 .1) (room s) (p .put-slots .ensures) (s .pre .0))
 
-sub-loop : tie.Need-sub-loop Inv-loop μ-loop
-sub-loop c = search needs
+get64-requires : tie.Need-get64-requires Inv-loop μ-loop
+get64-requires c κs =
+    let l = c .before .before .loop in
+    omega (arith, next-at (c .before) (get 8 (l .out) (l .place)) refl .room)
 
-add-i : tie.Need-add-i Inv-loop μ-loop
-add-i c = search needs
+mul-put-entry : tie.Need-mul-put-entry Inv-loop μ-loop
+mul-put-entry c =
+    let g = c .before in
+    let d = g .before .before in
+    omega (arith, next-at d (g .get64 .result) (g .get64 .ensures) .inside, entry (d .before) .pre .0)
 
-add-any-byte : tie.Need-add-any-byte Inv-loop μ-loop
-add-any-byte c = search needs
+shared-slice-read-put-entry : tie.Need-shared-slice-read-put-entry Inv-loop μ-loop
+shared-slice-read-put-entry c =
+    let g = c .before .before in
+    next-at (g .before .before) (g .get64 .result) (g .get64 .ensures) .inside
 
-add-any-byte-2 : tie.Need-add-any-byte-2 Inv-loop μ-loop
-add-any-byte-2 c = search needs
-
-any-byte-requires : tie.Need-any-byte-requires Inv-loop μ-loop
-any-byte-requires c κs = search needs
-
-put-part-requires : tie.Need-put-part-requires Inv-loop μ-loop
-put-part-requires c κs =
-    let l = c .before .before .before .before .before in
-    ((omega arith, omega arith, omega (arith, l .loop .inv .size)), end-is l)
+put-entry-requires : tie.Need-put-entry-requires Inv-loop μ-loop
+put-entry-requires c κs =
+    let g = c .before .before in
+    next-at (g .before .before) (g .get64 .result) (g .get64 .ensures) .room
 
 loop-less : tie.Need-loop-less Inv-loop μ-loop
-loop-less c = search needs
+loop-less c =
+    let e = c .before .before in
+    let d = e .before .before .before .before .before in
+    omega (arith, e .put-entry .ensures .0, d .loop-test .taken)
 
 loop-again : tie.Need-loop-again Inv-loop μ-loop
 loop-again c =
-    let put = c .before .before in
-    entries-then (put .before .before .before .before .before .before .loop .inv) (put .put-part .ensures)
-
-loop-less-2 : tie.Need-loop-less-2 Inv-loop μ-loop
-loop-less-2 c = search needs
-
-loop-again-2 : tie.Need-loop-again-2 Inv-loop μ-loop
-loop-again-2 c =
-    let l = c .before .before .before .before in
-    let xs = entry l .args .distances .now in
-    let bytes = entry l .pre .1 .1 in
-    entries-gap (l .loop .inv) (l .loop .i + 16) (omega arith) (omega arith)
-    (block-clear (at xs) (l .loop .out) (l .loop .i) (l .loop .i + 16)
-    (λ j h₁ h₂. entries-before (l .loop .inv) (40 + j) (omega arith) ∙ bytes j (omega arith))
-    (sym (c .before .any-byte .ensures) ∙ c .if1 .left))
-
-put-part-requires-2 : tie.Need-put-part-requires-2 Inv-loop μ-loop
-put-part-requires-2 c κs =
-    let l = c .before .before in
-    ((omega (arith, l .loop .inv .inside), omega arith, omega (arith, l .loop .inv .size)), end-is l)
+    let e = c .before .before in
+    let g = e .before .before .before in
+    let d = g .before .before in
+    let next = next-at d (g .get64 .result) (g .get64 .ensures) in
+    (g .get64 .result + 1, fill-more (d .before .loop .inv .1) _ _ _ _ next refl (e .put-entry .ensures .1) (e .put-entry .ensures .0))
 
 same-length : tie.Need-same-length Inv-loop μ-loop
 same-length c = search needs
 
 returns : tie.Need-returns Inv-loop μ-loop
 returns c =
-    let put = c .before .before in
-    entries-end (entries-then (put .before .before .before .loop .inv) (put .put-part2 .ensures)) (omega arith)
+    let l = c .before in
+    let s = entry l in
+    fill-end (l .loop .inv .1) (omega (arith, c .loop-test .left, s .pre .1 .0))
+    ∙ fill-over (length (list s)) (at (list s)) (s .args .out .now) _ (s .pre .1 .1 .1) (room s) (l .before .before .before .put-slots .ensures)
 
 pub put-entries-spec : {M : Type 1} → statement M
 put-entries-spec =
@@ -103,20 +106,16 @@ put-entries-spec =
     (tie.spec
     Inv-loop
     μ-loop
+    put-slots-requires
     add-place
     mul-end
     add-end
     loop-holds
-    sub-loop
-    add-i
-    add-any-byte
-    add-any-byte-2
-    any-byte-requires
-    put-part-requires
+    get64-requires
+    mul-put-entry
+    shared-slice-read-put-entry
+    put-entry-requires
     loop-less
     loop-again
-    loop-less-2
-    loop-again-2
-    put-part-requires-2
     same-length
     returns)

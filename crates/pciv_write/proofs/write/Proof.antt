@@ -4,7 +4,7 @@ use Prim.Native.Nat.{ℕ, _≤_}
 use native.Mathlib.Omega.{arith}
 use mathlib.Core.List.{List}
 use lib.ListN.{length}
-use Rattle.pciv_format.specs.Layout.{maxSlots, overflowCount, at}
+use Rattle.pciv_format.specs.Layout.{maxSlots, at}
 use Rattle.pciv_format.specs.Refusals.{done, refused, fileAnswer}
 use Rattle.pciv_format.proofs.LayoutLaws.{overflowCount-le}
 use Rattle.pciv_format.proofs.RefusalsLaws.{fileAnswer-done, fileAnswer-refused}
@@ -82,10 +82,13 @@ put-entries-requires c κs =
     let k = start .before .before in
     let xs = list k in
     let inside = fits b .entries in (
-      k .count-overflow .ensures,
+      few k,
       (
-        omega (arith, start .begin .kept .0, put .put-primary .kept .0),
-        λ i h. rw (put .put-primary .ensures) (primary-at (length xs) (at xs) _ (omega (arith, start .begin .kept .0)) i h),
+        k .count-overflow .ensures,
+        (
+          omega (arith, start .begin .kept .0, put .put-primary .kept .0),
+          λ i h. rw (put .put-primary .ensures) (primary-at (length xs) (at xs) _ (omega (arith, start .begin .kept .0)) i h),
+        ),
       ),
     )
 

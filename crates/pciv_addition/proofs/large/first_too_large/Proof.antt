@@ -1,112 +1,35 @@
--- Proves large::first_too_large. Invariant: `Walked`. Falls: n - slot.
-use mathlib.Core.Path.{_≡_, sym, _∙_}
-use Prim.Native.Nat.{_+_, _-_, _≤_}
+-- Proves large::first_too_large: the largest of both come to a distance, or the walk finds the slot.
 use native.Mathlib.Omega.{arith}
 use Rattle.pciv_format.specs.Check.{fileParts}
-use Rattle.pciv_addition.proofs.PairOfParts.{Maps, SoundPair, sound}
-use Rattle.pciv_addition.proofs.LargeLaws.{Walked, walked-start, walked-more, walked-found, walked-none}
+use Rattle.pciv_addition.proofs.LargeLaws.{none-large}
 use borrow.Author.Needs.{needs}
 use Rattle.pciv_addition.proofs.large.first_too_large.Statement.{statement}
 use Rattle.pciv_addition.proofs.large.first_too_large.Tie as tie
 
-abbrev Inv-loop : tie.InvT-loop
-Inv-loop of a b n ka kb j₀ t₀ slot₀ j t slot = Walked of (fileParts a n ka) (fileParts b n kb) j t slot
+most-added-requires : tie.Need-most-added-requires
+most-added-requires c κs = search needs
 
-abbrev μ-loop : tie.MeasureT-loop
-μ-loop of a b n ka kb j₀ t₀ slot₀ j t slot = n - slot
+most-in-requires : tie.Need-most-in-requires
+most-in-requires c κs = search needs
 
-abbrev entry : tie.After-shared-slice-known2 Inv-loop μ-loop → tie.Start Inv-loop μ-loop
-entry c = c .before .before
-
-maps : (c : tie.After-shared-slice-known2 Inv-loop μ-loop)
-    → (let a = entry c .args in Maps (a .a .now) (a .b .now) (a .n) (a .ka) (a .kb))
-maps c =
-    record {
-      pair = entry c .pre .0;
-      bytes-a = λ i. c .before .shared-slice-known .given i .fits;
-      bytes-b = λ i. c .shared-slice-known2 .given i .fits;
-    }
-
-either-slot-requires : tie.Need-either-slot-requires Inv-loop μ-loop
-either-slot-requires c κs = c .before .before .pre .0
-
-loop-holds : tie.Need-loop-holds Inv-loop μ-loop
-loop-holds c =
-    let k = c .before in
-    walked-start (sound (maps k)) (entry k .args .of) (entry k .pre .1) (c .either-slot .result) (c .either-slot .ensures)
-
-take-at-requires : tie.Need-take-at-requires Inv-loop μ-loop
-take-at-requires c κs =
-    let s = entry (c .before .before .before) in
-    (s .pre .0 .first, (c .loop-test .taken, c .before .loop .inv .first))
-
-take-addend-requires : tie.Need-take-addend-requires Inv-loop μ-loop
-take-addend-requires c κs =
-    let d = c .before in
-    let s = entry (d .before .before .before) in
-    (s .pre .0 .second, (d .loop-test .taken, d .before .loop .inv .second))
-
-sub-if1 : tie.Need-sub-if1 Inv-loop μ-loop
+sub-if1 : tie.Need-sub-if1
 sub-if1 c = search needs
 
-returns : tie.Need-returns Inv-loop μ-loop
+returns : tie.Need-returns
 returns c =
-    let y = c .before .before .before in
-    let x = y .before in
-    let d = x .before in
-    let k = d .before .before .before in
-    let s = entry k in
-    walked-found (sound (maps k)) (s .args .of) (s .pre .1) _ _ _ (d .before .loop .inv) (d .loop-test .taken)
-    (omega (arith, c .if1 .taken, x .take-at .ensures .is, y .take-addend .ensures .is))
+    let x = c .before in
+    let y = x .before in
+    let a = y .before .before .before .args in
+    none-large (a .of) (fileParts (a .a .now) (a .n) (a .ka)) (fileParts (a .b .now) (a .n) (a .kb)) (x .most-in .result)
+    (y .most-added .result) (x .most-in .ensures) (y .most-added .ensures) (c .if1 .taken) (omega arith)
 
-either-slot-requires-2 : tie.Need-either-slot-requires-2 Inv-loop μ-loop
-either-slot-requires-2 c κs = entry (c .before .before .before .before .before .before .before .before) .pre .0
+walk-large-requires : tie.Need-walk-large-requires
+walk-large-requires c κs = search needs
 
--- one turn: the walk goes on, at a later slot
-again : (c : tie.After-either-slot2 Inv-loop μ-loop)
-    → (let y = c .before .before .before .before in
-    let x = y .before in
-    let l = x .before .before .loop in
-    let a = entry (x .before .before .before .before) .args in
-    Walked (a .of) (fileParts (a .a .now) (a .n) (a .ka)) (fileParts (a .b .now) (a .n) (a .kb)) (x .take-at .result .next) (y .take-addend .result .next) (c .either-slot2 .result)
-    × (l .slot + 1 ≤ c .either-slot2 .result))
-again c =
-    let y = c .before .before .before .before in
-    let x = y .before in
-    let d = x .before in
-    let k = d .before .before .before in
-    let s = entry k in
-    let tx = x .take-at .ensures in
-    let ty = y .take-addend .ensures in
-    let pair = sound (maps k) in
-    walked-more pair (s .args .of) (s .pre .1) _ _ _ _ _ _ (d .before .loop .inv) (d .loop-test .taken)
-    (omega (arith, c .before .if1 .left, tx .is, ty .is, pair .fits-first _ (d .loop-test .taken))) (tx .next) (ty .next) (c .either-slot2 .ensures)
-
-loop-less : tie.Need-loop-less Inv-loop μ-loop
-loop-less c = omega (arith, again c .1)
-
-loop-again : tie.Need-loop-again Inv-loop μ-loop
-loop-again c = again c .0
-
-returns-2 : tie.Need-returns-2 Inv-loop μ-loop
-returns-2 c =
-    let k = c .before .before .before in
-    let s = entry k in
-    walked-none (sound (maps k)) (s .args .of) (s .pre .1) _ _ _ (c .before .loop .inv) (c .loop-test .left)
+returns-2 : tie.Need-returns-2
+returns-2 c = search needs
 
 pub first-too-large-spec : {M : Type 1} → statement M
 first-too-large-spec =
     tie.close
-    (tie.spec
-    Inv-loop
-    μ-loop
-    either-slot-requires
-    loop-holds
-    take-at-requires
-    take-addend-requires
-    sub-if1
-    returns
-    either-slot-requires-2
-    loop-less
-    loop-again
-    returns-2)
+    (tie.spec most-added-requires most-in-requires sub-if1 returns walk-large-requires returns-2)

@@ -1,10 +1,9 @@
--- Proves addend::primary_byte.
+-- Proves pciv_build::primary_byte: one law for each case.
 use mathlib.Core.Path.{sym}
-use native.Mathlib.Omega.{arith}
-use Rattle.pciv_format.proofs.PartsLaws.{primaryByte-overflow, primaryByte-inline}
+use Rattle.pciv_format.proofs.PartsLaws.{primaryByte-inline, primaryByte-overflow}
 use borrow.Author.Needs.{needs}
-use Rattle.pciv_addition.proofs.addend.primary_byte.Statement.{statement}
-use Rattle.pciv_addition.proofs.addend.primary_byte.Tie as tie
+use Rattle.pciv_build.proofs.primary_byte.Statement.{statement}
+use Rattle.pciv_build.proofs.primary_byte.Tie as tie
 
 cast-if1 : tie.Need-cast-if1
 cast-if1 c = search needs

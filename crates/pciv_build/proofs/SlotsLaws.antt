@@ -1,0 +1,110 @@
+-- Entries for slots whose distances are not known yet, written in the order of the slots.
+--   BlanksLeft      the invariant: the entries of the slots xs are left
+--   -start, -more, -part, -skip, -end    before the first; one entry on, several; none; after the last
+--   blanks-room     there is room for the next ones
+--   blanks-before   what stands before the entries stays as it was
+--   slots-part      the slots with primary byte 255: those of a block, and then the others
+--   slots-none      a block has none
+-- Axioms: none.
+use mathlib.Core.Path.{_≡_, refl, sym, ap, subst, _∙_}
+use Prim.Native.Nat.{ℕ, zero, suc, _+_, _-_, _*_, _≤_, _<_}
+use native.Mathlib.Nat.{le-refl}
+use native.Mathlib.Omega.{arith}
+use mathlib.Core.Bool.{Bool, false}
+use mathlib.Core.List.{List, [], _∷_, _++_, append-nil}
+use lib.ListN.{length, getD, length-append}
+use lib.Seq.{sets, length-sets}
+use lib.Dec.{eqb}
+use Rattle.pciv_bytes.specs.Ranges.{positions, joined}
+use Rattle.pciv_bytes.specs.LittleEndian.{le}
+use Rattle.pciv_bytes.specs.Counts.{byteAt}
+use Rattle.pciv_bytes.specs.Any.{anyFrom}
+use Rattle.pciv_bytes.proofs.AnyLaws.{anyFrom-none}
+use Rattle.pciv_bytes.proofs.PositionsLaws.{positions-cong, positions-append}
+use Rattle.pciv_bytes.proofs.JoinedLaws.{joined-append, length-joined}
+use Rattle.pciv_bytes.proofs.WriteLaws.{sets-append}
+use Rattle.pciv_build.specs.Slots.{isFull, fullSlots, blankEntry, blankEntries}
+use Rattle.pciv_build.proofs.EntriesLaws.{rest-before}
+
+pub length-blankEntry : (s : ℕ) → length (blankEntry s) ≡ 12
+unfolding le
+length-blankEntry s = refl
+
+pub length-blankEntries : (xs : List ℕ) → length (blankEntries xs) ≡ 12 * length xs
+length-blankEntries xs = length-joined blankEntry 12 length-blankEntry xs
+
+-- the next entry was to stand at place p₀ of d₀, and is to stand at place p of d
+pub record BlanksLeft (d₀ : List ℕ) (p₀ : ℕ) (xs₀ : List ℕ) (d : List ℕ) (p : ℕ) (xs : List ℕ) : Type 0 where
+  pub size : length d ≡ length d₀
+  pub low : p₀ ≤ p
+  pub count : p + 12 * length xs ≡ p₀ + 12 * length xs₀
+  pub rest : sets d₀ p₀ (blankEntries xs₀) ≡ sets d p (blankEntries xs)
+
+pub blanks-start : (d : List ℕ) (p : ℕ) (xs : List ℕ) → BlanksLeft d p xs d p xs
+blanks-start d p xs = record { size = refl; low = le-refl p; count = refl; rest = refl }
+
+blanks-one : (s : ℕ) → blankEntries (s ∷ []) ≡ blankEntry s
+unfolding joined
+blanks-one s = append-nil (blankEntry s)
+
+blanks-nil : (d : List ℕ) (p : ℕ) → sets d p (blankEntries []) ≡ d
+unfolding joined
+blanks-nil d p = refl
+
+module _ {d₀ : List ℕ} {p₀ : ℕ} {xs₀ d : List ℕ} {p : ℕ} {xs : List ℕ} (e : BlanksLeft d₀ p₀ xs₀ d p xs) where
+  pub blanks-room : (ys zs : List ℕ) → xs ≡ ys ++ zs → p₀ + 12 * length xs₀ ≤ length d₀ → p + 12 * length ys ≤ length d
+  blanks-room ys zs split room = omega (arith, e .count, e .size, ap length split ∙ length-append ys zs)
+
+  pub blanks-before : (j : ℕ) → j < p₀ → getD d j 0 ≡ getD d₀ j 0
+  blanks-before j h = rest-before (blankEntries xs₀) (blankEntries xs) d₀ d p₀ p (e .low) (e .rest) j h
+
+  pub blanks-part : (ys zs : List ℕ) → xs ≡ ys ++ zs → (d' : List ℕ) (p' : ℕ) → d' ≡ sets d p (blankEntries ys)
+      → p' ≡ p + 12 * length ys → BlanksLeft d₀ p₀ xs₀ d' p' zs
+  blanks-part ys zs split d' p' put next =
+      record {
+        size = ap length put ∙ length-sets d p (blankEntries ys) ∙ e .size;
+        low = omega (arith, e .low);
+        count = omega (arith, e .count, ap length split ∙ length-append ys zs);
+        rest = e .rest
+            ∙ rw (split, joined-append blankEntry ys zs, put, next)
+            (sets-append (blankEntries ys) (blankEntries zs) d p ∙ rw (length-blankEntries ys));
+      }
+
+  pub blanks-more : (s : ℕ) (zs : List ℕ) → xs ≡ s ∷ zs → (d' : List ℕ) (p' : ℕ) → d' ≡ sets d p (le 8 s ++ le 4 255)
+      → p' ≡ p + 12 → BlanksLeft d₀ p₀ xs₀ d' p' zs
+  blanks-more s zs split d' p' put next =
+      blanks-part (s ∷ []) zs split d' p' (put ∙ ap (sets d p) (sym (blanks-one s))) next
+
+  pub blanks-skip : (zs : List ℕ) → xs ≡ zs → BlanksLeft d₀ p₀ xs₀ d p zs
+  blanks-skip zs same = subst (λ (l : List ℕ). BlanksLeft d₀ p₀ xs₀ d p l) same e
+
+  pub blanks-end : xs ≡ [] → (p ≡ p₀ + 12 * length xs₀) × (d ≡ sets d₀ p₀ (blankEntries xs₀))
+  blanks-end none = (omega (arith, e .count, ap length none), sym (e .rest ∙ rw none (blanks-nil d p)))
+
+-- ---- the slots with primary byte 255
+
+-- of a block of c slots that are as in d, and of those behind it
+pub slots-part : (d₀ d : List ℕ) (n i c : ℕ) → i + c ≤ n → ((j : ℕ) → j < n → byteAt d (40 + j) ≡ byteAt d₀ (40 + j))
+    → fullSlots d₀ i (n - i) ≡ fullSlots d i c ++ fullSlots d₀ (i + c) (n - (i + c))
+slots-part d₀ d n i c h same =
+    let e : n - i ≡ c + (n - (i + c)) = omega arith in
+    rw e
+    (positions-append (isFull d₀) i c (n - (i + c))
+    ∙ ap (λ (l : List ℕ). l ++ fullSlots d₀ (i + c) (n - (i + c)))
+    (positions-cong (isFull d₀) (isFull d) i c (λ j h₁ h₂. ap (λ (x : ℕ). eqb x 255) (sym (same j (omega arith))))))
+
+positions-none : (p : ℕ → Bool) (i c : ℕ) → ((j : ℕ) → i ≤ j → j < i + c → p j ≡ false) → positions p i c ≡ []
+unfolding positions
+positions-none p i zero none = refl
+positions-none p i (suc c) none =
+    rw (none i (le-refl i) (omega arith)) (positions-none p (suc i) c (λ j h₁ h₂. none j (omega arith) (omega arith)))
+
+pub slots-none : (d : List ℕ) (i c : ℕ) → anyFrom (λ (j : ℕ). eqb (getD d j 0) 255) (40 + i) (40 + (i + c) - (40 + i)) ≡ false
+    → fullSlots d i c ≡ []
+slots-none d i c none =
+    positions-none (isFull d) i c
+    (λ j h₁ h₂. anyFrom-none (λ (j : ℕ). eqb (getD d j 0) 255) (40 + (i + c) - (40 + i)) (40 + i) none (40 + j) (omega arith) (omega arith))
+
+pub slots-end : (d : List ℕ) (n i : ℕ) → n ≤ i → fullSlots d i (n - i) ≡ []
+unfolding positions
+slots-end d n i h = let e : n - i ≡ 0 = omega arith in rw e

@@ -1,0 +1,134 @@
+-- Laws of words whose bits tell which numbers of a range have p.
+--   word-more, word-halves    one bit more; two parts of up to 32 bits
+--   word-small                a word of up to 64 bits is a number of 64 bits
+--   NextBit, word-next        the lowest set bit, the positions that it and the bits above it tell, and these bits
+--   word-none                 no bit is set
+-- Axioms: none.
+use mathlib.Core.Path.{_≡_, refl, sym, ap, _∙_}
+use Prim.Native.Nat.{ℕ, zero, suc, _+_, _-_, _*_, _/_, _%_, _^_, _≤_, _<_}
+use native.Mathlib.Nat.{add-zero, zero-add, mul-assoc, pow-suc, div-one, div-div-eq-div-mul, mul-comm, lt-of-lt-of-le}
+use native.Mathlib.Omega.{arith}
+use mathlib.Core.Bool.{Bool, true, false}
+use mathlib.Core.List.{List, [], _∷_}
+use lib.Count.{trailingZeros}
+use lib.Dec.{lit<}
+use lib.Pow.{shl-exact, pow-mono}
+use Rattle.pciv_bytes.specs.Ranges.{flag, positions, keepIf}
+use Rattle.pciv_bytes.proofs.SumLaws.{flag-le}
+use Rattle.pciv_format.specs.Mask.{word}
+
+module _ (p : ℕ → Bool) where
+  word-append : (i c e : ℕ) → word p i (c + e) ≡ word p i c + word p (i + c) e * 2 ^ c
+  unfolding word
+  word-append i zero e = rw (zero-add e, add-zero i) (omega arith)
+  word-append i (suc c) e =
+      let s : suc c + e ≡ suc (c + e) = omega arith in
+      let t : i + suc c ≡ suc i + c = omega arith in
+      rw (s, t, pow-suc 2 c, ← mul-assoc (word p (suc i + c) e) (2 ^ c) 2) (omega (arith, word-append (suc i) c e))
+
+  word-one : (i : ℕ) → word p i 1 ≡ flag (p i)
+  unfolding word
+  word-one i = omega arith
+
+  word-lt : (i c : ℕ) → word p i c < 2 ^ c
+  unfolding word
+  word-lt i zero = lit< tt
+  word-lt i (suc c) = rw (pow-suc 2 c) (omega (arith, flag-le (p i), word-lt (suc i) c))
+
+  pub word-start : (i : ℕ) → 0 ≡ word p i 0
+  unfolding word
+  word-start i = refl
+
+  pub word-small : (i c : ℕ) → c ≤ 64 → word p i c < 2 ^ 64
+  word-small i c h = lt-of-lt-of-le (word-lt i c) (pow-mono {i = c} {j = 64} h)
+
+  -- put in place by a shift
+  pub word-more : (i c : ℕ) → c < 64 → word p i c + flag (p (i + c)) * 2 ^ c % 2 ^ 64 ≡ word p i (c + 1)
+  word-more i c h =
+      rw (shl-exact {a = flag (p (i + c))} 1 c 64 (omega (arith, flag-le (p (i + c)))) (omega arith))
+      (sym (word-append i c 1 ∙ rw (word-one (i + c))))
+
+  pub word-halves : (i c : ℕ) → 32 ≤ c → c ≤ 64 → word p i 32 + word p (i + 32) (c - 32) * 2 ^ 32 % 2 ^ 64 ≡ word p i c
+  word-halves i c h₁ h₂ =
+      let high : word p (i + 32) (c - 32) < 2 ^ 32 =
+      lt-of-lt-of-le (word-lt (i + 32) (c - 32)) (pow-mono {i = c - 32} {j = 32} (omega arith)) in
+      let e : 32 + (c - 32) ≡ c = omega arith in
+      rw (shl-exact {a = word p (i + 32) (c - 32)} 32 32 64 high (omega arith))
+      (sym (word-append i 32 (c - 32)) ∙ ap (word p i) e)
+
+-- ---- the lowest set bit
+
+-- bit t of a word w of c bits from i on
+pub record NextBit (p : ℕ → Bool) (i c : ℕ) (slots : List ℕ) (w t : ℕ) : Type 0 where
+  pub inside : t < c
+  pub slots-are : slots ≡ (i + t) ∷ positions p (i + t + 1) (c - (t + 1))
+  pub rest : w / 2 ^ t / 2 ≡ word p (i + t + 1) (c - (t + 1))
+
+bit-set : (p : ℕ → Bool) (i c : ℕ) → NextBit p i (suc c) (i ∷ positions p (suc i) c) (1 + 2 * word p (suc i) c) 0
+bit-set p i c =
+    let here : i + 0 ≡ i = omega arith in
+    let next : i + 1 ≡ suc i = omega arith in
+    let left : suc c - (0 + 1) ≡ c = omega arith in
+    record {
+      inside = omega arith;
+      slots-are = rw (here, next, left);
+      rest = rw (here, next, left, div-one (1 + 2 * word p (suc i) c)) (omega arith);
+    }
+
+bit-clear : (p : ℕ → Bool) (i c : ℕ) (slots : List ℕ) (w t : ℕ) → NextBit p (suc i) c slots w t
+    → NextBit p i (suc c) slots (2 * w) (suc t)
+bit-clear p i c slots w t b =
+    let here : i + suc t ≡ suc i + t = omega arith in
+    let left : suc c - (suc t + 1) ≡ c - (t + 1) = omega arith in
+    let half : 2 * w / 2 ≡ w = omega arith in
+    let shifted : 2 * w / 2 ^ suc t ≡ w / 2 ^ t =
+    ap (λ (x : ℕ). 2 * w / x) (pow-suc 2 t ∙ mul-comm (2 ^ t) 2)
+    ∙ sym (div-div-eq-div-mul (2 * w) 2 (2 ^ t))
+    ∙ ap (λ (x : ℕ). x / 2 ^ t) half in
+    record {
+      inside = omega (arith, b .inside);
+      slots-are = rw (here, left) (b .slots-are);
+      rest = rw (here, left, shifted) (b .rest);
+    }
+
+zeros-odd : (k w : ℕ) → trailingZeros (suc k) (1 + 2 * w) ≡ 0
+unfolding trailingZeros
+zeros-odd k w = let e : (1 + 2 * w) % 2 ≡ 1 = omega arith in rw e
+
+zeros-even : (k w : ℕ) → trailingZeros (suc k) (2 * w) ≡ suc (trailingZeros k w)
+unfolding trailingZeros
+zeros-even k w =
+    let e : 2 * w % 2 ≡ 0 = omega arith in
+    let half : 2 * w / 2 ≡ w = omega arith in
+    rw (e, half)
+
+bit-next : (p : ℕ → Bool) (k i c : ℕ) (b : Bool) → 0 < flag b + 2 * word p (suc i) c
+    → (0 < word p (suc i) c → NextBit p (suc i) c (positions p (suc i) c) (word p (suc i) c) (trailingZeros k (word p (suc i) c)))
+    → NextBit p i (suc c) (keepIf b i (positions p (suc i) c)) (flag b + 2 * word p (suc i) c)
+    (trailingZeros (suc k) (flag b + 2 * word p (suc i) c))
+bit-next p k i c true some next = rw (zeros-odd k (word p (suc i) c)) (bit-set p i c)
+bit-next p k i c false some next =
+    rw (zero-add (2 * word p (suc i) c), zeros-even k (word p (suc i) c))
+    (bit-clear p i c (positions p (suc i) c) (word p (suc i) c) (trailingZeros k (word p (suc i) c)) (next (omega arith)))
+
+lowest-bit : (p : ℕ → Bool) (k i c : ℕ) → c ≤ k → 0 < word p i c
+    → NextBit p i c (positions p i c) (word p i c) (trailingZeros k (word p i c))
+unfolding word positions
+lowest-bit p k i zero h some = absurd (omega arith)
+lowest-bit p zero i (suc c) h some = absurd (omega arith)
+lowest-bit p (suc k) i (suc c) h some = bit-next p k i c (p i) some (λ q. lowest-bit p k (suc i) c (omega arith) q)
+
+pub word-next : (p : ℕ → Bool) (k i c w : ℕ) → w ≡ word p i c → c ≤ k → 0 < w
+    → NextBit p i c (positions p i c) w (trailingZeros k w)
+word-next p k i c w is h some = rw is (lowest-bit p k i c h (omega arith))
+
+-- no bit is set
+
+none-next : (b : Bool) (i w : ℕ) (l : List ℕ) → flag b + 2 * w ≡ 0 → (w ≡ 0 → l ≡ []) → keepIf b i l ≡ []
+none-next true i w l e rest = absurd (omega arith)
+none-next false i w l e rest = rest (omega arith)
+
+pub word-none : (p : ℕ → Bool) (i c : ℕ) → word p i c ≡ 0 → positions p i c ≡ []
+unfolding word positions
+word-none p i zero e = refl
+word-none p i (suc c) e = none-next (p i) i (word p (suc i) c) (positions p (suc i) c) e (word-none p (suc i) c)
