@@ -14,8 +14,8 @@ use native.Mathlib.Omega.{arith}
 use native.Mathlib.Decide.{decLe}
 use mathlib.Core.Bool.{Bool, true, false}
 use mathlib.Core.List.{List, _++_}
-use lib.ListN.{length, getD}
-use lib.Seq.{sets}
+use lib.ListN.{length, getD, take}
+use lib.Seq.{sets, getD-take}
 use lib.Dec.{eqb, ltb}
 use borrow.Author.Tests.{le-leb, lt-leb, leb-true, leb-false, lt-ltb, le-ltb, eq-eqb, ne-eqb}
 use Rattle.pciv_bytes.specs.Ranges.{flag, firstBelow, sumFrom}
@@ -24,19 +24,22 @@ use Rattle.pciv_bytes.specs.Counts.{byteAt, byteIs}
 use Rattle.pciv_bytes.specs.Find.{Next}
 use Rattle.pciv_bytes.proofs.RangesLaws.{firstBelow-at, firstBelow-none}
 use Rattle.pciv_bytes.proofs.SumLaws.{flag-le, sumFrom-split, sumFrom-le}
+use Rattle.pciv_bytes.proofs.WriteLaws.{take-sets}
 use Rattle.pciv_format.specs.Layout.{maxDistance, inOverflow, primaryByte, overflowCount, overflowPart}
 use Rattle.pciv_format.specs.Parts.{Parts, lowestSlot, valueOf, SoundParts}
 use Rattle.pciv_format.specs.Check.{fileParts, CheckedMap}
 use Rattle.pciv_format.specs.Mask.{maskHas, maskValue}
 use Rattle.pciv_format.proofs.PartsLaws.{entry-good, valueOf-slot, primaryByte-valueOf, overflowCount-is}
-use Rattle.pciv_build.proofs.EntriesLaws.{EntriesLeft, entries-start, entries-before, entries-more, entries-gap, entries-end, overflowCount-sum}
+use Rattle.pciv_build.specs.Entries.{entriesFrom}
+use Rattle.pciv_build.proofs.EntriesLaws.{EntriesLeft, entries-start, entries-more, entries-gap, entries-end, overflowCount-sum}
 use Rattle.pciv_map.specs.Cursor.{Cursor, TakenAt}
 use Rattle.pciv_map.specs.declared.cursor.Taken.{Taken}
 use Rattle.pciv_map.proofs.EntryLaws.{gap-value, gap-inline}
 use Rattle.pciv_map.proofs.CursorLaws.{cursor-start, cursor-gap}
 use Rattle.pciv_map.proofs.MapLaws.{primaryOf, primary-at}
-use Rattle.pciv_addition.specs.Addition.{HoldsPrimary}
-use Rattle.pciv_addition.proofs.BytesLaws.{primaryByte-min, full-is}
+use Rattle.pciv_build.specs.Slots.{HoldsPrimary}
+use Rattle.pciv_build.proofs.FillLaws.{full-is}
+use Rattle.pciv_addition.proofs.BytesLaws.{primaryByte-min}
 use Rattle.pciv_words.specs.Words.{IsMask}
 use Rattle.pciv_words.proofs.MaskLaws.{flag-maskHas}
 use Rattle.pciv_masked.specs.Masked.{maskedAt, raisedAt, picked}
@@ -177,6 +180,16 @@ module _ (b : List ℕ) (n k : ℕ) (c : CheckedMap b n k) (bytes : Bytes b) (ws
 
 -- ---- the overflow entries
 
+-- what stands before the entries stays as it was
+before-kept : {n : ℕ} {v : ℕ → ℕ} {d₀ : List ℕ} {p₀ i : ℕ} {d : List ℕ} {p : ℕ} → EntriesLeft n v d₀ p₀ i d p
+    → (j : ℕ) → j < p₀ → getD d j 0 ≡ getD d₀ j 0
+before-kept {n} {v} {d₀} {p₀} {i} {d} {p} e j h =
+    let same : take p₀ d ≡ take p₀ d₀ =
+    sym (take-sets p₀ (entriesFrom n v i) d p (e .low))
+    ∙ ap (take p₀) (sym (e .rest))
+    ∙ take-sets p₀ (entriesFrom n v 0) d₀ p₀ (omega arith) in
+    sym (getD-take p₀ d j 0 h) ∙ ap (λ (l : List ℕ). getD l j 0) same ∙ getD-take p₀ d₀ j 0 h
+
 -- the places of the primary bytes 255 of d
 abbrev fullIn : List ℕ → ℕ → Bool
 fullIn d i = eqb (byteAt d (40 + i)) 255
@@ -198,7 +211,7 @@ module _ (P : Parts) (s : SoundParts P) (bytes : (i : ℕ) → P .byte i < 256) 
       let low : i ≤ slot = next .before .low in
       let high : slot ≤ P .n = next .before .high in
       let full-at : (t : ℕ) → t < P .n → fullIn d t ≡ inOverflow (u t) =
-      λ t h. ap (λ (x : ℕ). eqb x 255) (entries-before left (40 + t) (omega arith) ∙ holds t h) ∙ full-is (u t) in
+      λ t h. ap (λ (x : ℕ). eqb x 255) (before-kept left (40 + t) (omega arith) ∙ holds t h) ∙ full-is (u t) in
       let none : (t : ℕ) → i ≤ t → t < slot → u t < 255 =
       λ t h₁ h₂. leb-false 255 (u t) (sym (full-at t (omega arith)) ∙ next .before .clear t h₁ h₂) in
       record {

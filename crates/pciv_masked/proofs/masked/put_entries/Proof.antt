@@ -7,7 +7,8 @@ use lib.Seq.{sets}
 use Rattle.pciv_format.specs.Layout.{overflowCount, overflowPart}
 use Rattle.pciv_format.specs.Parts.{Parts}
 use Rattle.pciv_format.specs.Check.{fileParts}
-use Rattle.pciv_addition.specs.Addition.{Fits, HoldsPrimary}
+use Rattle.pciv_build.specs.Slots.{HoldsPrimary}
+use Rattle.pciv_addition.specs.Addition.{Fits}
 use Rattle.pciv_masked.specs.Masked.{maskedAt}
 use Rattle.pciv_masked.specs.declared.bytes.MaskedOp.{MaskedOp}
 use borrow.Author.Needs.{needs}
