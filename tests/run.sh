@@ -1,5 +1,5 @@
 #!/bin/sh
-# Builds and runs the C and Rust side: header, C program, Rust tests, comparison, report program.
+# Builds and runs the C and Rust side: header, C program, Rust tests, interface, comparison, report program.
 # Wants libpciv_c.a in PCIV_LIB_DIR (default target/staticlib) and the report program at PCIV_REPORT
 # (default target/bin/report); relative paths start at the repository's root.
 set -u
@@ -48,6 +48,10 @@ rust_tests() {
     cargo test --release --offline --workspace && echo 'all passed'
 }
 
+interface() {
+    "$programs/interface" "$PCIV_LIB_DIR/libpciv_c.a"
+}
+
 report_program() {
     "$programs/make_report_inputs" "$work/report" && sh tests/report.sh "$report" "$work/report"
 }
@@ -58,6 +62,7 @@ part header-c++ header_cpp
 part c_smoke c_smoke
 part cargo-build build
 part cargo-test rust_tests
+part interface interface
 part compare "$programs/compare"
 part report report_program
 

@@ -19,7 +19,7 @@ mod c {
             summary: *mut Summary,
             refusal: *mut Refusal,
         ) -> u64;
-        pub fn pciv_primary_span(file: *const u8, file_len: usize, span: *mut u64) -> u64;
+        pub fn pciv_primary_span(file: *const u8, file_len: usize, span: *mut [u64; 2]) -> u64;
         pub fn pciv_lookup(
             file: *const u8,
             file_len: usize,
@@ -48,7 +48,7 @@ mod c {
         pub fn pciv_sum(
             file: *const u8,
             file_len: usize,
-            sum: *mut u64,
+            total: *mut u64,
             refusal: *mut Refusal,
         ) -> u64;
         pub fn pciv_readings(
@@ -271,7 +271,7 @@ pub fn check(file: &[u8], summary: &mut Summary, refusal: &mut Refusal) -> u64 {
 
 /// `pciv_primary_span`.
 pub fn primary_span(file: &[u8], span: &mut [u64; 2]) -> u64 {
-    unsafe { c::pciv_primary_span(file.as_ptr(), file.len(), span.as_mut_ptr()) }
+    unsafe { c::pciv_primary_span(file.as_ptr(), file.len(), span) }
 }
 
 /// `pciv_lookup`.
@@ -316,8 +316,8 @@ pub fn scan(file: &[u8], distances: &mut [u32], count: &mut u64, refusal: &mut R
 }
 
 /// `pciv_sum`.
-pub fn sum(file: &[u8], sum: &mut u64, refusal: &mut Refusal) -> u64 {
-    unsafe { c::pciv_sum(file.as_ptr(), file.len(), sum, refusal) }
+pub fn sum(file: &[u8], total: &mut u64, refusal: &mut Refusal) -> u64 {
+    unsafe { c::pciv_sum(file.as_ptr(), file.len(), total, refusal) }
 }
 
 /// `pciv_readings`.
