@@ -1,7 +1,8 @@
 # make report   proves and builds the report program, and runs it on the sample map
 # make test     the whole test: every proof, the must-fail edits, the programs, then the C and Rust side
+# make dist     what a C or C++ program needs, in build/dist: header, archive, shared library, pkg-config file
 # make bench    the benchmark, as ratios in one run
-.PHONY: report test bench
+.PHONY: report test dist bench
 
 build:
 	mkdir -p build
@@ -12,6 +13,10 @@ report: | build
 
 test:
 	@sh tests/all.sh
+
+dist: | build
+	@rt staticlib pciv_c > build/rt-staticlib.log 2>&1 || { cat build/rt-staticlib.log; exit 1; }
+	@sh packaging/dist.sh
 
 bench: | build
 	@rt staticlib pciv_c > build/rt-staticlib.log 2>&1 || { cat build/rt-staticlib.log; exit 1; }
