@@ -74,6 +74,10 @@ rust_tests() {
     cargo test --release --offline --workspace && echo 'all passed'
 }
 
+rust_doc() {
+    RUSTDOCFLAGS='-D warnings' cargo doc --offline --no-deps -p pciv && echo 'no warnings'
+}
+
 interface() {
     "$programs/interface" "$dist/lib/libpciv_c.a" "$dist/lib/libpciv_c.so"
 }
@@ -92,6 +96,7 @@ part c-shared c_shared
 part c++-shared cpp_shared
 part cargo-build build
 part cargo-test rust_tests
+part cargo-doc rust_doc
 part interface interface
 part compare "$programs/compare"
 part report report_program

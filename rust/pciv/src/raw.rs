@@ -7,6 +7,7 @@
 #![allow(unsafe_code)]
 
 use crate::{EditAnswer, Entry, Refusal, Summary, ANSWER_LEN};
+use std::mem::offset_of;
 use std::slice;
 
 mod c {
@@ -262,7 +263,13 @@ mod c {
 
 // Every call below is sound for the same reason: references and slices give non-null, aligned
 // pointers that are valid for their lengths, `&mut` ones overlap no other, the library keeps none
-// of them past the call, and `Summary`, `Refusal` and `Entry` are laid out as in the header.
+// of them past the call and writes only numbers, and `Summary`, `Refusal` and `Entry` are laid out
+// as in the header.
+const _: () = {
+    assert!(size_of::<Summary>() == 5 * size_of::<u64>());
+    assert!(size_of::<Refusal>() == 3 * size_of::<u64>());
+    assert!(size_of::<Entry>() == 16 && offset_of!(Entry, distance) == 8);
+};
 
 /// `pciv_check`.
 pub fn check(file: &[u8], summary: &mut Summary, refusal: &mut Refusal) -> u64 {
