@@ -1,6 +1,6 @@
 #!/bin/sh
-# Builds and runs the C and Rust side: header, C and C++ programs, what is shipped, Rust tests, interface, comparison,
-# report program.
+# Builds and runs the C and Rust side: header, C and C++ programs, what is shipped, Rust tests, interface, comparison, the
+# fuzzer's corpus, report program.
 # Wants libpciv_c.a in PCIV_LIB_DIR (default target/staticlib) and the report program at PCIV_REPORT
 # (default target/bin/report); relative paths start at the repository's root.
 set -u
@@ -99,6 +99,7 @@ part cargo-test rust_tests
 part cargo-doc rust_doc
 part interface interface
 part compare "$programs/compare"
+part corpus "$programs/corpus" replay tests/fuzz/corpus.txt
 part report report_program
 
 if [ -n "$failed" ]; then
