@@ -2,7 +2,7 @@
 # Fuzzes the library beside the reference (make fuzz) for some seconds: PCIV_FUZZ_SECONDS, 60 unless set. Starts from
 # tests/fuzz/corpus.txt; new inputs go to build/fuzz/corpus, one that fails to build/fuzz/found. Arguments go to the
 # fuzzer, which is libFuzzer. PCIV_FUZZ_ASAN=1 builds the Rust side with AddressSanitizer. PCIV_FUZZ_SKIP names routines
-# of which the library's are not called.
+# of which the library's are not called. PCIV_FUZZ_FROM_NOTHING=1 starts from nothing and keeps no inputs.
 # Wants libpciv_c.a in PCIV_LIB_DIR (default target/staticlib); relative paths start at the repository's root.
 set -u
 
@@ -33,7 +33,14 @@ if ! clang -fsanitize="$sanitizers" -o "$work/try" "$work/try.c" >"$work/try.log
     exit 1
 fi
 
-cargo run --quiet --release --offline -p fuzz --bin corpus unpack "$work/seeds" tests/fuzz/corpus.txt || exit 1
+new=$work/corpus
+if [ -n "${PCIV_FUZZ_FROM_NOTHING:-}" ]; then
+    new=$work/new
+    rm -rf "$new"
+    mkdir -p "$new" "$work/seeds"
+else
+    cargo run --quiet --release --offline -p fuzz --bin corpus unpack "$work/seeds" tests/fuzz/corpus.txt || exit 1
+fi
 if [ "$name" = fuzz-asan ]; then
     # The option -Z is not stable; with this the stable compiler takes it.
     export RUSTC_BOOTSTRAP=1
@@ -45,7 +52,7 @@ clang -fsanitize="$sanitizers" -o "$work/$name" "$work/$name-cargo/$target/relea
 
 log=$work/$name.log
 if ! "$work/$name" -max_total_time="$seconds" -max_len=600 -timeout=20 -print_final_stats=1 \
-    -artifact_prefix="$work/found/" "$@" "$work/corpus" "$work/seeds" >"$log" 2>&1; then
+    -artifact_prefix="$work/found/" "$@" "$new" "$work/seeds" >"$log" 2>&1; then
     grep -v '^#[0-9]' "$log" | tail -n 60
     echo "fuzz: failed; the whole log is $log"
     exit 1
