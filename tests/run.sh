@@ -78,6 +78,22 @@ rust_doc() {
     RUSTDOCFLAGS='-D warnings' cargo doc --offline --no-deps -p pciv && echo 'no warnings'
 }
 
+# block LANGUAGE: the first program in that language in README.md.
+block() {
+    awk -v start="\`\`\`$1" '$0 == start && !seen { seen = inside = 1; next } /^```$/ { inside = 0 } inside' README.md
+}
+
+readme() {
+    block c >"$work/readme.c" &&
+        gcc -std=c11 -Wall -Wextra -Werror -I"$dist/include" -o "$work/readme_c" "$work/readme.c" \
+            "$dist/lib/libpciv_c.a" &&
+        "$work/readme_c" <examples/map-a.pciv | grep -x 'slot 3: 300 cm' &&
+        block rust >"$work/readme.rs" &&
+        rustc --edition 2021 --extern "pciv=$programs/libpciv.rlib" -o "$work/readme_rust" "$work/readme.rs" &&
+        "$work/readme_rust" | grep -x '4 distances, 300 cm at slot 3' &&
+        echo 'the programs for C and Rust print what they should'
+}
+
 interface() {
     "$programs/interface" "$dist/lib/libpciv_c.a" "$dist/lib/libpciv_c.so"
 }
@@ -97,6 +113,7 @@ part c++-shared cpp_shared
 part cargo-build build
 part cargo-test rust_tests
 part cargo-doc rust_doc
+part readme readme
 part interface interface
 part compare "$programs/compare"
 part corpus "$programs/corpus" replay tests/fuzz/corpus.txt
