@@ -22,9 +22,9 @@ pub fn list(input: &mut Input, len: Option<usize>) -> Vec<u32> {
     let pattern: Vec<u32> = (0..count).map(|_| input.distance()).collect();
     let mut list: Vec<u32> = pattern.into_iter().cycle().take(n).collect();
     for _ in 0..input.below(8) {
-        let (at, distance) = (input.below(MAX_LIST), input.distance());
+        let (at, distance) = (place(input, n), input.distance());
         if n > 0 {
-            list[at % n] = distance;
+            list[at] = distance;
         }
     }
     list
@@ -69,6 +69,15 @@ fn put(file: &mut [u8], at: usize, bytes: &[u8]) {
     }
 }
 
+/// The place of one of so many: the first, the last, or any.
+fn place(input: &mut Input, count: usize) -> usize {
+    match input.byte() {
+        0..=63 => 0,
+        64..=127 => count.saturating_sub(1),
+        _ => input.below(65_536) % count.max(1),
+    }
+}
+
 /// Damages a file: a byte, a field of the header, an overflow entry, an index entry, the length, or
 /// n and k with the counts that they give.
 fn damage(input: &mut Input, file: &mut Vec<u8>) {
@@ -77,26 +86,25 @@ fn damage(input: &mut Input, file: &mut Vec<u8>) {
     let entries = HEADER_LEN + n;
     match input.byte() % 8 {
         0 => {
-            let (at, byte) = (input.below(65_536), input.byte());
-            let len = file.len().max(1);
-            put(file, at % len, &[byte]);
+            let (at, byte) = (place(input, file.len()), input.byte());
+            put(file, at, &[byte]);
         }
         1 => {
-            let at = 8 * (input.below(5));
+            let at = 8 * input.below(5);
             put(file, at, &input.number(&telling).to_le_bytes());
         }
         2 => {
-            let at = entries + 12 * (input.below(MAX_LIST) % k.max(1));
+            let at = entries + 12 * place(input, k);
             let slot = field(file, at);
             put(file, at, &input.number(&[slot, n as u64]).to_le_bytes());
         }
         3 => {
-            let at = entries + 12 * (input.below(MAX_LIST) % k.max(1)) + 8;
+            let at = entries + 12 * place(input, k) + 8;
             put(file, at, &input.distance().to_le_bytes());
         }
         4 => {
-            let m = (field(file, 24) as usize % (1 << 20)).max(1);
-            let at = entries + 12 * k + 8 * (input.below(4_096) % (2 * m));
+            let m = field(file, 24) as usize % (1 << 20);
+            let at = entries + 12 * k + 16 * place(input, m) + 8 * input.below(2);
             let number = field(file, at);
             put(file, at, &input.number(&[number, n as u64]).to_le_bytes());
         }
@@ -112,7 +120,7 @@ fn damage(input: &mut Input, file: &mut Vec<u8>) {
             put(file, 32, &index_step(k).to_le_bytes());
         }
         _ => {
-            let at = HEADER_LEN + input.below(MAX_LIST) % n.max(1);
+            let at = HEADER_LEN + place(input, n);
             put(file, at, &[input.byte()]);
         }
     }
