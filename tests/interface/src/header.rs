@@ -11,7 +11,7 @@ pub struct Header {
     pub functions: Functions,
     /// The structs that consist of numbers.
     pub structs: Structs,
-    /// The numbers of refusals.
+    /// The numbers of refusals, and those that are defined as a word.
     pub numbers: BTreeMap<String, u64>,
 }
 
@@ -21,6 +21,13 @@ pub fn read_header(text: &str) -> Result<Header, String> {
     let code: Vec<&str> = text.lines().filter(is_code).collect();
     let words = words(&code.join("\n"));
     let mut header = Header::default();
+    for line in text.lines() {
+        if let ["#define", name, number] = line.split_whitespace().collect::<Vec<_>>()[..] {
+            if let Ok(number) = number.parse() {
+                header.numbers.insert(name.to_string(), number);
+            }
+        }
+    }
     let mut at = 0;
     while at < words.len() {
         at += header.read_part(&words[at..])?;
@@ -156,7 +163,7 @@ impl Header {
         Ok(())
     }
 
-    /// Compares the numbers of refusals with those of the same name elsewhere.
+    /// Compares the numbers with those of the same name elsewhere.
     pub fn compare_numbers(&self, (place, others): (&str, &BTreeMap<String, u64>)) -> Vec<String> {
         let mut faults = Vec::new();
         for (name, number) in self.numbers.iter().filter(|(name, _)| *name != "PCIV_OK") {

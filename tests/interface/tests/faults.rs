@@ -200,6 +200,13 @@ fn another_number_or_field_is_told() {
         ["PCIV_BAD_MASK: 12 in the header, Some(13) in rattle"]
     );
 
+    let defined = header("#define PCIV_BAD_MAGIC 3\n").compare_numbers(("rattle", &numbers));
+    assert_eq!(
+        defined,
+        ["PCIV_BAD_MAGIC: 3 in the header, Some(2) in rattle"]
+    );
+    assert!(header(HEADER).numbers.contains_key("PCIV_ANSWER_LEN"));
+
     let real = header(HEADER).structs;
     let faults = |text: &str| {
         let changed = header(text).structs;
