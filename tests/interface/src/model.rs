@@ -57,16 +57,22 @@ pub fn numbers(fields: &[(String, Number)]) -> Vec<Number> {
     fields.iter().map(|(_, number)| *number).collect()
 }
 
+impl Display for Number {
+    fn fmt(&self, f: &mut fmt::Formatter) -> fmt::Result {
+        f.write_str(&format!("{self:?}").to_lowercase())
+    }
+}
+
 impl Display for Type {
     fn fmt(&self, f: &mut fmt::Formatter) -> fmt::Result {
         match self {
-            Type::Value(number) => write!(f, "{number:?}"),
+            Type::Value(number) => write!(f, "{number}"),
             Type::Pointer { constant, to } => {
                 let constant = if *constant { "const " } else { "" };
                 match to.as_slice() {
-                    [number] => write!(f, "{constant}{number:?} *"),
+                    [number] => write!(f, "{constant}{number} *"),
                     [first, ..] if to.iter().all(|number| number == first) => {
-                        write!(f, "{constant}{first:?}[{}] *", to.len())
+                        write!(f, "{constant}{first}[{}] *", to.len())
                     }
                     _ => write!(f, "{constant}{to:?} *"),
                 }
