@@ -1,7 +1,9 @@
 # make report   proves and builds the report program, and runs it on the sample map
 # make test     the whole test: every proof, the must-fail edits, the programs, then the C and Rust side
+# make dist     what a C or C++ program needs, in build/dist: header, archive, shared library, pkg-config file
+# make fuzz     the library beside the reference under a fuzzer, a minute unless PCIV_FUZZ_SECONDS says otherwise
 # make bench    the benchmark, as ratios in one run
-.PHONY: report test bench
+.PHONY: report test dist fuzz bench
 
 build:
 	mkdir -p build
@@ -12,6 +14,14 @@ report: | build
 
 test:
 	@sh tests/all.sh
+
+dist: | build
+	@rt staticlib pciv_c > build/rt-staticlib.log 2>&1 || { cat build/rt-staticlib.log; exit 1; }
+	@sh packaging/dist.sh
+
+fuzz: | build
+	@rt staticlib pciv_c > build/rt-staticlib.log 2>&1 || { cat build/rt-staticlib.log; exit 1; }
+	@sh tests/fuzz/fuzz.sh
 
 bench: | build
 	@rt staticlib pciv_c > build/rt-staticlib.log 2>&1 || { cat build/rt-staticlib.log; exit 1; }

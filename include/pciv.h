@@ -143,8 +143,8 @@ uint64_t pciv_scan(const uint8_t *file, size_t file_len, uint32_t *distances, si
 /* ---- Totals ----------------------------------------------------------------------------------- */
 
 /* The sum of all distances. Refusals 1 to 8.
-   When done *sum holds it; after a refusal it is unchanged. */
-uint64_t pciv_sum(const uint8_t *file, size_t file_len, uint64_t *sum, pciv_refusal *refusal);
+   When done *total holds it; after a refusal it is unchanged. */
+uint64_t pciv_sum(const uint8_t *file, size_t file_len, uint64_t *total, pciv_refusal *refusal);
 
 /* The number of readings: slots whose distance is not 0. Refusals 1 to 8.
    When done *count holds it; after a refusal it is unchanged. */

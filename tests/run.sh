@@ -1,5 +1,6 @@
 #!/bin/sh
-# Builds and runs the C and Rust side: header, C program, Rust tests, comparison, report program.
+# Builds and runs the C and Rust side: header, C and C++ programs, what is shipped, Rust tests, interface, comparison, the
+# fuzzer's corpus, report program.
 # Wants libpciv_c.a in PCIV_LIB_DIR (default target/staticlib) and the report program at PCIV_REPORT
 # (default target/bin/report); relative paths start at the repository's root.
 set -u
@@ -8,6 +9,7 @@ cd "$(dirname "$0")/.." || exit 1
 export PCIV_LIB_DIR="${PCIV_LIB_DIR:-target/staticlib}"
 report=${PCIV_REPORT:-target/bin/report}
 work=build/tests
+dist=build/dist
 programs=build/cargo/release
 failed=''
 
@@ -40,6 +42,30 @@ c_smoke() {
         "$work/c_smoke"
 }
 
+cpp_smoke() {
+    g++ -std=c++17 -pedantic -Wall -Wextra -Werror -O2 -Iinclude -o "$work/cpp_smoke" tests/cpp_smoke.cpp \
+        "$PCIV_LIB_DIR/libpciv_c.a" &&
+        "$work/cpp_smoke"
+}
+
+# with_shared PROGRAM COMMAND..: builds a program by the command with what is shipped alone, and runs it with the shared
+# library.
+with_shared() {
+    program=$1
+    shift
+    "$@" -I"$dist/include" -L"$dist/lib" -lpciv_c -o "$program" &&
+        readelf -d "$program" | grep -q 'libpciv_c\.so\.0' &&
+        LD_LIBRARY_PATH="$dist/lib" "$program"
+}
+
+c_shared() {
+    with_shared "$work/c_shared" gcc -std=c11 -O2 tests/c_smoke.c
+}
+
+cpp_shared() {
+    with_shared "$work/cpp_shared" g++ -std=c++17 -O2 tests/cpp_smoke.cpp
+}
+
 build() {
     cargo build --release --offline --workspace
 }
@@ -63,6 +89,30 @@ examples() {
         echo 'C and Rust agree, and README.md has their output'
 }
 
+rust_doc() {
+    RUSTDOCFLAGS='-D warnings' cargo doc --offline --no-deps -p pciv && echo 'no warnings'
+}
+
+# block LANGUAGE: the first program in that language in README.md.
+block() {
+    awk -v start="\`\`\`$1" '$0 == start && !seen { seen = inside = 1; next } /^```$/ { inside = 0 } inside' README.md
+}
+
+readme() {
+    block c >"$work/readme.c" &&
+        gcc -std=c11 -Wall -Wextra -Werror -I"$dist/include" -o "$work/readme_c" "$work/readme.c" \
+            "$dist/lib/libpciv_c.a" &&
+        "$work/readme_c" <examples/map-a.pciv | grep -x 'slot 3: 300 cm' &&
+        block rust >"$work/readme.rs" &&
+        rustc --edition 2021 --extern "pciv=$programs/libpciv.rlib" -o "$work/readme_rust" "$work/readme.rs" &&
+        "$work/readme_rust" | grep -x '4 distances, 300 cm at slot 3' &&
+        echo 'the programs for C and Rust print what they should'
+}
+
+interface() {
+    "$programs/interface" "$dist/lib/libpciv_c.a" "$dist/lib/libpciv_c.so"
+}
+
 report_program() {
     "$programs/make_report_inputs" "$work/report" && sh tests/report.sh "$report" "$work/report"
 }
@@ -71,10 +121,18 @@ mkdir -p "$work"
 part header-c header_c
 part header-c++ header_cpp
 part c_smoke c_smoke
+part cpp_smoke cpp_smoke
+part dist sh packaging/dist.sh
+part c-shared c_shared
+part c++-shared cpp_shared
 part cargo-build build
 part cargo-test rust_tests
 part examples examples
+part cargo-doc rust_doc
+part readme readme
+part interface interface
 part compare "$programs/compare"
+part corpus "$programs/corpus" replay tests/fuzz/corpus.txt
 part report report_program
 
 if [ -n "$failed" ]; then

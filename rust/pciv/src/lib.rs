@@ -19,6 +19,13 @@
 //! # Ok::<(), pciv::Refusal>(())
 //! ```
 
+#[cfg(not(all(
+    target_arch = "x86_64",
+    target_pointer_width = "64",
+    target_os = "linux"
+)))]
+compile_error!("pciv is built for x86-64 Linux with 64-bit pointers only");
+
 mod arith;
 mod edit;
 mod figures;

@@ -7,6 +7,7 @@
 #![allow(unsafe_code)]
 
 use crate::{EditAnswer, Entry, Refusal, Summary, ANSWER_LEN};
+use std::mem::offset_of;
 use std::slice;
 
 mod c {
@@ -19,7 +20,7 @@ mod c {
             summary: *mut Summary,
             refusal: *mut Refusal,
         ) -> u64;
-        pub fn pciv_primary_span(file: *const u8, file_len: usize, span: *mut u64) -> u64;
+        pub fn pciv_primary_span(file: *const u8, file_len: usize, span: *mut [u64; 2]) -> u64;
         pub fn pciv_lookup(
             file: *const u8,
             file_len: usize,
@@ -48,7 +49,7 @@ mod c {
         pub fn pciv_sum(
             file: *const u8,
             file_len: usize,
-            sum: *mut u64,
+            total: *mut u64,
             refusal: *mut Refusal,
         ) -> u64;
         pub fn pciv_readings(
@@ -262,7 +263,13 @@ mod c {
 
 // Every call below is sound for the same reason: references and slices give non-null, aligned
 // pointers that are valid for their lengths, `&mut` ones overlap no other, the library keeps none
-// of them past the call, and `Summary`, `Refusal` and `Entry` are laid out as in the header.
+// of them past the call and writes only numbers, and `Summary`, `Refusal` and `Entry` are laid out
+// as in the header.
+const _: () = {
+    assert!(size_of::<Summary>() == 5 * size_of::<u64>());
+    assert!(size_of::<Refusal>() == 3 * size_of::<u64>());
+    assert!(size_of::<Entry>() == 16 && offset_of!(Entry, distance) == 8);
+};
 
 /// `pciv_check`.
 pub fn check(file: &[u8], summary: &mut Summary, refusal: &mut Refusal) -> u64 {
@@ -271,7 +278,7 @@ pub fn check(file: &[u8], summary: &mut Summary, refusal: &mut Refusal) -> u64 {
 
 /// `pciv_primary_span`.
 pub fn primary_span(file: &[u8], span: &mut [u64; 2]) -> u64 {
-    unsafe { c::pciv_primary_span(file.as_ptr(), file.len(), span.as_mut_ptr()) }
+    unsafe { c::pciv_primary_span(file.as_ptr(), file.len(), span) }
 }
 
 /// `pciv_lookup`.
@@ -316,8 +323,8 @@ pub fn scan(file: &[u8], distances: &mut [u32], count: &mut u64, refusal: &mut R
 }
 
 /// `pciv_sum`.
-pub fn sum(file: &[u8], sum: &mut u64, refusal: &mut Refusal) -> u64 {
-    unsafe { c::pciv_sum(file.as_ptr(), file.len(), sum, refusal) }
+pub fn sum(file: &[u8], total: &mut u64, refusal: &mut Refusal) -> u64 {
+    unsafe { c::pciv_sum(file.as_ptr(), file.len(), total, refusal) }
 }
 
 /// `pciv_readings`.

@@ -80,12 +80,6 @@ mod tests {
     use super::*;
 
     #[test]
-    fn entries_are_laid_out_as_in_the_header() {
-        assert_eq!(size_of::<Entry>(), 16);
-        assert_eq!(std::mem::offset_of!(Entry, distance), 8);
-    }
-
-    #[test]
     fn refused_buffers_are_unchanged() {
         let mut out = [7; 43];
         assert_eq!(write(&[1, 2, 3, 4], &mut out).unwrap_err().number, 12);

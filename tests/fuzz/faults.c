@@ -1,0 +1,145 @@
+/* Faults for the fuzzer to find, one in each build: FAULT is a name below. The library's own function is there under the
+   name exact_NAME. */
+#include "pciv.h"
+
+#include <string.h>
+
+#define lookup_last_of_index 1
+#define check_last_index_entry 2
+#define sum_maps_place 3
+#define jaccard_rounds_twice 4
+#define write_byte_behind 5
+#define edit_byte_left 6
+#define scan_reads_behind 7
+#define lookup_list_writes_behind 8
+
+static uint64_t field(const uint8_t *file, size_t at)
+{
+    uint64_t number;
+    memcpy(&number, file + at, sizeof number);
+    return number;
+}
+
+#if FAULT == lookup_last_of_index
+/* The last slot is wrong where there is a sparse index. */
+uint64_t exact_pciv_lookup(const uint8_t *, size_t, uint64_t, uint32_t *, pciv_refusal *);
+
+uint64_t pciv_lookup(const uint8_t *file, size_t file_len, uint64_t slot, uint32_t *distance,
+                     pciv_refusal *refusal)
+{
+    uint64_t number = exact_pciv_lookup(file, file_len, slot, distance, refusal);
+    if (number == PCIV_OK && field(file, 32) > 0 && slot == field(file, 8) - 1)
+        *distance ^= 1;
+    return number;
+}
+
+#elif FAULT == check_last_index_entry
+/* The last index entry is not looked at. */
+uint64_t exact_pciv_check(const uint8_t *, size_t, pciv_summary *, pciv_refusal *);
+
+uint64_t pciv_check(const uint8_t *file, size_t file_len, pciv_summary *summary,
+                    pciv_refusal *refusal)
+{
+    uint64_t number = exact_pciv_check(file, file_len, summary, refusal);
+    if (number == PCIV_BAD_INDEX_ENTRY && refusal->place == field(file, 24) - 1) {
+        pciv_summary said = {field(file, 8), field(file, 16), field(file, 24), field(file, 32),
+                             file_len};
+        *summary = said;
+        memset(refusal, 0, sizeof *refusal);
+        return PCIV_OK;
+    }
+    return number;
+}
+
+#elif FAULT == sum_maps_place
+/* The place of a sum that is too large is that of the slot before, from slot 3 on. */
+uint64_t exact_pciv_sum_maps(const uint8_t *, size_t, const uint8_t *, size_t, uint8_t *, size_t,
+                             pciv_summary *, pciv_refusal *);
+
+uint64_t pciv_sum_maps(const uint8_t *a, size_t a_len, const uint8_t *b, size_t b_len, uint8_t *out,
+                       size_t out_len, pciv_summary *summary, pciv_refusal *refusal)
+{
+    uint64_t number = exact_pciv_sum_maps(a, a_len, b, b_len, out, out_len, summary, refusal);
+    if (number == PCIV_DISTANCE_OVERFLOW && refusal->place >= 3)
+        refusal->place--;
+    return number;
+}
+
+#elif FAULT == jaccard_rounds_twice
+/* The figure is 1 minus a quotient. */
+uint64_t exact_pciv_jaccard(const uint8_t *, size_t, const uint8_t *, size_t, uint32_t, double *,
+                            pciv_refusal *);
+
+uint64_t pciv_jaccard(const uint8_t *a, size_t a_len, const uint8_t *b, size_t b_len, uint32_t t,
+                      double *figure, pciv_refusal *refusal)
+{
+    uint64_t number = exact_pciv_jaccard(a, a_len, b, b_len, t, figure, refusal);
+    if (number == PCIV_OK)
+        *figure = 1.0 - (1.0 - *figure);
+    return number;
+}
+
+#elif FAULT == write_byte_behind
+/* The byte behind the file becomes 0. */
+uint64_t exact_pciv_write(const uint32_t *, size_t, uint8_t *, size_t, pciv_summary *,
+                          pciv_refusal *);
+
+uint64_t pciv_write(const uint32_t *distances, size_t distances_len, uint8_t *out, size_t out_len,
+                    pciv_summary *summary, pciv_refusal *refusal)
+{
+    uint64_t number = exact_pciv_write(distances, distances_len, out, out_len, summary, refusal);
+    if (number == PCIV_OK && summary->len < out_len)
+        out[summary->len] = 0;
+    return number;
+}
+
+#elif FAULT == edit_byte_left
+/* A byte that a shorter file has left free is not 0, where more than an entry is free. */
+uint64_t exact_pciv_edit(uint8_t *, size_t, uint64_t, uint32_t, pciv_summary *, pciv_refusal *);
+
+uint64_t pciv_edit(uint8_t *buffer, size_t buffer_len, uint64_t slot, uint32_t distance,
+                   pciv_summary *summary, pciv_refusal *refusal)
+{
+    uint64_t len = 0;
+    if (buffer_len >= 40)
+        len = 40 + field(buffer, 8) + 12 * field(buffer, 16) + 16 * field(buffer, 24);
+    uint64_t number = exact_pciv_edit(buffer, buffer_len, slot, distance, summary, refusal);
+    if (number == PCIV_OK && summary->len + 12 < len)
+        buffer[len - 1] = 1;
+    return number;
+}
+
+#elif FAULT == scan_reads_behind
+/* The byte behind the file is read. */
+uint64_t exact_pciv_scan(const uint8_t *, size_t, uint32_t *, size_t, uint64_t *, pciv_refusal *);
+
+uint64_t pciv_scan(const uint8_t *file, size_t file_len, uint32_t *distances, size_t distances_len,
+                   uint64_t *count, pciv_refusal *refusal)
+{
+    uint64_t number = exact_pciv_scan(file, file_len, distances, distances_len, count, refusal);
+    if (number == PCIV_OK)
+        (void)*(const volatile uint8_t *)(file + file_len);
+    return number;
+}
+
+#elif FAULT == lookup_list_writes_behind
+/* The element behind an exact list is written as it was. */
+uint64_t exact_pciv_lookup_list(const uint8_t *, size_t, const uint64_t *, size_t, uint32_t *,
+                                size_t, uint64_t *, pciv_refusal *);
+
+uint64_t pciv_lookup_list(const uint8_t *file, size_t file_len, const uint64_t *slots,
+                          size_t slots_len, uint32_t *distances, size_t distances_len,
+                          uint64_t *count, pciv_refusal *refusal)
+{
+    uint64_t number = exact_pciv_lookup_list(file, file_len, slots, slots_len, distances,
+                                             distances_len, count, refusal);
+    if (number == PCIV_OK) {
+        volatile uint32_t *behind = distances + distances_len;
+        *behind = *behind;
+    }
+    return number;
+}
+
+#else
+#error "no such fault"
+#endif

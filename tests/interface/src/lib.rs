@@ -1,0 +1,95 @@
+//! The functions of the library as four places have them: the Rattle source that defines them, the
+//! C header, the declarations of the Rust crate, and the symbols of the built libraries. All have to
+//! agree.
+//!
+//! Each place is read into [`Functions`] in one form: a slice of the Rattle source is a pointer and
+//! a length, `size_t` and `usize` are numbers of 64 bits, and a pointer to a struct is one to its
+//! fields.
+
+mod header;
+mod model;
+mod rattle;
+mod rust;
+mod symbols;
+mod tokens;
+
+pub use header::{read_header, Header};
+pub use model::{compare_functions, compare_names, compare_structs, Functions, Structs};
+pub use rattle::{read_numbers, read_rattle};
+pub use rust::read_rust;
+pub use symbols::{exported, read_symbols};
+
+use std::{fs, path::Path};
+
+/// The header.
+pub const HEADER: &str = "include/pciv.h";
+/// The Rattle source of the C interface.
+pub const RATTLE: &str = "crates/pciv_c/src/lib.rt";
+/// The Rattle source of its structs and numbers.
+pub const RATTLE_FORMAT: &str = "crates/pciv_format/src/lib.rt";
+/// The folder of the Rust crate's source.
+pub const RUST: &str = "rust/pciv/src";
+
+/// A struct of the header and its counterpart in Rust, and whether the Rattle source has it too.
+const STRUCTS: [(&str, &str, bool); 4] = [
+    ("pciv_refusal", "Refusal", true),
+    ("pciv_summary", "Summary", true),
+    ("pciv_entry", "Entry", true),
+    ("pciv_edit_answer", "EditAnswer", false),
+];
+
+/// Compares the sources below `root` with each other and with the libraries there. Answers the
+/// number of functions, or what is wrong, a line for each fault.
+pub fn compare(root: &Path, libraries: &[String]) -> Result<usize, Vec<String>> {
+    let failure = |error: String| vec![error];
+    let format = read_file(root, RATTLE_FORMAT).map_err(failure)?;
+    let source = read_file(root, RATTLE).map_err(failure)?;
+    let (rattle, rattle_structs) = read_rattle(&source, &format).map_err(failure)?;
+    let text = read_file(root, HEADER).map_err(failure)?;
+    let header = read_header(&text).map_err(failure)?;
+    let crate_text = read_folder(root, RUST).map_err(failure)?;
+    let (rust, rust_structs) = read_rust(&crate_text).map_err(failure)?;
+
+    let declared = (HEADER, &header.functions);
+    let mut faults = compare_functions(declared, (RATTLE, &rattle));
+    faults.extend(compare_functions(declared, (RUST, &rust)));
+    for (in_c, elsewhere, in_rattle) in STRUCTS {
+        let mut compare = |place, structs| {
+            let (c, other) = ((HEADER, in_c), (place, elsewhere));
+            faults.extend(compare_structs(c, &header.structs, other, structs));
+        };
+        compare(RUST, &rust_structs);
+        if in_rattle {
+            compare(RATTLE_FORMAT, &rattle_structs);
+        }
+    }
+    let numbers = read_numbers(&format);
+    faults.extend(header.compare_numbers((RATTLE_FORMAT, &numbers)));
+    for library in libraries {
+        match exported(&root.join(library)) {
+            Ok(symbols) => faults.extend(compare_names(declared, (library, &symbols))),
+            Err(error) => faults.push(error),
+        }
+    }
+    match faults.is_empty() {
+        true => Ok(header.functions.len()),
+        false => Err(faults),
+    }
+}
+
+fn read_file(root: &Path, path: &str) -> Result<String, String> {
+    fs::read_to_string(root.join(path)).map_err(|error| format!("{path}: {error}"))
+}
+
+/// The Rust files of a folder, one after another.
+fn read_folder(root: &Path, path: &str) -> Result<String, String> {
+    let failure = |error| format!("{path}: {error}");
+    let mut text = String::new();
+    for entry in fs::read_dir(root.join(path)).map_err(failure)? {
+        let file = entry.map_err(failure)?.path();
+        if file.extension().is_some_and(|extension| extension == "rs") {
+            text += &fs::read_to_string(file).map_err(failure)?;
+        }
+    }
+    Ok(text)
+}

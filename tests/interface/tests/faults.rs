@@ -1,0 +1,337 @@
+//! Each kind of mismatch is told. Wrong headers are made from the real one, a change at a time, and
+//! compared with it; the other languages have a small interface each.
+
+use interface::{
+    compare_functions, compare_names, compare_structs, read_header, read_numbers, read_rattle,
+    read_rust, read_symbols, Functions, Header,
+};
+use std::ops::Range;
+
+const HEADER: &str = include_str!("../../../include/pciv.h");
+
+fn header(text: &str) -> Header {
+    read_header(text).unwrap()
+}
+
+/// The faults of a header beside the real one.
+fn faults_of(text: &str) -> Vec<String> {
+    let (real, changed) = (header(HEADER), header(text));
+    compare_functions(("real", &real.functions), ("changed", &changed.functions))
+}
+
+/// Where the functions of the header are declared, up to the semicolon.
+fn declarations() -> Vec<(String, Range<usize>)> {
+    let starts = HEADER.match_indices("\nuint64_t pciv_");
+    let all: Vec<(String, Range<usize>)> = starts
+        .map(|(at, _)| {
+            let end = at + HEADER[at..].find(';').unwrap();
+            let name = HEADER[at..].split(['(', ' ']).nth(1).unwrap();
+            (name.to_string(), at..end)
+        })
+        .collect();
+    assert_eq!(all.len(), header(HEADER).functions.len());
+    all
+}
+
+/// The header with other text at a place.
+fn with(range: Range<usize>, text: &str) -> String {
+    [&HEADER[..range.start], text, &HEADER[range.end..]].concat()
+}
+
+/// The one fault of a changed header, which names the function.
+fn assert_one(text: &str, name: &str, words: &str) {
+    let faults = faults_of(text);
+    assert_eq!(faults.len(), 1, "{name}: {faults:?}");
+    assert!(faults[0].starts_with(&format!("{name}: ")), "{faults:?}");
+    assert!(faults[0].contains(words), "{faults:?}");
+}
+
+#[test]
+fn the_header_agrees_with_itself() {
+    assert_eq!(faults_of(HEADER), [""; 0]);
+    assert!(header(HEADER).functions.contains_key("pciv_check"));
+    assert!(!header(HEADER).functions.contains_key("pciv_primary"));
+}
+
+#[test]
+fn a_missing_declaration_is_told() {
+    for (name, range) in declarations() {
+        let without = with(range.start..range.end + 1, "");
+        assert_one(&without, &name, "in real, not in changed");
+    }
+}
+
+#[test]
+fn a_declaration_too_many_is_told() {
+    for (name, range) in declarations() {
+        let more = HEADER[range.clone()].replace(&name, &format!("{name}_more")) + ";";
+        let text = with(range.start..range.start, &more);
+        assert_one(&text, &format!("{name}_more"), "in changed, not in real");
+    }
+}
+
+#[test]
+fn a_const_dropped_is_told() {
+    let mut tried = 0;
+    for (name, range) in declarations() {
+        for (at, word) in HEADER[range.clone()].match_indices("const ") {
+            let at = range.start + at;
+            assert_one(&with(at..at + word.len(), ""), &name, "argument");
+            tried += 1;
+        }
+    }
+    assert!(tried > 40);
+}
+
+#[test]
+fn a_swapped_argument_is_told() {
+    for (name, range) in declarations() {
+        let text = &HEADER[range.clone()];
+        let list = text.find('(').unwrap() + 1..text.rfind(')').unwrap();
+        let arguments: Vec<&str> = text[list.clone()].split(',').collect();
+        let list = range.start + list.start..range.start + list.end;
+        for at in 1..arguments.len() {
+            let mut swapped = arguments.clone();
+            swapped.swap(at - 1, at);
+            let faults = faults_of(&with(list.clone(), &swapped.join(",")));
+            assert_eq!(faults.len(), 2, "{faults:?}");
+            assert!(faults[0].starts_with(&format!("{name}: argument {at}: ")));
+        }
+    }
+}
+
+#[test]
+fn an_argument_left_out_is_told() {
+    for (name, range) in declarations() {
+        let text = &HEADER[range.clone()];
+        let last = text.rfind(',').unwrap()..text.rfind(')').unwrap();
+        let last = range.start + last.start..range.start + last.end;
+        assert_one(&with(last, ""), &name, "number of arguments");
+    }
+}
+
+#[test]
+fn another_type_is_told() {
+    const TYPES: [(&str, &str); 8] = [
+        ("uint8_t", "uint32_t"),
+        ("uint32_t", "uint64_t"),
+        (" uint64_t", " int64_t"),
+        ("size_t", "uint32_t"),
+        ("int32_t by", "uint32_t by"),
+        ("double", "uint64_t"),
+        ("pciv_summary *", "pciv_refusal *"),
+        ("pciv_entry *", "uint64_t *"),
+    ];
+    for (old, new) in TYPES {
+        let mut tried = 0;
+        for (name, range) in declarations() {
+            for (at, word) in HEADER[range.clone()].match_indices(old) {
+                let at = range.start + at;
+                let changed = with(at..at + word.len(), new);
+                assert_one(&changed, &name, "argument");
+                tried += 1;
+            }
+        }
+        assert!(tried > 0, "{old}");
+    }
+}
+
+#[test]
+fn another_answer_is_told() {
+    for (name, range) in declarations() {
+        let answer = range.start + 1..range.start + 1 + "uint64_t".len();
+        assert_one(&with(answer, "uint32_t"), &name, "answer");
+    }
+}
+
+#[test]
+fn what_is_not_understood_is_no_header() {
+    let odd = [
+        "float pciv_a(void);",
+        "uint64_t pciv_a(uint64_t (*f)(void));",
+        "uint64_t pciv_a(uint64_t);",
+        "extern int pciv_a;",
+    ];
+    for text in odd {
+        assert!(read_header(text).is_err(), "{text}");
+    }
+    let twice = "uint64_t pciv_a(size_t n); uint64_t pciv_a(size_t n);";
+    assert!(read_header(twice).is_err());
+}
+
+#[test]
+fn a_missing_symbol_is_told() {
+    let functions = header(HEADER).functions;
+    let listing = |names: &[&String]| {
+        let lines: Vec<String> = names.iter().map(|name| format!("{name} T 0 1f")).collect();
+        format!("lib.a[lib.o]:\n{}\n", lines.join("\n"))
+    };
+    let names: Vec<&String> = functions.keys().collect();
+    let faults = |names: &[&String]| {
+        let symbols = read_symbols(&listing(names));
+        compare_names(("header", &functions), ("library", &symbols))
+    };
+    assert_eq!(faults(&names), [""; 0]);
+    for at in 0..names.len() {
+        let mut fewer = names.clone();
+        let name = fewer.remove(at);
+        assert_eq!(
+            faults(&fewer),
+            [format!("{name}: in header, not in library")]
+        );
+    }
+    let stray = "pciv_stray".to_string();
+    let more = [names, vec![&stray]].concat();
+    assert_eq!(faults(&more), ["pciv_stray: in library, not in header"]);
+}
+
+#[test]
+fn another_number_or_field_is_told() {
+    let rattle = "pub const BAD_MASK: usize = 13;\npub const BAD_MAGIC: usize = 2;";
+    let numbers = read_numbers(rattle);
+    let text = "enum pciv_refusal_number { PCIV_OK = 0, PCIV_BAD_MAGIC = 2, PCIV_BAD_MASK = 13 };";
+    assert!(header(text)
+        .compare_numbers(("rattle", &numbers))
+        .is_empty());
+    let changed = text.replace("13", "12");
+    let faults = header(&changed).compare_numbers(("rattle", &numbers));
+    assert_eq!(
+        faults,
+        ["PCIV_BAD_MASK: 12 in the header, Some(13) in rattle"]
+    );
+
+    let defined = header("#define PCIV_BAD_MAGIC 3\n").compare_numbers(("rattle", &numbers));
+    assert_eq!(
+        defined,
+        ["PCIV_BAD_MAGIC: 3 in the header, Some(2) in rattle"]
+    );
+    assert!(header(HEADER).numbers.contains_key("PCIV_ANSWER_LEN"));
+
+    let real = header(HEADER).structs;
+    let faults = |text: &str| {
+        let changed = header(text).structs;
+        compare_structs(
+            ("real", "pciv_summary"),
+            &real,
+            ("changed", "pciv_summary"),
+            &changed,
+        )
+    };
+    assert_eq!(faults(HEADER), [""; 0]);
+    let swapped = HEADER.replace("uint64_t m;", "uint64_t mm;");
+    assert_eq!(faults(&swapped).len(), 1);
+}
+
+const RATTLE_FORMAT: &str = "
+    pub struct Summary { pub n: usize, pub k: usize }
+    #[repr(C)]
+    pub struct Entry { pub slot: u64, pub distance: u32 }";
+
+const RATTLE: &str = "
+    #[no_mangle]
+    pub extern \"C\" fn pciv_a(
+        file: &[u8],
+        entries: &[Entry],
+        n: usize,
+        by: i32,
+        summary: &mut [usize; 5],
+    ) -> usize
+        ensures told { λ r. ⌜ r ≡ 0 ⌝ }
+    { inner(file) }
+    fn inner(file: &[u8]) -> usize { 0 }
+    #[no_mangle]
+    pub extern \"C\" fn pciv_b(out: &mut [u32], figure: &mut f64) -> usize { 0 }
+    #[no_mangle]
+    pub extern \"C\" fn pciv_c(out: &mut [u32], figure: &mut f64) -> usize { 0 }";
+
+const C: &str = "
+    typedef struct { uint64_t slot; uint32_t distance; /* in cm */ } pciv_entry;
+    typedef struct { uint64_t a; uint64_t b; uint64_t c; uint64_t d; uint64_t e; } pciv_summary;
+    uint64_t pciv_a(const uint8_t *file, size_t file_len, const pciv_entry *entries,
+                    size_t entries_len, size_t n, int32_t by, pciv_summary *summary);
+    uint64_t pciv_b(uint32_t *out, size_t out_len, double *figure);
+    uint64_t pciv_c(uint32_t *out, size_t out_len, double *figure);";
+
+const RUST: &str = "
+    #[repr(C)]
+    #[derive(Clone)]
+    pub struct Summary { pub a: u64, pub b: u64, pub rest: Rest }
+    #[repr(C)]
+    pub struct Rest { pub c: u64, pub d: u64, pub e: u64 }
+    #[repr(C)]
+    pub struct Entry { /** The slot. */ pub slot: u64, pub distance: u32 }
+    extern \"C\" {
+        pub fn pciv_a(file: *const u8, file_len: usize, entries: *const Entry, entries_len: usize,
+                      n: u64, by: i32, summary: *mut Summary) -> u64;
+    }
+    macro_rules! calls {
+        ($($name:ident)*) => {
+            extern \"C\" {
+                $(pub fn $name(out: *mut u32, out_len: usize, figure: *mut f64) -> u64;)*
+            }
+        };
+    }
+    calls!(pciv_b pciv_c);
+    pub fn b(out: &mut [u32], figure: &mut f64) -> u64 { unsafe { c::pciv_b(out, figure) } }";
+
+fn rattle(text: &str, format: &str) -> Functions {
+    read_rattle(text, format).unwrap().0
+}
+
+fn rust(text: &str) -> Functions {
+    read_rust(text).unwrap().0
+}
+
+#[test]
+fn the_three_languages_agree() {
+    let c = header(C).functions;
+    assert_eq!(c.len(), 3);
+    let rattle = rattle(RATTLE, RATTLE_FORMAT);
+    assert_eq!(compare_functions(("c", &c), ("rattle", &rattle)), [""; 0]);
+    assert_eq!(compare_functions(("c", &c), ("rust", &rust(RUST))), [""; 0]);
+}
+
+#[test]
+fn changes_in_rattle_are_told() {
+    let c = header(C).functions;
+    let changes = [
+        ("file: &[u8]", "file: &mut [u8]"),
+        ("file: &[u8]", "file: &[u32]"),
+        ("n: usize", "n: u32"),
+        ("by: i32", "by: i64"),
+        ("&mut [usize; 5]", "&mut [usize; 3]"),
+        ("&mut [usize; 5]", "&mut usize"),
+        ("entries: &[Entry]", "entries: &[u64]"),
+    ];
+    for (old, new) in changes {
+        let changed = rattle(&RATTLE.replacen(old, new, 1), RATTLE_FORMAT);
+        let faults = compare_functions(("c", &c), ("rattle", &changed));
+        assert_eq!(faults.len(), 1, "{new}: {faults:?}");
+    }
+    let exported = RATTLE.replacen("pub extern \"C\" fn pciv_b", "pub fn pciv_b", 1);
+    let faults = compare_functions(("c", &c), ("rattle", &rattle(&exported, RATTLE_FORMAT)));
+    assert_eq!(faults, ["pciv_b: in c, not in rattle"]);
+    let loose = RATTLE_FORMAT.replace("#[repr(C)]", "");
+    assert!(read_rattle(RATTLE, &loose).is_err());
+}
+
+#[test]
+fn changes_in_rust_are_told() {
+    let c = header(C).functions;
+    let faults = |old, new| {
+        let changed = rust(&RUST.replacen(old, new, 1));
+        compare_functions(("c", &c), ("rust", &changed))
+    };
+    assert_eq!(faults("file: *const u8", "file: *mut u8").len(), 1);
+    assert_eq!(
+        faults("summary: *mut Summary", "summary: *mut Rest").len(),
+        1
+    );
+    assert_eq!(faults("pub distance: u32", "pub distance: u64").len(), 1);
+    assert_eq!(faults("figure: *mut f64", "figure: *mut u64").len(), 2);
+    assert_eq!(
+        faults("pciv_b pciv_c", "pciv_b"),
+        ["pciv_c: in c, not in rust"]
+    );
+    assert!(read_rust(&RUST.replacen("#[repr(C)]", "", 1)).is_err());
+}
