@@ -48,7 +48,7 @@ int main(int count, char **arguments)
     done_or_exit(pciv_set_bits(n, mask, words, &selected, &why), &why);
     printf("%lu slots within %u cm\n", selected, (unsigned)distance);
 
-    size_t edits = 0, room = 32808 + 13 * n;
+    size_t edits = 0, capacity = 32808 + 13 * n;
     uint64_t *slots = calloc(selected / 40 + 1, sizeof *slots);
     uint32_t *distances = calloc(selected / 40 + 1, sizeof *distances);
     for (size_t slot = 0, seen = 0; slot < n; slot++)
@@ -57,11 +57,11 @@ int main(int count, char **arguments)
             distances[edits++] = 400;
         }
     pciv_edit_answer *answers = calloc(edits + 1, sizeof *answers);
-    uint8_t *buffer = map_file(arguments[3], O_RDWR | O_CREAT | O_TRUNC, &room);
+    uint8_t *buffer = map_file(arguments[3], O_RDWR | O_CREAT | O_TRUNC, &capacity);
     for (size_t i = 0; i < len; i++)
         buffer[i] = file[i];
-    done_or_exit(pciv_edit_list(buffer, room, slots, edits, distances, edits, (uint64_t *)answers,
-                                PCIV_ANSWER_LEN * edits, &done, &why), &why);
+    done_or_exit(pciv_edit_list(buffer, capacity, slots, edits, distances, edits,
+                                (uint64_t *)answers, PCIV_ANSWER_LEN * edits, &done, &why), &why);
     if (edits > 0)
         summary = answers[edits - 1].summary;
     printf("%lu edits: %lu in overflow, %lu bytes\n", done, summary.k, summary.len);

@@ -60,8 +60,9 @@ enum pciv_refusal_number {
                                         such slot */
     PCIV_BAD_INDEX_ENTRY = 8,        /* an entry of the sparse index is wrong; place: the least such
                                         index entry */
-    PCIV_SLOT_OUT_OF_RANGE = 9,      /* a slot asked for is n or more; place: for a list of slots
-                                        the least position in it, else 0 */
+    PCIV_SLOT_OUT_OF_RANGE = 9,      /* a slot asked for is n or more, or the two lists of
+                                        pciv_edit_list differ in length; place: for a list the
+                                        least such position in it, else 0 */
     PCIV_SIZE_MISMATCH = 10,         /* two maps differ in n */
     PCIV_DISTANCE_OVERFLOW = 11,     /* a resulting distance is above 4,294,967,295; place: the
                                         least such slot */

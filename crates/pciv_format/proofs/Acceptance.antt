@@ -6,17 +6,17 @@
 --   accepted-is-file  an accepted file is the file of the list that it is read as, which is within the limits,
 --                     and the answer is that list's summary
 --   accepted-iff      so a file is accepted exactly when it is the file of some list within the limits
---   file-lookup, file-sum, file-readings    the reading routines on a list's file answer that list's own
+--   file-lookup, file-sum, file-readings, file-threshold    the routines on a list's file answer that list's own
 --   fileOf-inj        two lists within the limits with one file are one list: it is read as no other
 use mathlib.Core.Path.{_≡_, refl, sym, ap, _∙_}
 use mathlib.Core.Logic.{_↔_}
 use Prim.Native.Nat.{ℕ, _+_, _≤_, _<_}
 use native.Mathlib.Nat.{zero-add}
 use native.Mathlib.Omega.{arith}
-use mathlib.Core.List.{List}
-use lib.ListN.{length, getD}
+use mathlib.Core.List.{List, _++_}
+use lib.ListN.{length, getD, drop}
 use lib.Seq.{ext-getD}
-use borrow.Author.Tests.{lt-leb}
+use borrow.Author.Tests.{lt-leb, le-ltb}
 use Rattle.pciv_bytes.specs.Ranges.{table}
 use Rattle.pciv_bytes.specs.LittleEndian.{Bytes}
 use Rattle.pciv_bytes.proofs.RangesLaws.{length-table, getD-table}
@@ -25,6 +25,8 @@ use Rattle.pciv_format.specs.Refusals.{done}
 use Rattle.pciv_format.specs.Parts.{valueOf}
 use Rattle.pciv_format.specs.Check.{nField, kField, fileParts, checkFile, CheckedMap}
 use Rattle.pciv_format.specs.Read.{valueAt, listOf, lookupOutcome, total, readings, sumOutcome, readingsOutcome}
+use Rattle.pciv_format.specs.Mask.{maskLen, maskOf, holds, thresholdWords}
+use Rattle.pciv_format.specs.declared.Comparison.{Comparison}
 use Rattle.pciv_format.specs.declared.Summary.{Summary}
 use Rattle.pciv_format.proofs.LayoutLaws.{length-file, file-cong, summary-cong}
 use Rattle.pciv_format.proofs.CheckLaws.{checkFile-done, done-checkFile, accepted-length}
@@ -117,3 +119,11 @@ module _ (xs : List ℕ) (l : Limits xs) where
   pub file-readings : readingsOutcome (fileOf xs) ≡ done (readings xs)
   unfolding readingsOutcome
   file-readings = rw (file-accepted 1 xs l, file-read xs l)
+
+  -- the mask of a list's file is the mask of the list
+  pub file-threshold : (c : Comparison) (t : ℕ) (out : List ℕ) → maskLen (length xs) ≤ length out
+      → thresholdWords c (fileOf xs) t out
+      ≡ maskOf (length xs) (λ i. holds c (at xs i) t) ++ drop (length (maskOf (length xs) (λ i. holds c (at xs i) t))) out
+  unfolding thresholdWords summary countsOf
+  file-threshold c t out fits =
+      rw (file-accepted 1 xs l, file-read xs l, le-ltb (length out) (maskLen (length xs)) fits)

@@ -2,9 +2,9 @@
 --   A, B        the two maps of "Worked examples"
 --   cases       the cases that "Worked examples" marks as proved, under one statement: a component for each
 --   lengths     the table of "Derived counts"
---   further     a case for each routine that the examples leave out, and masks of more than a word
+--   further     cases of the routines that the examples leave out, and masks of more than a word
 --   examples    the other cases of "Worked examples", and texts of "The report program"
--- A buffer or list that is lent holds 7 in each place, so that what is left unchanged shows.
+-- A caller's buffer or list holds 7 in each place, so that what is left unchanged shows.
 use mathlib.Core.Path.{_≡_, refl}
 use Prim.Native.Nat.{ℕ, _+_}
 use mathlib.Core.Bool.{xor}
@@ -22,6 +22,8 @@ use Rattle.pciv_format.specs.Parts.{badEntry, entryOf, badSlot, valueOf}
 use Rattle.pciv_format.specs.Check.{badIndexEntry, badCounts, checkParts}
 use Rattle.pciv_format.specs.Check.{checkHeader, checkWith, checkFile}
 use Rattle.pciv_format.specs.Read.{listOf, primaryPart, lookupOutcome, total, readings}
+use Rattle.pciv_format.specs.Read.{lookupListOutcome, lookupListBuffer, scanOutcome, scanBuffer}
+use Rattle.pciv_format.specs.Write.{writeOutcome, writeBuffer, closeOutcome, closeBuffer}
 use Rattle.pciv_format.specs.Mask.{maskLen, bitAt, maskHas, word, maskOf, badMask}
 use Rattle.pciv_format.specs.Mask.{setBits, setBitsOutcome}
 use Rattle.pciv_format.specs.Mask.{combineOutcome, combineWords, complementOutcome, complementWords}
@@ -32,6 +34,8 @@ use Rattle.pciv_format.specs.Arith.{combineMapsOutcome, combineMapsBuffe
 use Rattle.pciv_format.specs.Arith.{signedDifferences, signedDifferenceOutcome, signedDifferenceList}
 use Rattle.pciv_format.specs.Figures.{quotient, distanceBetween, brayCurtisOutcome, countAt, jaccardOutcome}
 use Rattle.pciv_format.specs.Edit.{Edit, plainOutcome, editedFile, editOutcome, replaced, editBuffer}
+use Rattle.pciv_format.specs.Edit.{plainStart, plainStep, plainRun, plainOutcomes, bufferOf, answerCells, allCells}
+use Rattle.pciv_format.specs.Edit.{editsOf, editListOutcome, editListBuffer, editListAnswers}
 use Rattle.pciv_format.specs.Report.{digits, decimal, field, line, mapLines, refusedLine, reportText}
 use Rattle.pciv_format.specs.declared.Summary.{Summary}
 use Rattle.pciv_format.specs.declared.SlotOp.{SlotOp}
@@ -177,8 +181,24 @@ abbrev pub ones : ℕ
 ones = 0xFFFFFFFFFFFFFFFF
 
 pub further :
+    -- lookups of slots 3, 0, 3 of A; all of A; the file of A, from its list and from its parts
+    (lookupListBuffer (fileOf A) (3 ∷ 0 ∷ 3 ∷ []) (7 ∷ 7 ∷ 7 ∷ 7 ∷ []) ≡ 300 ∷ 0 ∷ 300 ∷ 7 ∷ [])
+    × (lookupListOutcome (fileOf A) (3 ∷ 4 ∷ 5 ∷ []) 3 ≡ refuse 9 0 1)
+    × (scanBuffer (fileOf A) (7 ∷ 7 ∷ 7 ∷ 7 ∷ 7 ∷ []) ≡ A ++ (7 ∷ []))
+    × (writeBuffer A (replicate 69 7) ≡ fileOf A ++ (7 ∷ []))
+    × (closeBuffer (0 ∷ 254 ∷ 255 ∷ 255 ∷ []) (2 ∷ 3 ∷ []) (255 ∷ 300 ∷ []) (replicate 69 7) ≡ fileOf A ++ (7 ∷ []))
+    × (closeOutcome (0 ∷ 254 ∷ 255 ∷ 255 ∷ []) (2 ∷ 3 ∷ []) (255 ∷ []) 99 ≡ refuse 6 1 1)
+    -- edits of A in 69 bytes: slot 2 to 254, slot 4, slot 0 to 7
+    × (editListOutcome (fileOf A ++ (7 ∷ [])) (2 ∷ 4 ∷ 0 ∷ []) (254 ∷ 1 ∷ 7 ∷ []) 25 ≡ done 3)
+    × (editListBuffer (fileOf A ++ (7 ∷ [])) (2 ∷ 4 ∷ 0 ∷ []) (254 ∷ 1 ∷ 7 ∷ []) 25
+    ≡ fileOf (7 ∷ 254 ∷ 254 ∷ 300 ∷ []) ++ (replicate 12 0 ++ (7 ∷ [])))
+    × (editListAnswers (fileOf A ++ (7 ∷ [])) (2 ∷ 4 ∷ 0 ∷ []) (254 ∷ 1 ∷ 7 ∷ []) (replicate 25 7)
+    ≡ 0 ∷ 0 ∷ 0 ∷ 4 ∷ 1 ∷ 0 ∷ 0 ∷ 56
+    ∷ 9 ∷ 0 ∷ 0 ∷ 0 ∷ 0 ∷ 0 ∷ 0 ∷ 0
+    ∷ 0 ∷ 0 ∷ 0 ∷ 4 ∷ 1 ∷ 0 ∷ 0 ∷ 56 ∷ 7 ∷ [])
+    × (editListOutcome (fileOf A) (2 ∷ 4 ∷ []) (254 ∷ []) 25 ≡ refuse 9 0 1)
     -- masks of M: below 300, above 299
-    (thresholdWords Below (fileOf M) 300 (7 ∷ 7 ∷ 7 ∷ []) ≡ ones ∷ 0 ∷ 7 ∷ [])
+    × (thresholdWords Below (fileOf M) 300 (7 ∷ 7 ∷ 7 ∷ []) ≡ ones ∷ 0 ∷ 7 ∷ [])
     × (thresholdWords Above (fileOf M) 299 (7 ∷ 7 ∷ 7 ∷ []) ≡ 0 ∷ 1 ∷ 7 ∷ [])
     × (thresholdOutcome Above (fileOf M) 299 1 ≡ refuse 12 0 0)
     -- masks of masks: slots 0, 1 and slots 1, 2 of four; the complement of slot 64 of 65; bit 4 is past four slots
@@ -211,7 +231,20 @@ unfolding
     keepMaskedOutcome keepMaskedBuffer incrementMaskedOutcome incrementMaskedBuffer
     quotient countAt jaccardOutcome ofBits ofInt div shiftedBy shiftOutcome shiftBuffer
     signedDifferences signedDifferenceOutcome signedDifferenceList xor
+    lookupListOutcome lookupListBuffer scanOutcome scanBuffer writeOutcome writeBuffer closeOutcome closeBuffer
+    plainOutcome editedFile plainStart plainStep plainRun plainOutcomes bufferOf answerCells allCells editsOf
+    editListOutcome editListBuffer editListAnswers
 further = (
+  refl,
+  refl,
+  refl,
+  refl,
+  refl,
+  refl,
+  refl,
+  refl,
+  refl,
+  refl,
   refl,
   refl,
   refl,

@@ -44,7 +44,7 @@ impl fmt::Display for Refusal {
             8 => write!(f, "index entry {place} is wrong"),
             9 => write!(
                 f,
-                "the slot at position {place} of those asked for is n or more, or has no distance beside it"
+                "position {place} of those asked for has a slot of n or more, or only one of slot and distance"
             ),
             10 => f.write_str("the two maps differ in their number of slots"),
             11 => write!(
