@@ -41,10 +41,10 @@ class Scene:
         self.out, self.out2 = np.zeros(n, np.uint32), np.zeros(n, np.uint32)
         self.signed = np.zeros(n, np.int64)
         self.words = np.zeros(n // 64, np.uint64)
+        self.counts = np.zeros(n // 16, np.uint8)
         self.asked_out = np.zeros(len(self.asked), np.uint32)
         self.flags, self.flags2, self.flags3 = (np.zeros(n, bool) for _ in range(3))
         self.edited = self.a.copy()
-        # OpenCV has no unsigned numbers of 32 bits, and masks of a byte, 0 or 255, for each slot.
         self.shape = (height, width)
 
 
@@ -61,6 +61,7 @@ def spread(mask):
 def with_numpy(s):
     """The calls with numpy, by name."""
     a, b, out, out2 = s.a, s.b, s.out, s.out2
+    bit_counts = np.array([bin(x).count("1") for x in range(1 << 16)], np.uint8)
 
     def close():
         np.copyto(out, s.primary)
@@ -77,7 +78,7 @@ def with_numpy(s):
     def set_bits():
         if hasattr(np, "bitwise_count"):
             return int(np.bitwise_count(s.mask).sum())
-        return int(np.count_nonzero(spread(s.mask)))
+        return int(np.take(bit_counts, s.mask.view(np.uint16), out=s.counts).sum())
 
     def map_of_mask():
         np.copyto(out, spread(s.mask))
@@ -87,7 +88,7 @@ def with_numpy(s):
         np.maximum(a, b, out=out)
         np.minimum(a, b, out=out2)
         np.subtract(out, out2, out=out)
-        return float(total(out) / (total(a) + total(b)))
+        return total(out) / (total(a) + total(b))
 
     def total(x):
         return int(x.sum(dtype=np.uint64))
@@ -154,7 +155,10 @@ def copied(out, array):
 
 
 def with_opencv(s):
-    """The calls with OpenCV, by name."""
+    """The calls with OpenCV, by name.
+
+    It has no unsigned numbers of 32 bits, and its masks have a byte, 0 or 255, for each slot.
+    """
     cv2.setNumThreads(1)
 
     def rows(x):
@@ -165,14 +169,13 @@ def with_opencv(s):
     flags, flags2, flags3 = (np.zeros(s.shape, np.uint8) for _ in range(3))
     mask, other, words = (x.view(np.uint8).reshape(1, -1) for x in (s.mask, s.other_mask, s.words))
     chosen = (spread(s.mask) * 255).reshape(s.shape)
-    highest = 2.0**31 - 1
 
     def difference(y):
         cv2.max(a, y, out)
         return cv2.subtract(out, y, out)
 
-    def in_range(low, high):
-        return Flags(cv2.inRange(a, low, high, flags))
+    def compared(t, comparison):
+        return Flags(cv2.compare(a, t, comparison, flags))
 
     def keep_masked():
         out.fill(0)
@@ -214,12 +217,13 @@ def with_opencv(s):
         "bray_curtis": lambda: cv2.norm(a, b, cv2.NORM_L1) / (total(a) + total(b)),
     }
     for t in (200, 300):
-        calls[f"mask_below {t}"] = lambda t=t: in_range(0.0, t - 1.0)
-        calls[f"mask_at_most {t}"] = lambda t=t: in_range(0.0, float(t))
-        calls[f"mask_above {t}"] = lambda t=t: in_range(t + 1.0, highest)
-        calls[f"mask_at_least {t}"] = lambda t=t: in_range(float(t), highest)
+        limit = float(t)
+        calls[f"mask_below {t}"] = lambda t=limit: compared(t, cv2.CMP_LT)
+        calls[f"mask_at_most {t}"] = lambda t=limit: compared(t, cv2.CMP_LE)
+        calls[f"mask_above {t}"] = lambda t=limit: compared(t, cv2.CMP_GT)
+        calls[f"mask_at_least {t}"] = lambda t=limit: compared(t, cv2.CMP_GE)
         calls[f"near_mask {t}"] = calls[f"mask_at_most {t}"]
-        calls[f"jaccard at {t}"] = lambda t=float(t): jaccard(t)
+        calls[f"jaccard at {t}"] = lambda t=limit: jaccard(t)
     return calls
 
 

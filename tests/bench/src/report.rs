@@ -225,3 +225,75 @@ fn matrix(tables: &[Table], cell: impl Fn(&Row) -> Option<String>) -> String {
         _ => text,
     }
 }
+
+#[cfg(test)]
+mod tests {
+    use super::*;
+    use crate::scene::Size;
+
+    /// A table of one call that takes 10 microseconds in the library, `flat` on flat arrays and
+    /// `memcpy` as a copy.
+    fn table(call: &str, flat: f64, memcpy: f64) -> Table<'static> {
+        let size = Size {
+            width: 1_024,
+            height: 768,
+        };
+        let row = Row {
+            call: call.to_string(),
+            slots: size.slots(),
+            library: 10.0,
+            reference: Some(100.0),
+            flat: Some(flat),
+            numpy: None,
+            opencv: None,
+            memcpy: Some(memcpy),
+        };
+        Table {
+            size,
+            share: 10,
+            title: "a table".to_string(),
+            rows: vec![row],
+            python: None,
+        }
+    }
+
+    #[test]
+    fn who_is_faster_is_named() {
+        let text = behind(&[table("minimum", 4.0, 10.0)]);
+        assert!(text.contains("| minimum | flat Rust 2.50 |"), "{text}");
+        assert_eq!(text.matches("None.").count(), 2, "{text}");
+        let text = behind(&[table("edit, inline", 4.0, 10.0)]);
+        assert!(text.contains("| edit, inline | flat Rust 2.50 |"), "{text}");
+    }
+
+    #[test]
+    fn a_copy_that_is_much_faster_is_named() {
+        let text = behind(&[table("minimum", 20.0, 4.0)]);
+        assert!(text.contains("| minimum | 2.50 |"), "{text}");
+        assert_eq!(text.matches("None.").count(), 2, "{text}");
+    }
+
+    #[test]
+    fn nothing_is_behind_where_the_library_is_faster() {
+        let text = behind(&[table("minimum", 20.0, 10.0)]);
+        assert_eq!(text.matches("None.").count(), 3, "{text}");
+    }
+
+    #[test]
+    fn missing_libraries_are_said_to_be_missing() {
+        let text = document(&[table("minimum", 20.0, 10.0)], None);
+        assert!(
+            text.contains("numpy, which this machine did not have"),
+            "{text}"
+        );
+    }
+
+    #[test]
+    fn the_picture_has_a_bar_for_each_time() {
+        let shown = table("minimum", 20.0, 10.0);
+        assert!(picture::shows(&shown));
+        let picture = picture::svg(&shown);
+        assert_eq!(picture.matches("height=\"5\"").count(), 2, "{picture}");
+        assert!(picture.ends_with("</svg>\n"));
+    }
+}

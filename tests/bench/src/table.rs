@@ -40,7 +40,7 @@ pub struct Table<'a> {
     pub share: usize,
     pub title: String,
     pub rows: Vec<Row>,
-    python: Option<&'a Python>,
+    pub python: Option<&'a Python>,
 }
 
 impl<'a> Table<'a> {
