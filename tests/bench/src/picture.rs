@@ -36,7 +36,7 @@ pub fn svg(table: &Table) -> String {
     let _ = write!(
         text,
         r##"<svg xmlns="http://www.w3.org/2000/svg" viewBox="0 0 {WIDTH} {height}" width="{WIDTH}" height="{height}" role="img">
-<title>Times of others in times of the library's</title>
+<title>Times of others divided by the library's</title>
 <style>
 text {{ font: 12px sans-serif; fill: #1f2328 }}
 .title {{ font-weight: bold }}

@@ -62,9 +62,11 @@ fn document(tables: &[Table], python: Option<&Python>) -> String {
     let mut text = format!(
         "# Benchmarks
 
-Made by `make benchmarks` on {}, in one run, on this machine: {}.
+Made by `make benchmarks` in one run, on {}.
+Machine: {}.
+On flat arrays beside Rust: {}, {}.
 
-![Times of others in times of the library's, at 1,024 by 768 with 1 % in overflow](benchmarks.svg)
+![Times of others divided by the library's, at 1,024 by 768 with 1 % in overflow](benchmarks.svg)
 
 ## What is compared
 
@@ -73,8 +75,8 @@ Made by `make benchmarks` on {}, in one run, on this machine: {}.
 | library | the routine, called from Rust; every file that it is given is checked in the same call |
 | independent | the same on the same files: `tests/reference`, a straightforward Rust program, its checks included |
 | flat Rust | a plain loop over arrays of `u32`, in the same release build (`tests/bench/src/flat.rs`) |
-| numpy | the same arrays with {} (`tests/bench/flat.py`) |
-| OpenCV | the same arrays as signed numbers with {}, where it has the routine; its masks have a byte for each slot |
+| numpy | the same on the same arrays (`tests/bench/flat.py`) |
+| OpenCV | the same on the same arrays as signed numbers, where it has the routine; its masks have a byte for each slot |
 | memcpy | a copy in memory |
 
 A flat array has four bytes for each slot, is not a file, and has nothing to check: routines on flat arrays check neither
@@ -112,7 +114,7 @@ divided by the library's.
 fn named(library: &str, version: Option<&String>) -> String {
     match version {
         Some(version) => format!("{library} {version}"),
-        None => format!("{library}, which this machine did not have"),
+        None => format!("{library} was missing (its columns are empty)"),
     }
 }
 
@@ -169,7 +171,10 @@ fn size(table: &Table) -> String {
 /// The calls where another contestant is faster, and those that take long beside a memcpy.
 fn behind(tables: &[Table]) -> String {
     format!(
-        "Calls on whole maps where another one is faster, with how many times:
+        "A slot in overflow takes 12 bytes of a file, and more of a routine's time than one that is stored inline; a flat array
+has the same 4 bytes for both.
+
+Calls on whole maps where another one is faster, with how many times:
 
 {}
 Lookups and edits: a call checks its whole file first, also for one slot; on a flat array it is one access to memory, or
@@ -282,10 +287,7 @@ mod tests {
     #[test]
     fn missing_libraries_are_said_to_be_missing() {
         let text = document(&[table("minimum", 20.0, 10.0)], None);
-        assert!(
-            text.contains("numpy, which this machine did not have"),
-            "{text}"
-        );
+        assert!(text.contains("numpy was missing"), "{text}");
     }
 
     #[test]
