@@ -3,7 +3,8 @@
 # make dist     what a C or C++ program needs, in build/dist: header, archive, shared library, pkg-config file
 # make fuzz     the library beside the reference under a fuzzer, a minute unless PCIV_FUZZ_SECONDS says otherwise
 # make bench    the benchmark, as ratios in one run
-.PHONY: report test dist fuzz bench
+# make benchmarks  the same with numpy and OpenCV beside it, as docs/BENCHMARKS.md and its picture
+.PHONY: report test dist fuzz bench benchmarks
 
 build:
 	mkdir -p build
@@ -26,3 +27,7 @@ fuzz: | build
 bench: | build
 	@rt staticlib pciv_c > build/rt-staticlib.log 2>&1 || { cat build/rt-staticlib.log; exit 1; }
 	@cargo run --quiet --release --offline -p bench
+
+benchmarks: | build
+	@rt staticlib pciv_c > build/rt-staticlib.log 2>&1 || { cat build/rt-staticlib.log; exit 1; }
+	@cargo run --quiet --release --offline -p bench -- report

@@ -1,151 +1,105 @@
-//! Times the library beside the reference, a straightforward program, and a memcpy.
+//! Times the library beside the reference, a straightforward program, plain loops over flat arrays,
+//! and a memcpy. `bench report` times numpy and OpenCV on flat arrays too, and writes
+//! `docs/BENCHMARKS.md` with its picture.
 //!
 //! Contestants take turns, and each keeps its best round, so that the ratios of one run are
 //! comparable; differences of two are medians over the rounds. Every call includes its checks of
 //! the files. Buffers are warm, and as long as the result. One thread.
 
+mod counterpart;
+mod flat;
+mod picture;
+mod python;
+mod report;
+mod scene;
 mod table;
 mod timing;
 
-use compare::lists::{self, Spread};
-use compare::rng::Rng;
+use counterpart::Flat;
 use pciv::{EditAnswer, Summary};
+use python::Python;
 use reference::Comparison;
+use scene::{Map, Scene, Size, LIST_LEN};
 use std::hint::black_box;
-use table::Table;
-use timing::{best, keep, median, race, ROUNDS};
+use std::path::Path;
+use table::{Column, Table};
+use timing::{best, contestant, keep, median, race, ROUNDS};
 
-const SIZES: [usize; 2] = [786_432, 19_200];
+const SIZES: [Size; 2] = [
+    Size {
+        width: 1_024,
+        height: 768,
+    },
+    Size {
+        width: 160,
+        height: 120,
+    },
+];
 /// Slots in overflow, in thousandths.
 const SHARES: [usize; 3] = [1, 10, 100];
-const LIST_LEN: usize = 1_000;
+
+const COLUMNS: [Column; 8] = [
+    ("library", |row| Some(row.library)),
+    ("reference", |row| row.reference),
+    ("flat Rust", |row| row.flat),
+    ("memcpy", |row| row.memcpy),
+    ("ps a slot", |row| {
+        row.memcpy.map(|_| row.library * 1e6 / row.slots as f64)
+    }),
+    ("reference / library", |row| {
+        Some(row.reference? / row.library)
+    }),
+    ("flat Rust / library", |row| Some(row.flat? / row.library)),
+    ("library / memcpy", |row| Some(row.library / row.memcpy?)),
+];
 
 fn main() {
-    println!(
-        "Microseconds a call, the best of {ROUNDS} rounds. Overflow slots are scattered at random. \
-         The memcpy copies the file where a call only reads, else half of the bytes that the call has \
-         to read and to write, so that it reads and writes as many in all."
-    );
-    for n in SIZES {
-        for share in SHARES {
-            let scene = Scene::new(n, n * share / 1_000);
-            let title = format!(
-                "n = {n}, k = {} ({} %), {} bytes",
-                scene.a.slots.len(),
-                share as f64 / 10.0,
-                scene.a.file.len()
-            );
-            let table = Table::new(&title, n);
-            reading(&table, &scene.a);
-            lookups(&table, &scene);
-            writing(&table, &scene.a);
-            arithmetic(&table, &scene);
-            masks(&table, &scene);
-            masked(&table, &scene);
-            figures(&table, &scene);
-            edits(&table, &scene);
-        }
-    }
-}
-
-/// A map and what it is made of.
-struct Map {
-    list: Vec<u32>,
-    file: Vec<u8>,
-    /// Slots and distances of the overflow entries.
-    slots: Vec<u64>,
-    distances: Vec<u32>,
-}
-
-impl Map {
-    /// A map with `k` slots in overflow and inline distances below `inline`.
-    fn new(rng: &mut Rng, n: usize, k: usize, inline: usize) -> Map {
-        let list = lists::placed(
-            rng,
-            n,
-            k,
-            Spread::Scattered,
-            |rng| 255 + rng.below(60_000) as u32,
-            |rng| rng.below(inline) as u32,
+    if std::env::args().nth(1).as_deref() == Some("report") {
+        let root = Path::new(env!("CARGO_MANIFEST_DIR")).ancestors().nth(2);
+        let root = root.expect("tests/bench");
+        let python = Python::start(root);
+        let tables = scenes().map(|scene| {
+            let table = timed(&scene, python.as_ref());
+            println!("timed: {}", table.title);
+            table
+        });
+        report::write(root, &tables.collect::<Vec<_>>(), python.as_ref());
+    } else {
+        println!(
+            "Microseconds a call, the best of {ROUNDS} rounds. Overflow slots are scattered at \
+             random. {}",
+            report::MEMCPY
         );
-        let overflow = (0u64..).zip(list.iter().copied());
-        let (slots, distances) = overflow.filter(|&(_, distance)| distance >= 255).unzip();
-        Map {
-            file: reference::encode(&list).expect("few slots"),
-            list,
-            slots,
-            distances,
+        for scene in scenes() {
+            let table = timed(&scene, None);
+            println!("\n### {}\n\n{}", table.title, table.markdown(&COLUMNS));
         }
     }
-
-    fn primary(&self) -> &[u8] {
-        reference::primary(&self.file)
-    }
-
-    fn entries<E>(&self, entry: impl Fn(u64, u32) -> E) -> Vec<E> {
-        let pairs = self.slots.iter().zip(&self.distances);
-        pairs
-            .map(|(&slot, &distance)| entry(slot, distance))
-            .collect()
-    }
 }
 
-/// The maps of one table.
-struct Scene {
-    a: Map,
-    /// Like the first one: half of the sums become overflow.
-    b: Map,
-    /// With small inline distances: few sums become overflow.
-    small: Map,
-    /// Slots of the first map in overflow.
-    asked: Vec<u64>,
-    /// Masks with half of their bits set.
-    mask: Vec<u64>,
-    other_mask: Vec<u64>,
+fn scenes() -> impl Iterator<Item = Scene> {
+    let each = |size| SHARES.map(|share| (size, share));
+    let scenes = SIZES.into_iter().flat_map(each);
+    scenes.map(|(size, share)| Scene::new(size, share))
 }
 
-impl Scene {
-    fn new(n: usize, k: usize) -> Scene {
-        let mut rng = Rng::new((n + k) as u64);
-        let a = Map::new(&mut rng, n, k, 255);
-        Scene {
-            b: Map::new(&mut rng, n, k, 255),
-            small: Map::new(&mut rng, n, k, 3),
-            asked: (0..LIST_LEN).map(|_| rng.pick(&a.slots)).collect(),
-            mask: random_mask(&mut rng, n),
-            other_mask: random_mask(&mut rng, n),
-            a,
-        }
-    }
-
-    /// The first slot from the middle on that is stored inline.
-    fn inline_slot(&self) -> u64 {
-        let middle = self.a.list.len() / 2;
-        let inline = self.a.list[middle..].iter().position(|&d| d < 255);
-        (middle + inline.expect("an inline slot")) as u64
-    }
-
-    /// The middle one of the slots in overflow.
-    fn overflow_slot(&self) -> u64 {
-        self.a.slots[self.a.slots.len() / 2]
-    }
-
-    /// The first map's file, with space for a longer one behind it.
-    fn edit_buffer(&self) -> Vec<u8> {
-        let mut buffer = self.a.file.clone();
-        buffer.resize(buffer.len() + 40_000, 0);
-        buffer
-    }
+fn timed<'a>(scene: &Scene, python: Option<&'a Python>) -> Table<'a> {
+    let mut table = Table::new(scene, python);
+    reading(&mut table, &scene.a);
+    lookups(&mut table, scene);
+    writing(&mut table, &scene.a);
+    arithmetic(&mut table, scene);
+    masks(&mut table, scene);
+    masked(&mut table, scene);
+    figures(&mut table, scene);
+    edits(&mut table, scene);
+    table
 }
 
-/// A mask of `n` slots, a multiple of 64, with half of its bits set.
-fn random_mask(rng: &mut Rng, n: usize) -> Vec<u64> {
-    (0..n / 64).map(|_| rng.word()).collect()
-}
-
-/// Check, scan, sum and readings.
-fn reading(table: &Table, map: &Map) {
-    let (file, n) = (&map.file[..], map.list.len());
+/// Check, scan, sum, readings, and the report where it takes a file of this length.
+fn reading(table: &mut Table, map: &Map) {
+    let (file, list) = (&map.file[..], &map.list[..]);
+    let n = list.len();
     let (mut ours, mut theirs) = (vec![0; n], vec![0; n]);
     let len = file.len();
     let copied = 2 * len;
@@ -154,48 +108,100 @@ fn reading(table: &Table, map: &Map) {
         copied,
         || pciv::check(file),
         || reference::check(file),
+        Flat::Missing,
+    );
+    table.row(
+        "primary",
+        copied,
+        || Ok(pciv::primary(file).len()),
+        || Ok::<_, reference::Refusal>(reference::primary(file).len()),
+        Flat::Missing,
     );
     table.row(
         "scan",
         len + 4 * n,
         || pciv::scan(file, black_box(&mut ours)),
         || reference::scan(file, black_box(&mut theirs)),
+        Flat::Distances(&mut |out| flat::scan(list, out)),
     );
-    table.row("sum", copied, || pciv::sum(file), || reference::sum(file));
+    table.row(
+        "sum",
+        copied,
+        || pciv::sum(file),
+        || reference::sum(file),
+        Flat::Number(&mut || flat::sum(list)),
+    );
     table.row(
         "readings",
         copied,
         || pciv::readings(file),
         || reference::readings(file),
+        Flat::Number(&mut || flat::readings(list)),
     );
+    if len <= reference::MAX_INPUT {
+        let [mut ours, mut theirs] = [[0; 256]; 2];
+        table.row(
+            "report",
+            copied,
+            || pciv::report(file, black_box(&mut ours)),
+            || reference::report(file, black_box(&mut theirs)),
+            Flat::Missing,
+        );
+    }
 }
 
 /// One overflow slot, and a list of overflow slots; of the list also the cost of each slot beyond
 /// that of the check.
-fn lookups(table: &Table, scene: &Scene) {
-    let (file, slots) = (&scene.a.file[..], &scene.asked[..]);
+fn lookups(table: &mut Table, scene: &Scene) {
+    let (file, list, slots) = (&scene.a.file[..], &scene.a.list[..], &scene.asked[..]);
+    let n = list.len();
     let (mut ours, mut theirs) = (vec![0; slots.len()], vec![0; slots.len()]);
+
+    let call = "lookup";
+    let mut one = || flat::lookup(black_box(list), black_box(slots[0]));
+    let mut flat_one = Flat::Number(&mut one);
+    table.compare_results(call, &mut flat_one);
+    let times = best(&race([
+        Some(contestant(|| keep(pciv::lookup(file, slots[0])))),
+        Some(contestant(|| keep(reference::lookup(file, slots[0])))),
+        flat_one.contestant(n),
+        table.numpy(call),
+        table.opencv(call),
+        None,
+    ]));
+    table.push(call, times);
+
+    let call = "lookup_list of 1,000";
+    let mut many = |out: &mut [u32]| flat::lookup_list(list, black_box(slots), out);
+    let mut flat_list = Flat::Distances(&mut many);
+    table.compare_results(call, &mut flat_list);
     let rounds = race([
-        &mut || keep(pciv::lookup(file, slots[0])),
-        &mut || keep(reference::lookup(file, slots[0])),
-        &mut || keep(pciv::lookup_list(file, slots, black_box(&mut ours))),
-        &mut || keep(pciv::check(file)),
-        &mut || keep(reference::lookup_list(file, slots, black_box(&mut theirs))),
-        &mut || keep(reference::check(file)),
+        Some(contestant(|| {
+            keep(pciv::lookup_list(file, slots, black_box(&mut ours)))
+        })),
+        Some(contestant(|| keep(pciv::check(file)))),
+        Some(contestant(|| {
+            keep(reference::lookup_list(file, slots, black_box(&mut theirs)))
+        })),
+        Some(contestant(|| keep(reference::check(file)))),
+        flat_list.contestant(n),
+        table.numpy(call),
+        table.opencv(call),
     ]);
-    let [our_one, their_one, our_list, _, their_list, _] = best(&rounds);
-    table.pair("lookup", our_one, their_one);
-    table.pair("lookup_list of 1,000", our_list, their_list);
-    let ns_per_slot = |difference: f64| difference * 1e3 / LIST_LEN as f64;
-    table.pair(
+    let [library, _, reference, _, flat, numpy, opencv] = best(&rounds);
+    table.push(call, [library, reference, flat, numpy, opencv, None]);
+    let ns_a_slot = |list: usize, check: usize| {
+        let checked = median(rounds.iter().map(|round| round[list] - round[check]));
+        Some(checked * 1e3 / LIST_LEN as f64)
+    };
+    table.push(
         "of these ns a slot, no check",
-        ns_per_slot(median(rounds.iter().map(|round| round[2] - round[3]))),
-        ns_per_slot(median(rounds.iter().map(|round| round[4] - round[5]))),
+        [ns_a_slot(0, 1), ns_a_slot(2, 3), None, None, None, None],
     );
 }
 
-/// Write, close and close_entries, all to the same file.
-fn writing(table: &Table, map: &Map) {
+/// Write, close and close_entries, all to the same file; on flat arrays, to an array.
+fn writing(table: &mut Table, map: &Map) {
     let (list, primary) = (&map.list[..], map.primary());
     let (slots, distances) = (&map.slots[..], &map.distances[..]);
     let our_entries = map.entries(|slot, distance| pciv::Entry { slot, distance });
@@ -207,65 +213,83 @@ fn writing(table: &Table, map: &Map) {
         4 * n + len,
         || pciv::write(list, black_box(&mut ours)),
         || reference::write(list, black_box(&mut theirs)),
+        Flat::Distances(&mut |out| flat::scan(list, out)),
     );
     table.row(
         "close",
         n + 12 * k + len,
         || pciv::close(primary, slots, distances, black_box(&mut ours)),
         || reference::close(primary, slots, distances, black_box(&mut theirs)),
+        Flat::Distances(&mut |out| {
+            let entries = slots.iter().copied().zip(distances.iter().copied());
+            flat::close(primary, entries, out);
+        }),
     );
     table.row(
         "close_entries",
         n + 16 * k + len,
         || pciv::close_entries(primary, &our_entries, black_box(&mut ours)),
         || reference::close_entries(primary, &their_entries, black_box(&mut theirs)),
+        Flat::Distances(&mut |out| {
+            let entries = our_entries.iter().map(|entry| (entry.slot, entry.distance));
+            flat::close(primary, entries, out);
+        }),
     );
 }
 
-/// What combines two files into a third, in the library and in the reference.
+/// What combines two files into a third, in the library and in the reference, and two arrays.
 type Ours = fn(&[u8], &[u8], &mut [u8]) -> Result<Summary, pciv::Refusal>;
 type Theirs = fn(&[u8], &[u8], &mut [u8]) -> Result<reference::Summary, reference::Refusal>;
+type Arrays = fn(&[u32], &[u32], &mut [u32]);
 
 /// Minimum, maximum, sum, difference, shift and signed difference.
-fn arithmetic(table: &Table, scene: &Scene) {
-    let (a, b, small) = (&scene.a.file, &scene.b.file, &scene.small.file);
-    combine(table, "minimum", a, b, pciv::minimum, reference::minimum);
-    combine(table, "maximum", a, b, pciv::maximum, reference::maximum);
-    let (ours, theirs): (Ours, Theirs) = (pciv::sum_maps, reference::sum_maps);
-    combine(table, "sum_maps, few to overflow", a, small, ours, theirs);
-    combine(table, "sum_maps, half to overflow", a, b, ours, theirs);
+fn arithmetic(table: &mut Table, scene: &Scene) {
+    let (a, b, small) = (&scene.a, &scene.b, &scene.small);
+    let minimum: (Ours, Theirs, Arrays) = (pciv::minimum, reference::minimum, flat::minimum);
+    combine(table, "minimum", [a, b], minimum);
+    let maximum: (Ours, Theirs, Arrays) = (pciv::maximum, reference::maximum, flat::maximum);
+    combine(table, "maximum", [a, b], maximum);
+    let sum: (Ours, Theirs, Arrays) = (pciv::sum_maps, reference::sum_maps, flat::sum_maps);
+    combine(table, "sum_maps, few to overflow", [a, small], sum);
+    combine(table, "sum_maps, half to overflow", [a, b], sum);
     combine(
         table,
         "difference",
-        a,
-        b,
-        pciv::difference,
-        reference::difference,
+        [a, b],
+        (pciv::difference, reference::difference, flat::difference),
     );
     shift(table, a, -50);
     shift(table, a, 10);
-    let n = scene.a.list.len();
+    let n = a.list.len();
     let (mut ours, mut theirs) = (vec![0; n], vec![0; n]);
     table.row(
         "signed_difference",
-        a.len() + b.len() + 8 * n,
-        || pciv::signed_difference(a, b, black_box(&mut ours)),
-        || reference::signed_difference(a, b, black_box(&mut theirs)),
+        a.file.len() + b.file.len() + 8 * n,
+        || pciv::signed_difference(&a.file, &b.file, black_box(&mut ours)),
+        || reference::signed_difference(&a.file, &b.file, black_box(&mut theirs)),
+        Flat::Signed(&mut |out| flat::signed_difference(&a.list, &b.list, out)),
     );
 }
 
-fn combine(table: &Table, call: &str, a: &[u8], b: &[u8], ours: Ours, theirs: Theirs) {
-    let len = result_len(|out| theirs(a, b, out));
+fn combine(
+    table: &mut Table,
+    call: &str,
+    [a, b]: [&Map; 2],
+    (ours, theirs, arrays): (Ours, Theirs, Arrays),
+) {
+    let len = result_len(|out| theirs(&a.file, &b.file, out));
     let (mut our_out, mut their_out) = (vec![0; len], vec![0; len]);
     table.row(
         call,
-        a.len() + b.len() + len,
-        || ours(a, b, black_box(&mut our_out)),
-        || theirs(a, b, black_box(&mut their_out)),
+        a.file.len() + b.file.len() + len,
+        || ours(&a.file, &b.file, black_box(&mut our_out)),
+        || theirs(&a.file, &b.file, black_box(&mut their_out)),
+        Flat::Distances(&mut |out| arrays(&a.list, &b.list, out)),
     );
 }
 
-fn shift(table: &Table, file: &[u8], by: i32) {
+fn shift(table: &mut Table, map: &Map, by: i32) {
+    let (file, list) = (&map.file[..], &map.list[..]);
     let len = result_len(|out| reference::shift(file, by, out));
     let (mut ours, mut theirs) = (vec![0; len], vec![0; len]);
     table.row(
@@ -273,20 +297,56 @@ fn shift(table: &Table, file: &[u8], by: i32) {
         file.len() + len,
         || pciv::shift(file, by, black_box(&mut ours)),
         || reference::shift(file, by, black_box(&mut theirs)),
+        Flat::Distances(&mut |out| flat::shift(list, by, out)),
     );
 }
 
 /// Masks of a map, where the bytes decide and where the overflow entries do; masks of masks.
-fn masks(table: &Table, scene: &Scene) {
-    let (file, n) = (&scene.a.file[..], scene.a.list.len());
+fn masks(table: &mut Table, scene: &Scene) {
+    let (file, list) = (&scene.a.file[..], &scene.a.list[..]);
+    let n = list.len();
     let words = reference::mask_len(n);
-    let (mut ours, mut theirs) = (vec![0; words], vec![0; words]);
-    for t in [200, 300] {
+    let (mut out, mut their_out) = (vec![0; words], vec![0; words]);
+    type Ours = fn(&[u8], u32, &mut [u64]) -> Result<u64, pciv::Refusal>;
+    type Arrays = fn(&[u32], u32, &mut [u64]);
+    let below: Arrays = |list, t, out| flat::mask(list, out, |x| x < t);
+    let at_most: Arrays = |list, t, out| flat::mask(list, out, |x| x <= t);
+    let above: Arrays = |list, t, out| flat::mask(list, out, |x| x > t);
+    let at_least: Arrays = |list, t, out| flat::mask(list, out, |x| x >= t);
+    let (less, more) = (Comparison::AtMost, Comparison::AtLeast);
+    let routines: [(&str, u32, Ours, Comparison, Arrays); 6] = [
+        (
+            "mask_below",
+            200,
+            pciv::mask_below,
+            Comparison::Below,
+            below,
+        ),
+        (
+            "mask_below",
+            300,
+            pciv::mask_below,
+            Comparison::Below,
+            below,
+        ),
+        ("mask_at_most", 200, pciv::mask_at_most, less, at_most),
+        (
+            "mask_above",
+            200,
+            pciv::mask_above,
+            Comparison::Above,
+            above,
+        ),
+        ("mask_at_least", 200, pciv::mask_at_least, more, at_least),
+        ("near_mask", 200, pciv::near_mask, less, at_most),
+    ];
+    for (name, t, ours, comparison, arrays) in routines {
         table.row(
-            &format!("mask_below {t}"),
+            &format!("{name} {t}"),
             file.len() + 8 * words,
-            || pciv::mask_below(file, t, black_box(&mut ours)),
-            || reference::threshold(file, Comparison::Below, t, black_box(&mut theirs)),
+            || ours(file, t, black_box(&mut out)),
+            || reference::threshold(file, comparison, t, black_box(&mut their_out)),
+            Flat::Words(&mut |out| arrays(list, t, out)),
         );
     }
     let (a, b) = (&scene.mask[..], &scene.other_mask[..]);
@@ -294,38 +354,44 @@ fn masks(table: &Table, scene: &Scene) {
     table.row(
         "mask_and",
         24 * words,
-        || pciv::mask_and(slots, a, b, black_box(&mut ours)),
-        || reference::mask_and(n, a, b, black_box(&mut theirs)),
+        || pciv::mask_and(slots, a, b, black_box(&mut out)),
+        || reference::mask_and(n, a, b, black_box(&mut their_out)),
+        Flat::Words(&mut |out| flat::mask_and(a, b, out)),
     );
     table.row(
         "mask_or",
         24 * words,
-        || pciv::mask_or(slots, a, b, black_box(&mut ours)),
-        || reference::mask_or(n, a, b, black_box(&mut theirs)),
+        || pciv::mask_or(slots, a, b, black_box(&mut out)),
+        || reference::mask_or(n, a, b, black_box(&mut their_out)),
+        Flat::Words(&mut |out| flat::mask_or(a, b, out)),
     );
     table.row(
         "mask_xor",
         24 * words,
-        || pciv::mask_xor(slots, a, b, black_box(&mut ours)),
-        || reference::mask_xor(n, a, b, black_box(&mut theirs)),
+        || pciv::mask_xor(slots, a, b, black_box(&mut out)),
+        || reference::mask_xor(n, a, b, black_box(&mut their_out)),
+        Flat::Words(&mut |out| flat::mask_xor(a, b, out)),
     );
     table.row(
         "mask_not",
         16 * words,
-        || pciv::mask_not(slots, a, black_box(&mut ours)),
-        || reference::mask_not(n, a, black_box(&mut theirs)),
+        || pciv::mask_not(slots, a, black_box(&mut out)),
+        || reference::mask_not(n, a, black_box(&mut their_out)),
+        Flat::Words(&mut |out| flat::mask_not(n, a, out)),
     );
     table.row(
         "set_bits",
         16 * words,
         || pciv::set_bits(slots, a),
         || reference::set_bits(n, a),
+        Flat::Number(&mut || flat::set_bits(black_box(a))),
     );
 }
 
 /// Files from a mask with half of its bits set.
-fn masked(table: &Table, scene: &Scene) {
-    let (file, mask, n) = (&scene.a.file[..], &scene.mask[..], scene.a.list.len());
+fn masked(table: &mut Table, scene: &Scene) {
+    let (file, list, mask) = (&scene.a.file[..], &scene.a.list[..], &scene.mask[..]);
+    let n = list.len();
     let buffers = |len| (vec![0; len], vec![0; len]);
     let len = result_len(|out| reference::map_of_mask(n, mask, out));
     let (mut ours, mut theirs) = buffers(len);
@@ -334,6 +400,7 @@ fn masked(table: &Table, scene: &Scene) {
         n / 8 + len,
         || pciv::map_of_mask(n as u64, mask, black_box(&mut ours)),
         || reference::map_of_mask(n, mask, black_box(&mut theirs)),
+        Flat::Distances(&mut |out| flat::map_of_mask(mask, out)),
     );
     let len = result_len(|out| reference::keep_masked(file, mask, out));
     let (mut ours, mut theirs) = buffers(len);
@@ -342,6 +409,7 @@ fn masked(table: &Table, scene: &Scene) {
         file.len() + n / 8 + len,
         || pciv::keep_masked(file, mask, black_box(&mut ours)),
         || reference::keep_masked(file, mask, black_box(&mut theirs)),
+        Flat::Distances(&mut |out| flat::keep_masked(list, mask, out)),
     );
     let len = result_len(|out| reference::increment_masked(file, mask, out));
     let (mut ours, mut theirs) = buffers(len);
@@ -350,32 +418,35 @@ fn masked(table: &Table, scene: &Scene) {
         file.len() + n / 8 + len,
         || pciv::increment_masked(file, mask, black_box(&mut ours)),
         || reference::increment_masked(file, mask, black_box(&mut theirs)),
+        Flat::Distances(&mut |out| flat::increment_masked(list, mask, out)),
     );
 }
 
 /// Bray-Curtis, and Jaccard at a threshold below and above 255.
-fn figures(table: &Table, scene: &Scene) {
-    let (a, b) = (&scene.a.file, &scene.b.file);
-    let copied = 2 * (a.len() + b.len());
+fn figures(table: &mut Table, scene: &Scene) {
+    let (a, b) = (&scene.a, &scene.b);
+    let copied = 2 * (a.file.len() + b.file.len());
     table.row(
         "bray_curtis",
         copied,
-        || pciv::bray_curtis(a, b),
-        || reference::bray_curtis(a, b),
+        || pciv::bray_curtis(&a.file, &b.file),
+        || reference::bray_curtis(&a.file, &b.file),
+        Flat::Figure(&mut || flat::bray_curtis(&a.list, &b.list)),
     );
     for t in [200, 300] {
         table.row(
             &format!("jaccard at {t}"),
             copied,
-            || pciv::jaccard(a, b, t),
-            || reference::jaccard(a, b, t),
+            || pciv::jaccard(&a.file, &b.file, t),
+            || reference::jaccard(&a.file, &b.file, t),
+            Flat::Figure(&mut || flat::jaccard(&a.list, &b.list, t)),
         );
     }
 }
 
 /// One edit with its check, to one distance and back: inline, in overflow, into and out of
 /// overflow. Then lists of edits, and of these the cost of each edit beyond that of the check.
-fn edits(table: &Table, scene: &Scene) {
+fn edits(table: &mut Table, scene: &Scene) {
     let (inline, overflow) = (scene.inline_slot(), scene.overflow_slot());
     edit(table, scene, "edit, inline", inline, [7, 9]);
     edit(table, scene, "edit, in overflow", overflow, [700, 900]);
@@ -385,9 +456,10 @@ fn edits(table: &Table, scene: &Scene) {
     edit_list(table, scene, "into and out", &[inline], [7, 900]);
 }
 
-fn edit(table: &Table, scene: &Scene, call: &str, slot: u64, distances: [u32; 2]) {
+fn edit(table: &mut Table, scene: &Scene, call: &str, slot: u64, distances: [u32; 2]) {
     let [mut ours, mut theirs] = [0; 2].map(|_| scene.edit_buffer());
-    let [mut our_turn, mut their_turn] = [0; 2];
+    let mut list = scene.a.list.clone();
+    let [mut our_turn, mut their_turn, mut flat_turn] = [0; 3];
     let next = |turn: &mut usize| {
         *turn ^= 1;
         distances[*turn]
@@ -397,34 +469,53 @@ fn edit(table: &Table, scene: &Scene, call: &str, slot: u64, distances: [u32; 2]
         2 * scene.a.file.len(),
         || pciv::edit(&mut ours, slot, next(&mut our_turn)),
         || reference::edit(&mut theirs, slot, next(&mut their_turn)),
+        Flat::Change(&mut || {
+            black_box(&mut list)[black_box(slot) as usize] = next(&mut flat_turn);
+        }),
     );
 }
 
-fn edit_list(table: &Table, scene: &Scene, what: &str, slots: &[u64], distances: [u32; 2]) {
+fn edit_list(table: &mut Table, scene: &Scene, what: &str, slots: &[u64], distances: [u32; 2]) {
+    let call = &format!("edit_list, 1,000 {what}");
     let slots: Vec<u64> = slots.iter().copied().cycle().take(LIST_LEN).collect();
     let distances: Vec<u32> = distances.into_iter().cycle().take(LIST_LEN).collect();
     let [mut ours, mut theirs] = [0; 2].map(|_| scene.edit_buffer());
+    let mut list = scene.a.list.clone();
     let mut answers = vec![EditAnswer::default(); LIST_LEN];
     let mut their_answers = vec![0; reference::ANSWER_LEN * LIST_LEN];
     let file = &scene.a.file[..];
     let rounds = race([
-        &mut || keep(pciv::edit_list(&mut ours, &slots, &distances, &mut answers)),
-        &mut || keep(pciv::check(file)),
-        &mut || {
+        Some(contestant(|| {
+            keep(pciv::edit_list(&mut ours, &slots, &distances, &mut answers))
+        })),
+        Some(contestant(|| keep(pciv::check(file)))),
+        Some(contestant(|| {
             keep(reference::edit_list(
                 &mut theirs,
                 &slots,
                 &distances,
                 &mut their_answers,
             ))
-        },
+        })),
+        Some(contestant(|| {
+            flat::edit_list(black_box(&mut list), &slots, &distances)
+        })),
+        table.numpy(call),
+        table.opencv(call),
     ]);
-    let [our_list, _, their_list] = best(&rounds);
-    table.pair(&format!("edit_list, 1,000 {what}"), our_list, their_list);
+    let [library, _, reference, flat, numpy, opencv] = best(&rounds);
+    table.push(call, [library, reference, flat, numpy, opencv, None]);
     let checked = median(rounds.iter().map(|round| round[0] - round[1]));
-    table.alone(
+    table.push(
         "of these ns an edit, no check",
-        checked * 1e3 / LIST_LEN as f64,
+        [
+            Some(checked * 1e3 / LIST_LEN as f64),
+            None,
+            None,
+            None,
+            None,
+            None,
+        ],
     );
 }
 
