@@ -57,13 +57,14 @@ fn main() {
     if std::env::args().nth(1).as_deref() == Some("report") {
         let root = Path::new(env!("CARGO_MANIFEST_DIR")).ancestors().nth(2);
         let root = root.expect("tests/bench");
+        let load = report::load();
         let python = Python::start(root);
         let tables = scenes().map(|scene| {
             let table = timed(&scene, python.as_ref());
             println!("timed: {}", table.title);
             table
         });
-        report::write(root, &tables.collect::<Vec<_>>(), python.as_ref());
+        report::write(root, &tables.collect::<Vec<_>>(), python.as_ref(), &load);
     } else {
         println!(
             "Microseconds a call, the best of {ROUNDS} rounds. Overflow slots are scattered at \

@@ -47,10 +47,16 @@ fn ratio(row: &Row, other: Option<f64>) -> Option<f64> {
     Some(other? / row.library)
 }
 
-/// Writes `docs/BENCHMARKS.md` and its picture.
-pub fn write(root: &Path, tables: &[Table], python: Option<&Python>) {
+/// How many processes want a processor, as a mean over a minute.
+pub fn load() -> String {
+    let load = fs::read_to_string("/proc/loadavg").unwrap_or_default();
+    load.split(' ').next().unwrap_or_default().to_string()
+}
+
+/// Writes `docs/BENCHMARKS.md` and its picture; `load` is that before the run.
+pub fn write(root: &Path, tables: &[Table], python: Option<&Python>, load: &str) {
     let docs = root.join("docs");
-    let text = document(tables, python);
+    let text = document(tables, python, load);
     fs::write(docs.join("BENCHMARKS.md"), text).expect("docs/BENCHMARKS.md");
     let shown = tables.iter().find(|table| picture::shows(table));
     let picture = picture::svg(shown.expect("the table of the picture"));
@@ -58,12 +64,12 @@ pub fn write(root: &Path, tables: &[Table], python: Option<&Python>) {
     println!("written: docs/BENCHMARKS.md, docs/benchmarks.svg");
 }
 
-fn document(tables: &[Table], python: Option<&Python>) -> String {
+fn document(tables: &[Table], python: Option<&Python>, load: &str) -> String {
     let mut text = format!(
         "# Benchmarks
 
 Made by `make benchmarks` in one run, on {}.
-Machine: {}.
+Machine: {}; load average before the run {load}.
 On flat arrays beside Rust: {}, {}.
 
 ![Times of others divided by the library's, at 1,024 by 768 with 1 % in overflow](benchmarks.svg)
@@ -286,7 +292,7 @@ mod tests {
 
     #[test]
     fn missing_libraries_are_said_to_be_missing() {
-        let text = document(&[table("minimum", 20.0, 10.0)], None);
+        let text = document(&[table("minimum", 20.0, 10.0)], None, "0.00");
         assert!(text.contains("numpy was missing"), "{text}");
     }
 
