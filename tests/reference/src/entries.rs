@@ -37,10 +37,10 @@ pub(crate) fn check_sentinels(
     primary: &[u8],
     entries: impl Iterator<Item = Entry>,
 ) -> Result<(), Refusal> {
-    let mut entries = entries.peekable();
-    for (slot, &byte) in (0u64..).zip(primary) {
-        let missing = byte == SENTINEL && entries.next_if(|entry| entry.slot == slot).is_none();
-        if missing {
+    let mut slots = entries.map(|entry| entry.slot);
+    let sentinels = (0u64..).zip(primary).filter(|(_, &byte)| byte == SENTINEL);
+    for (slot, _) in sentinels {
+        if slots.next() != Some(slot) {
             return Err(Refusal::of_file(7, slot));
         }
     }
