@@ -74,6 +74,14 @@ rust_tests() {
     cargo test --release --offline --workspace && echo 'all passed'
 }
 
+# block LANGUAGE NUMBER: a program in README.md, which has several in that language.
+block() {
+    awk -v start="\`\`\`$1" -v wanted="$2" '
+        $0 == start { seen++; inside = seen == wanted; next }
+        /^```$/ { inside = 0 }
+        inside' README.md
+}
+
 # The examples: C and Rust print the same and write the same file.
 examples() {
     gcc -std=c11 -D_DEFAULT_SOURCE -pedantic -Wall -Wextra -Werror -O2 -Iinclude -o "$work/stroke" \
@@ -86,24 +94,21 @@ examples() {
         while IFS= read -r line; do
             grep -qxF -e "$line" README.md || { echo "README.md does not have: $line"; return 1; }
         done <"$work/c.txt" &&
-        echo 'C and Rust agree, and README.md has their output'
+        block c 2 | cmp - examples/stroke.c &&
+        block rust 3 | cmp - rust/pciv/examples/stroke.rs &&
+        echo 'C and Rust agree, and README.md has them with their output'
 }
 
 rust_doc() {
     RUSTDOCFLAGS='-D warnings' cargo doc --offline --no-deps -p pciv && echo 'no warnings'
 }
 
-# block LANGUAGE: the first program in that language in README.md.
-block() {
-    awk -v start="\`\`\`$1" '$0 == start && !seen { seen = inside = 1; next } /^```$/ { inside = 0 } inside' README.md
-}
-
 readme() {
-    block c >"$work/readme.c" &&
+    block c 1 >"$work/readme.c" &&
         gcc -std=c11 -Wall -Wextra -Werror -I"$dist/include" -o "$work/readme_c" "$work/readme.c" \
             "$dist/lib/libpciv_c.a" &&
         "$work/readme_c" <examples/map-a.pciv | grep -x 'slot 3: 300 cm' &&
-        block rust >"$work/readme.rs" &&
+        block rust 1 >"$work/readme.rs" &&
         rustc --edition 2021 --extern "pciv=$programs/libpciv.rlib" -o "$work/readme_rust" "$work/readme.rs" &&
         "$work/readme_rust" | grep -x '4 distances, 300 cm at slot 3' &&
         echo 'the programs for C and Rust print what they should'

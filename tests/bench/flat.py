@@ -22,6 +22,10 @@ except ImportError:
     cv2 = None
 
 
+# Edits of a list of edits.
+EDITS = 1000
+
+
 class Scene:
     """The arrays of a scene, flat for numpy and with rows for OpenCV."""
 
@@ -106,7 +110,7 @@ def with_numpy(s):
         "sum": lambda: total(a),
         "readings": lambda: int(np.count_nonzero(a)),
         "lookup": lambda: int(a[s.asked[0]]),
-        "lookup_list of 1,000": lambda: np.take(a, s.asked, out=s.asked_out, mode="clip"),
+        "lookup_list of 20,000": lambda: np.take(a, s.asked, out=s.asked_out, mode="clip"),
         "write": lambda: copied(out, a),
         "close": close,
         "close_entries": close,
@@ -139,11 +143,11 @@ def with_numpy(s):
     edited = s.edited
     # One edit and a list of edits, to one distance and to another in turns.
     for name, slot, many, values in (
-        ("inline", s.inline, np.full(len(s.asked), s.inline), (7, 9)),
-        ("in overflow", s.overflow, s.asked, (700, 900)),
-        ("into and out", s.inline, np.full(len(s.asked), s.inline), (7, 900)),
+        ("inline", s.inline, np.full(EDITS, s.inline), (7, 9)),
+        ("in overflow", s.overflow, s.asked[:EDITS], (700, 900)),
+        ("into and out", s.inline, np.full(EDITS, s.inline), (7, 900)),
     ):
-        distances = np.resize(np.array(values, np.uint32), len(s.asked))
+        distances = np.resize(np.array(values, np.uint32), EDITS)
         calls[f"edit, {name}"] = lambda slot=slot, v=values[0]: edited.__setitem__(slot, v)
         calls[f"edit_list, 1,000 {name}"] = lambda m=many, d=distances: edited.__setitem__(m, d)
     return calls

@@ -1,6 +1,7 @@
 //! Times the library beside the reference, a straightforward program, plain loops over flat arrays,
 //! and a memcpy. `bench report` times numpy and OpenCV on flat arrays too, and writes
-//! `docs/BENCHMARKS.md` with its picture.
+//! `docs/BENCHMARKS.md` with its picture. `bench goals` prints what the document has on its goals,
+//! as `tests/bench/before.tsv` holds it of an earlier state of the library.
 //!
 //! Contestants take turns, and each keeps its best round, so that the ratios of one run are
 //! comparable; differences of two are medians over the rounds. Every call includes its checks of
@@ -8,6 +9,8 @@
 
 mod counterpart;
 mod flat;
+mod goals;
+mod growth;
 mod picture;
 mod python;
 mod report;
@@ -19,22 +22,16 @@ use counterpart::Flat;
 use pciv::{EditAnswer, Summary};
 use python::Python;
 use reference::Comparison;
-use scene::{Map, Scene, Size, LIST_LEN};
+use scene::{Map, Scene, Size, Spread, LIST_LEN};
 use std::hint::black_box;
 use std::path::Path;
 use table::{Column, Table};
 use timing::{best, contestant, keep, median, race, ROUNDS};
 
-const SIZES: [Size; 2] = [
-    Size {
-        width: 1_024,
-        height: 768,
-    },
-    Size {
-        width: 160,
-        height: 120,
-    },
-];
+/// Sizes of the tables.
+const SIZES: [Size; 2] = [size(1_024, 768), size(160, 120)];
+/// Sizes of maps whose costs are compared slot by slot.
+const GROWTH_SIZES: [Size; 3] = [size(160, 120), size(1_024, 768), size(1_024, 1_024)];
 /// Slots in overflow, in thousandths.
 const SHARES: [usize; 3] = [1, 10, 100];
 
@@ -53,35 +50,70 @@ const COLUMNS: [Column; 8] = [
     ("library / memcpy", |row| Some(row.library / row.memcpy?)),
 ];
 
+const fn size(width: usize, height: usize) -> Size {
+    Size { width, height }
+}
+
 fn main() {
-    if std::env::args().nth(1).as_deref() == Some("report") {
-        let root = Path::new(env!("CARGO_MANIFEST_DIR")).ancestors().nth(2);
-        let root = root.expect("tests/bench");
-        let load = report::load();
-        let python = Python::start(root);
-        let tables = scenes().map(|scene| {
-            let table = timed(&scene, python.as_ref());
-            println!("timed: {}", table.title);
-            table
-        });
-        report::write(root, &tables.collect::<Vec<_>>(), python.as_ref(), &load);
-    } else {
-        println!(
-            "Microseconds a call, the best of {ROUNDS} rounds. Overflow slots are scattered at \
-             random. {}",
-            report::MEMCPY
-        );
-        for scene in scenes() {
-            let table = timed(&scene, None);
-            println!("\n### {}\n\n{}", table.title, table.markdown(&COLUMNS));
+    let root = Path::new(env!("CARGO_MANIFEST_DIR")).ancestors().nth(2);
+    let root = root.expect("tests/bench");
+    match std::env::args().nth(1).as_deref() {
+        Some("report") => {
+            let load = report::load();
+            let python = Python::start(root);
+            let tables: Vec<Table> = scenes()
+                .map(|scene| said(&scene, python.as_ref()))
+                .collect();
+            let growth: Vec<Table> = growth_scenes().map(|scene| said(&scene, None)).collect();
+            report::write(root, &tables, &growth, python.as_ref(), &load);
+        }
+        Some("goals") => {
+            let python = Python::start(root);
+            let tables: Vec<Table> = goals::scenes()
+                .map(|scene| timed(&scene, python.as_ref()))
+                .collect();
+            print!("{}", goals::lines(&tables));
+        }
+        _ => {
+            println!(
+                "Microseconds a call, the best of {ROUNDS} rounds. Overflow slots are scattered at \
+                 random. {}",
+                report::MEMCPY
+            );
+            for scene in scenes() {
+                let table = timed(&scene, None);
+                println!("\n### {}\n\n{}", table.title, table.markdown(&COLUMNS));
+            }
         }
     }
 }
 
+/// The scenes of the tables.
 fn scenes() -> impl Iterator<Item = Scene> {
-    let each = |size| SHARES.map(|share| (size, share));
-    let scenes = SIZES.into_iter().flat_map(each);
-    scenes.map(|(size, share)| Scene::new(size, share))
+    let each = |size| SHARES.map(|share| Scene::new(size, share, Spread::Scattered));
+    SIZES.into_iter().flat_map(each)
+}
+
+/// The scenes beside them that show how costs grow.
+fn growth_scenes() -> impl Iterator<Item = Scene> {
+    let spreads = [Spread::Scattered, Spread::Clustered];
+    let each = move |size| {
+        let shares = spreads.map(|spread| SHARES.map(|share| (size, share, spread)));
+        shares.into_iter().flatten()
+    };
+    let all = GROWTH_SIZES.into_iter().flat_map(each);
+    let is_new = |&(size, _, spread): &(Size, usize, Spread)| {
+        spread == Spread::Clustered || !SIZES.contains(&size)
+    };
+    let scene = |(size, share, spread)| Scene::new(size, share, spread);
+    all.filter(is_new).map(scene)
+}
+
+/// The table of a scene, and a line that it is there.
+fn said<'a>(scene: &Scene, python: Option<&'a Python>) -> Table<'a> {
+    let table = timed(scene, python);
+    println!("timed: {}", table.title);
+    table
 }
 
 fn timed<'a>(scene: &Scene, python: Option<&'a Python>) -> Table<'a> {
@@ -172,7 +204,7 @@ fn lookups(table: &mut Table, scene: &Scene) {
     ]));
     table.push(call, times);
 
-    let call = "lookup_list of 1,000";
+    let call = "lookup_list of 20,000";
     let mut many = |out: &mut [u32]| flat::lookup_list(list, black_box(slots), out);
     let mut flat_list = Flat::Distances(&mut many);
     table.compare_results(call, &mut flat_list);
@@ -193,7 +225,7 @@ fn lookups(table: &mut Table, scene: &Scene) {
     table.push(call, [library, reference, flat, numpy, opencv, None]);
     let ns_a_slot = |list: usize, check: usize| {
         let checked = median(rounds.iter().map(|round| round[list] - round[check]));
-        Some(checked * 1e3 / LIST_LEN as f64)
+        Some(checked * 1e3 / slots.len() as f64)
     };
     table.push(
         "of these ns a slot, no check",
@@ -215,6 +247,15 @@ fn writing(table: &mut Table, map: &Map) {
         || pciv::write(list, black_box(&mut ours)),
         || reference::write(list, black_box(&mut theirs)),
         Flat::Distances(&mut |out| flat::scan(list, out)),
+    );
+    let longest = reference::file_len(n as u64, n as u64) as usize;
+    let (mut our_longest, mut their_longest) = (vec![0; longest], vec![0; longest]);
+    table.row(
+        "write, longest buffer",
+        4 * n + len,
+        || pciv::write(list, black_box(&mut our_longest)),
+        || reference::write(list, black_box(&mut their_longest)),
+        Flat::Missing,
     );
     table.row(
         "close",
@@ -386,6 +427,13 @@ fn masks(table: &mut Table, scene: &Scene) {
         || pciv::set_bits(slots, a),
         || reference::set_bits(n, a),
         Flat::Number(&mut || flat::set_bits(black_box(a))),
+    );
+    table.row(
+        goals::BY_HAND,
+        16 * words,
+        || pciv::set_bits(slots, a),
+        || reference::set_bits(n, a),
+        Flat::Number(&mut || flat::set_bits_by_hand(black_box(a))),
     );
 }
 

@@ -4,6 +4,7 @@ use crate::picture;
 use crate::python::Python;
 use crate::table::{decimal, percent, thousands, Column, Row, Table};
 use crate::timing::{median, ROUNDS};
+use crate::{goals, growth};
 use std::fmt::Write;
 use std::fs;
 use std::path::Path;
@@ -37,6 +38,16 @@ pub const OTHERS: [Column; 4] = [
     ("OpenCV", |row| row.opencv),
 ];
 
+const GOALS: &str = "
+## Goals
+
+At 1,024 by 768 with 1 % in overflow, scattered, unless a row says otherwise. The checks of the files are left out on both
+sides, by taking off the times of the check, unless a row says that they are included. `best flat` is the best of flat Rust,
+numpy and OpenCV. `before` is what `bench goals` printed for the library before its kernels were made faster, on the same kind
+of machine.
+
+";
+
 /// The library is behind where it takes more than this many times the memcpy.
 const MEMCPY_LIMIT: f64 = 2.0;
 /// Another one is faster where the library takes at least this many times as long: two decimals say
@@ -53,10 +64,11 @@ pub fn load() -> String {
     load.split(' ').next().unwrap_or_default().to_string()
 }
 
-/// Writes `docs/BENCHMARKS.md` and its picture; `load` is that before the run.
-pub fn write(root: &Path, tables: &[Table], python: Option<&Python>, load: &str) {
+/// Writes `docs/BENCHMARKS.md` and its picture; `load` is that before the run. `growth` are the
+/// tables of which only some columns are shown.
+pub fn write(root: &Path, tables: &[Table], growth: &[Table], python: Option<&Python>, load: &str) {
     let docs = root.join("docs");
-    let text = document(tables, python, load);
+    let text = document(tables, growth, python, load);
     fs::write(docs.join("BENCHMARKS.md"), text).expect("docs/BENCHMARKS.md");
     let shown = tables.iter().find(|table| picture::shows(table));
     let picture = picture::svg(shown.expect("the table of the picture"));
@@ -64,7 +76,7 @@ pub fn write(root: &Path, tables: &[Table], python: Option<&Python>, load: &str)
     println!("written: docs/BENCHMARKS.md, docs/benchmarks.svg");
 }
 
-fn document(tables: &[Table], python: Option<&Python>, load: &str) -> String {
+fn document(tables: &[Table], more: &[Table], python: Option<&Python>, load: &str) -> String {
     let mut text = format!(
         "# Benchmarks
 
@@ -108,8 +120,12 @@ divided by the library's.
         named("OpenCV", python.and_then(|python| python.opencv.as_ref())),
     );
     text += &in_short(tables);
+    text += GOALS;
+    text += &goals::section(tables, more);
     text += "\n## Where we are behind\n\n";
     text += &behind(tables);
+    text += "\n## How cost grows\n\n";
+    text += &growth::section(&tables.iter().chain(more).collect::<Vec<_>>());
     for table in tables {
         let _ = write!(text, "\n## {}\n\n{}", table.title, table.markdown(&COLUMNS));
     }
@@ -240,7 +256,7 @@ fn matrix(tables: &[Table], cell: impl Fn(&Row) -> Option<String>) -> String {
 #[cfg(test)]
 mod tests {
     use super::*;
-    use crate::scene::Size;
+    use crate::scene::{Size, Spread};
 
     /// A table of one call that takes 10 microseconds in the library, `flat` on flat arrays and
     /// `memcpy` as a copy.
@@ -262,6 +278,7 @@ mod tests {
         Table {
             size,
             share: 10,
+            spread: Spread::Scattered,
             title: "a table".to_string(),
             rows: vec![row],
             python: None,
@@ -292,7 +309,7 @@ mod tests {
 
     #[test]
     fn missing_libraries_are_said_to_be_missing() {
-        let text = document(&[table("minimum", 20.0, 10.0)], None, "0.00");
+        let text = document(&[table("minimum", 20.0, 10.0)], &[], None, "0.00");
         assert!(text.contains("numpy was missing"), "{text}");
     }
 

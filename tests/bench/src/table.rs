@@ -2,7 +2,7 @@
 
 use crate::counterpart::Flat;
 use crate::python::Python;
-use crate::scene::{Scene, Size};
+use crate::scene::{Scene, Size, Spread};
 use crate::timing::{best, contestant, keep, race, Contestant};
 use std::hint::black_box;
 
@@ -38,6 +38,7 @@ pub struct Table<'a> {
     pub size: Size,
     /// Slots in overflow, in thousandths.
     pub share: usize,
+    pub spread: Spread,
     pub title: String,
     pub rows: Vec<Row>,
     pub python: Option<&'a Python>,
@@ -47,10 +48,14 @@ impl<'a> Table<'a> {
     pub fn new(scene: &Scene, python: Option<&'a Python>) -> Table<'a> {
         let Size { width, height } = scene.size;
         let title = format!(
-            "{} by {}, {} in overflow: n = {}, k = {}, {} bytes",
+            "{} by {}, {} in overflow{}: n = {}, k = {}, {} bytes",
             thousands(width),
             thousands(height),
             percent(scene.share),
+            match scene.spread {
+                Spread::Scattered => "",
+                Spread::Clustered => ", clustered",
+            },
             thousands(scene.size.slots()),
             thousands(scene.a.slots.len()),
             thousands(scene.a.file.len())
@@ -61,6 +66,7 @@ impl<'a> Table<'a> {
         Table {
             size: scene.size,
             share: scene.share,
+            spread: scene.spread,
             title,
             rows: Vec::new(),
             python,
@@ -124,6 +130,11 @@ impl<'a> Table<'a> {
                 "{library} differs: {call}"
             );
         }
+    }
+
+    /// The row of a call.
+    pub fn find(&self, call: &str) -> Option<&Row> {
+        self.rows.iter().find(|row| row.call == call)
     }
 
     /// Adds a row of the times of the library, the reference, flat Rust, numpy, OpenCV and memcpy.
