@@ -1,6 +1,6 @@
 #!/bin/sh
-# Builds and runs the C and Rust side: header, C and C++ programs, what is shipped, Rust tests, interface, comparison, the
-# fuzzer's corpus, report program.
+# Builds and runs the C and Rust side: header, C and C++ programs, what is shipped, Rust tests, interface, vectorised loops,
+# comparison, the fuzzer's corpus, report program.
 # Wants libpciv_c.a in PCIV_LIB_DIR (default target/staticlib) and the report program at PCIV_REPORT
 # (default target/bin/report); relative paths start at the repository's root.
 set -u
@@ -136,6 +136,7 @@ part examples examples
 part cargo-doc rust_doc
 part readme readme
 part interface interface
+part kernels "$programs/kernels" "$PCIV_LIB_DIR/libpciv_c.a"
 part compare "$programs/compare"
 part corpus "$programs/corpus" replay tests/fuzz/corpus.txt
 part report report_program

@@ -1,0 +1,110 @@
+//! The routines and their loops.
+
+use crate::{words::Kernel, Routine};
+
+const COUNT: Kernel = Kernel::blocks("count of bytes", "pcmpeqb psubb|paddb|psadbw load16 !byte");
+const SUM: Kernel = Kernel::blocks("sum of bytes", "paddw|psadbw load8 !pcmpeqb !byte");
+const COPY: Kernel = Kernel::new("copy", "load16 store16 !byte");
+const WIDEN: Kernel = Kernel::new("bytes to distances", "punpcklbw|punpckhbw store16 !byte");
+
+// Which slots are in overflow, where the primary bytes stand in the buffer.
+const SLOTS: Kernel = Kernel::new(
+    "search for slots in overflow",
+    "pcmpeqb|pminub|pmaxub pmovmskb|por load16 !byte",
+);
+
+const COUNT_LARGE: Kernel = Kernel::new(
+    "count of distances in overflow",
+    "pcmpgtd|pcmpeqd|pcmpeqb psubd|paddd|psubb|paddb|psadbw load16",
+);
+const NARROW: Kernel = Kernel::new("distances to bytes", "packuswb load16 !byte");
+
+const MINIMUM: Kernel = Kernel::new("smaller bytes", "pminub load16 store16 !byte");
+const MAXIMUM: Kernel = Kernel::new("larger bytes", "pmaxub load16 store16 !byte");
+const ADD: Kernel = Kernel::new("bytes added", "paddusb load16 store16 !byte");
+const SUBTRACT: Kernel = Kernel::new("bytes subtracted", "psubusb load16 store16 !byte");
+const COUNT_MINIMUM: Kernel = Kernel::blocks(
+    "count of smaller bytes in overflow",
+    "pminub pcmpeqb psubb|paddb|psadbw|por|pmovmskb load16 !byte",
+);
+// The count of bytes that are not below another has these instructions too, and the check reaches it.
+const COUNT_MAXIMUM: Kernel = Kernel::blocks(
+    "count of larger bytes in overflow",
+    "own pmaxub pcmpeqb psubb|paddb|psadbw|por|pmovmskb load16 !byte",
+);
+const COUNT_SUMS: Kernel = Kernel::blocks(
+    "count of sums in overflow",
+    "paddusb pcmpeqb psubb|paddb|psadbw|por|pmovmskb load16 !byte",
+);
+
+const FLAGS: Kernel = Kernel::new(
+    "bytes to mask words",
+    "pcmpeqb|pcmpgtb|pminub|pmaxub por|pmovmskb load16 !byte",
+);
+const AND: Kernel = Kernel::new("words", "pand|andps|andpd load16 store16");
+const OR: Kernel = Kernel::new("words", "por|orps|orpd load16 store16");
+const XOR: Kernel = Kernel::new("words", "pxor|xorps|xorpd load16 store16");
+const NOT: Kernel = Kernel::new(
+    "words",
+    "pxor|xorps|xorpd|pandn|andnps|andnpd load16 store16",
+);
+const BITS: Kernel = Kernel::new(
+    "count of bits",
+    "psrlw|psrld|psrlq|pshufb pand|andps paddb|paddq|psadbw load16",
+);
+
+// Eight bytes at once through a table.
+const SPREAD: Kernel = Kernel::new("mask words to bytes", "store8 !byte");
+const KEEP: Kernel = Kernel::new(
+    "bytes kept",
+    "pand|pandn|andps|andnps|pminub|pmullw load16 store16 !byte",
+);
+const INCREMENT: Kernel = Kernel::new("bytes raised", "paddusb|paddb load16 store16 !byte");
+
+const BRAY_CURTIS: Kernel = Kernel::blocks(
+    "sums of smaller and larger bytes",
+    "pminub pmaxub paddw|psadbw load8 !pcmpeqb !byte",
+);
+const JACCARD: Kernel = Kernel::blocks(
+    "counts of smaller and larger bytes",
+    "pminub pmaxub pcmpeqb psubb|paddb|psadbw load16 !byte",
+);
+
+/// The exported routines and the loops that each has to have. Loops over overflow entries are not
+/// among them, nor the bytes of `pciv_signed_difference`: these are worked on one by one.
+pub const ROUTINES: &[Routine] = &[
+    ("pciv_check", &[COUNT]),
+    ("pciv_primary_span", &[COUNT]),
+    ("pciv_lookup", &[COUNT]),
+    ("pciv_lookup_list", &[COUNT]),
+    ("pciv_scan", &[COUNT, WIDEN]),
+    ("pciv_sum", &[COUNT, SUM]),
+    ("pciv_readings", &[COUNT]),
+    ("pciv_write", &[COUNT_LARGE, NARROW, SLOTS]),
+    ("pciv_close", &[COUNT, COPY]),
+    ("pciv_close_entries", &[COUNT, COPY]),
+    ("pciv_minimum", &[COUNT, COUNT_MINIMUM, MINIMUM]),
+    ("pciv_maximum", &[COUNT, COUNT_MAXIMUM, MAXIMUM]),
+    ("pciv_sum_maps", &[COUNT, COUNT_SUMS, ADD, SLOTS]),
+    ("pciv_difference", &[COUNT, SUBTRACT]),
+    ("pciv_shift", &[COUNT, ADD, SUBTRACT, SLOTS]),
+    ("pciv_signed_difference", &[COUNT]),
+    ("pciv_mask_below", &[COUNT, FLAGS]),
+    ("pciv_mask_at_most", &[COUNT, FLAGS]),
+    ("pciv_mask_above", &[COUNT, FLAGS]),
+    ("pciv_mask_at_least", &[COUNT, FLAGS]),
+    ("pciv_near_mask", &[COUNT, FLAGS]),
+    ("pciv_mask_and", &[AND]),
+    ("pciv_mask_or", &[OR]),
+    ("pciv_mask_xor", &[XOR]),
+    ("pciv_mask_not", &[NOT]),
+    ("pciv_set_bits", &[BITS]),
+    ("pciv_map_of_mask", &[SPREAD]),
+    ("pciv_keep_masked", &[COUNT, KEEP]),
+    ("pciv_increment_masked", &[COUNT, INCREMENT, SLOTS]),
+    ("pciv_bray_curtis", &[COUNT, BRAY_CURTIS]),
+    ("pciv_jaccard", &[COUNT, JACCARD]),
+    ("pciv_edit", &[COUNT, COPY]),
+    ("pciv_edit_list", &[COUNT, COPY]),
+    ("pciv_report", &[COUNT, SUM]),
+];
