@@ -41,7 +41,7 @@ fn read_head(file: &[u8], n: usize, k: usize, j: usize) -> Head
     }
 }
 
-fn lower(x: usize, y: usize) -> usize
+pub(crate) fn lower(x: usize, y: usize) -> usize
     ensures { λ r. ⌜ r ≡ min x y ⌝ }
 {
     if x <= y { x } else { y }
