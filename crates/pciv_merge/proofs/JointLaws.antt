@@ -5,8 +5,8 @@
 --   Side P j s                what the next entry of P says of slot s, which is the next in overflow in either map
 --   MetAt A B i j t r         what is met: the next slot in overflow from i on, the larger distance there
 --   JointLeft                 the invariant of a walk that writes the entries of the maximum
---   joint-start, -room, -more, -end
---                             before the first entry; room for the next, past it; after the last
+--   joint-start, -room, -step, -more, -end
+--                             before the first entry; room for the next, what is passed with it, past it; after the last
 -- Axioms: none.
 use mathlib.Core.Path.{_≡_, refl, sym, ap, _∙_}
 use Prim.Native.Nat.{ℕ, _+_, _*_, _≤_, _<_, min, max}
@@ -134,7 +134,7 @@ module _ (P : Parts) (sound : SoundParts P) (bytes : (i : ℕ) → P .byte i < 2
 pub metOf-is : (A B : Parts) (j t : ℕ) (x y : Head) (s dx dy d f g : ℕ) → x ≡ headOf A j → y ≡ headOf B t
     → s ≡ min (x .slot) (y .slot) → dx ≡ distanceIn x s → dy ≡ distanceIn y s → d ≡ max dx dy
     → f ≡ flag (eqb (x .slot) s) → g ≡ flag (eqb (y .slot) s)
-    → _≡_ {A = Met} (record { slot = s; distance = d; first = j + f; second = t + g }) (metOf A B j t)
+    → _≡_ {A = Met} (record { slot = s; distance = d; first = f; second = g }) (metOf A B j t)
 unfolding metOf
 metOf-is A B j t x y s dx dy d f g ex ey es edx edy ed ef eg = rw (← ex, ← ey, ← es, ed, edx, edy, ef, eg)
 
@@ -144,9 +144,9 @@ pub record MetAt (A B : Parts) (i j t : ℕ) (r : Met) : Type 0 where
   pub gap : (u : ℕ) → i ≤ u → u < r .slot → combinedOf Maximum A B u < 255
   pub far : 255 ≤ combinedOf Maximum A B (r .slot)
   pub distance : r .distance ≡ combinedOf Maximum A B (r .slot)
-  pub first : Cursor A (r .slot + 1) (r .first)
-  pub second : Cursor B (r .slot + 1) (r .second)
-  pub more : j + t < r .first + r .second
+  pub first : Cursor A (r .slot + 1) (j + r .first)
+  pub second : Cursor B (r .slot + 1) (t + r .second)
+  pub more : 1 ≤ r .first + r .second
 
 module _ (A B : Parts) (n : A .n ≡ B .n) (sa : SoundParts A) (sb : SoundParts B)
     (bytesA : (i : ℕ) → A .byte i < 256) (bytesB : (i : ℕ) → B .byte i < 256) where
@@ -162,7 +162,7 @@ module _ (A B : Parts) (n : A .n ≡ B .n) (sa : SoundParts A) (sb : SoundParts 
   of-sides : (i j t s : ℕ) → s < A .n → i ≤ s → Cursor A i j → Cursor B i t → Side A j s → Side B t s
       → s ≤ headOf A j .slot → s ≤ headOf B t .slot → 255 ≤ max (valueOf A s) (valueOf B s)
       → 1 ≤ flag (eqb (headOf A j .slot) s) + flag (eqb (headOf B t .slot) s)
-      → MetAt A B i j t (metAt j t (headOf A j) (headOf B t) s)
+      → MetAt A B i j t (metAt (headOf A j) (headOf B t) s)
   of-sides i j t s inside low ca cb x y ha hb far moved =
       record {
         inside = inside;
@@ -225,11 +225,12 @@ module _ (A B : Parts) (n : A .n ≡ B .n) (sa : SoundParts A) (sb : SoundParts 
     pub joint-room : p + 12 ≤ length d
     joint-room = entries-room at-slot (here .inside) (here .far)
 
-    pub joint-less : j + t < r .first + r .second
-    joint-less = here .more
+    -- entries of either are passed, and not more than there are
+    pub joint-step : (1 ≤ r .first + r .second) × (j + r .first ≤ A .k) × (t + r .second ≤ B .k)
+    joint-step = (here .more, here .first .inside, here .second .inside)
 
     pub joint-more : (d' : List ℕ) (p' : ℕ) → d' ≡ sets d p (le 8 (r .slot) ++ le 4 (r .distance)) → p' ≡ p + 12
-        → JointLeft A B d₀ p₀ (r .first) (r .second) d' p'
+        → JointLeft A B d₀ p₀ (j + r .first) (t + r .second) d' p'
     joint-more d' p' put next =
         record {
           i = r .slot + 1;

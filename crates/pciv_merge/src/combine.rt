@@ -8,11 +8,11 @@ ghost use Rattle.pciv_format.specs.Layout.{primary, overflowCount, overflowPart
 ghost use Rattle.pciv_format.specs.Refusals.{fileAnswer};
 ghost use Rattle.pciv_check.specs.Pair.{CheckedPair};
 ghost use Rattle.pciv_merge.specs.Merge.{resultOf, combinedInto, combinedBuffer};
+use crate::both::count_both;
 use crate::joint::put_joint;
 use crate::led::count_led;
 use crate::led::mend_led;
 use crate::led::put_led;
-use crate::primary::count_full_slots;
 use crate::primary::put_primary;
 use pciv_build::begin;
 use pciv_build::finish;
@@ -34,8 +34,8 @@ fn count_overflow(op: MergeOp, a: &[u8], b: &[u8], n: usize, ka: usize, kb: usiz
     ensures { λ r. ⌜ r ≡ overflowCount n (resultOf op (now (a .entry)) (now (b .entry)) n ka kb) ⌝ }
 {
     match op {
-        MergeOp::Minimum => count_full_slots(ByteOp::Min, a, b, n, ka, kb),
-        MergeOp::Maximum => count_full_slots(ByteOp::Max, a, b, n, ka, kb),
+        MergeOp::Minimum => count_both(a, b, n, ka, kb),
+        MergeOp::Maximum => ka + kb - count_both(a, b, n, ka, kb),
         MergeOp::Difference => count_led(SlotOp::Difference, a, b, n, ka, kb),
     }
 }

@@ -15,9 +15,10 @@ ghost use Rattle.pciv_merge.specs.Merge.{combinedOf};
 ghost use Rattle.pciv_merge.specs.Joint.{headOf, distanceIn, metOf};
 use crate::slots::slot_op;
 use pciv_build::put_entry;
+use pciv_bytes::little_endian::get32;
+use pciv_bytes::little_endian::get64;
+use pciv_format::HEADER_LEN;
 use pciv_format::SlotOp;
-use pciv_map::entries::entry_distance;
-use pciv_map::entries::entry_slot;
 
 // The next entry of a map: its slot and the distance there. Past the last entry the slot is n.
 pub struct Head {
@@ -25,23 +26,25 @@ pub struct Head {
     pub distance: u32,
 }
 
-fn read_head(file: &[u8], n: usize, k: usize, j: usize) -> Head
+// Entry j, from its place in the file.
+fn read_head(file: &[u8], n: usize, k: usize, j: usize, place: usize) -> Head
     requires { ⌜ CheckedMap (now file) n k ⌝ }
+    requires { ⌜ place ≡ 40 + n + 12 * j ⌝ }
     ensures { λ r. ⌜ r ≡ headOf (fileParts (now (file .entry)) n k) j ⌝ }
 {
-    if k <= j {
+    if HEADER_LEN + n + 12 * k <= place {
         return Head {
             slot: n,
             distance: 0,
         };
     }
     Head {
-        slot: entry_slot(file, n, j),
-        distance: entry_distance(file, n, j),
+        slot: get64(file, place),
+        distance: get32(file, place + 8),
     }
 }
 
-fn lower(x: usize, y: usize) -> usize
+pub(crate) fn lower(x: usize, y: usize) -> usize
     ensures { λ r. ⌜ r ≡ min x y ⌝ }
 {
     if x <= y { x } else { y }
@@ -61,7 +64,8 @@ fn distance_in(head: Head, slot: usize) -> u32
     if head.slot == slot { head.distance } else { 0 }
 }
 
-// The next slot that is in overflow in either map, the larger distance there, and the entries to go on from.
+// The next slot that is in overflow in either map, the larger distance there, and how many entries of each are passed
+// with it.
 pub struct Met {
     pub slot: usize,
     pub distance: u32,
@@ -69,37 +73,55 @@ pub struct Met {
     pub second: usize,
 }
 
-fn meet(a: &[u8], b: &[u8], n: usize, ka: usize, kb: usize, j: usize, t: usize) -> Met
+// What is met where entries j and t of the two maps are the next ones; p and q are their places.
+fn meet(
+    a: &[u8],
+    b: &[u8],
+    n: usize,
+    ka: usize,
+    kb: usize,
+    j: usize,
+    t: usize,
+    p: usize,
+    q: usize,
+) -> Met
     requires { ⌜ CheckedPair (now a) (now b) n ka kb ⌝ }
-    requires { ⌜ (j ≤ ka) × (t ≤ kb) ⌝ }
+    requires { ⌜ (p ≡ 40 + n + 12 * j) × (q ≡ 40 + n + 12 * t) ⌝ }
     ensures { λ r. ⌜ r ≡ metOf (fileParts (now (a .entry)) n ka) (fileParts (now (b .entry)) n kb) j t ⌝ }
 {
-    let x = read_head(a, n, ka, j);
-    let y = read_head(b, n, kb, t);
+    let x = read_head(a, n, ka, j, p);
+    let y = read_head(b, n, kb, t, q);
     let slot = lower(x.slot, y.slot);
     let dx = distance_in(x, slot);
     let dy = distance_in(y, slot);
     Met {
         slot,
         distance: slot_op(SlotOp::Maximum, dx, dy),
-        first: j + is_at(x.slot, slot),
-        second: t + is_at(y.slot, slot),
+        first: is_at(x.slot, slot),
+        second: is_at(y.slot, slot),
     }
 }
 
-// Writes the overflow entries of the maximum, from `from` on.
+// Writes the overflow entries of the maximum, from `from` on. The walk goes by the places of entries: the counts of
+// those that are passed are for the proof alone, and the compiler drops them.
 pub fn put_joint(out: &mut [u8], a: &[u8], b: &[u8], n: usize, ka: usize, kb: usize, from: usize)
     requires { ⌜ CheckedPair (now a) (now b) n ka kb ⌝ }
     requires { ⌜ from + 12 * overflowCount n (combinedOf Maximum (fileParts (now a) n ka) (fileParts (now b) n kb)) ≤ length (now out) ⌝ }
     ensures { λ _. ⌜ now (out .exit) ≡ sets (now (out .entry)) from (overflowPart n (combinedOf Maximum (fileParts (now (a .entry)) n ka) (fileParts (now (b .entry)) n kb))) ⌝ }
 {
+    let start = HEADER_LEN + n;
+    let ends = 2 * start + 12 * (ka + kb);
     let mut at = from;
     let mut j: usize = 0;
     let mut t: usize = 0;
-    while j + t < ka + kb {
-        let met = meet(a, b, n, ka, kb, j, t);
+    let mut p = start;
+    let mut q = start;
+    while p + q < ends {
+        let met = meet(a, b, n, ka, kb, j, t, p, q);
         at = put_entry(out, at, met.slot, met.distance);
-        j = met.first;
-        t = met.second;
+        j += met.first;
+        t += met.second;
+        p += 12 * met.first;
+        q += 12 * met.second;
     }
 }

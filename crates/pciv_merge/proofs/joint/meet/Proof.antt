@@ -1,19 +1,21 @@
 -- Proves joint::meet: the value is put together as its definition says.
 use Prim.Native.Nat.{ℕ, _+_, _≤_}
 use native.Mathlib.Omega.{arith}
-use lib.Dec.{eqb}
 use borrow.Author.Needs.{needs}
-use Rattle.pciv_bytes.proofs.SumLaws.{flag-le}
 use Rattle.pciv_format.specs.Check.{fileParts}
 use Rattle.pciv_merge.proofs.JointLaws.{metOf-is}
 use Rattle.pciv_merge.proofs.joint.meet.Statement.{statement}
 use Rattle.pciv_merge.proofs.joint.meet.Tie as tie
 
 read-head-requires : tie.Need-read-head-requires
-read-head-requires c κs = c .before .before .pre .0 .first
+read-head-requires c κs =
+    let g = c .before .before in
+    (g .pre .0 .first, g .pre .1 .0)
 
 read-head-requires-2 : tie.Need-read-head-requires-2
-read-head-requires-2 c κs = c .before .before .before .pre .0 .second
+read-head-requires-2 c κs =
+    let g = c .before .before .before in
+    (g .pre .0 .second, g .pre .1 .1)
 
 lower-requires : tie.Need-lower-requires
 lower-requires c κs = search needs
@@ -30,25 +32,8 @@ slot-op-requires c κs = omega (arith, c .distance-in2 .ok, c .before .distance-
 is-at-requires : tie.Need-is-at-requires
 is-at-requires c κs = search needs
 
-add-t16 : tie.Need-add-t16
-add-t16 c =
-    let l = c .before .before .before .before in
-    let y = l .before in
-    let x = y .before in
-    let g = x .before .before .before in
-    let h = g .pre .0 .first .header in
-    omega (arith, c .is-at .ensures, flag-le (eqb (x .read-head .result .slot) (l .lower .result)), g .pre .1 .0, h .few, h .small)
-
 is-at-requires-2 : tie.Need-is-at-requires-2
 is-at-requires-2 c κs = search needs
-
-add-t18 : tie.Need-add-t18
-add-t18 c =
-    let l = c .before .before .before .before .before in
-    let y = l .before in
-    let g = y .before .before .before .before in
-    let h = g .pre .0 .second .header in
-    omega (arith, c .is-at2 .ensures, flag-le (eqb (y .read-head2 .result .slot) (l .lower .result)), g .pre .1 .1, h .few, h .small)
 
 returns : tie.Need-returns
 returns c =
@@ -74,7 +59,5 @@ meet-spec =
     distance-in-requires-2
     slot-op-requires
     is-at-requires
-    add-t16
     is-at-requires-2
-    add-t18
     returns)

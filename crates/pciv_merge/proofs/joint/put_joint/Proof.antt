@@ -1,88 +1,153 @@
 -- Proves joint::put_joint. Invariant: the entries of the slots that the first j entries of the one map and the
--- first t of the other do not reach are left to write. Falls: the number of entries that are left.
-use Prim.Native.Nat.{ℕ, _+_, _-_, _≤_, _<_}
+-- first t of the other do not reach are left to write, and p and q are the places of the next two. Falls: how far these
+-- are from the ends.
+use mathlib.Core.Path.{_≡_, refl}
+use Prim.Native.Nat.{ℕ, _+_, _-_, _*_, _≤_, _<_}
 use native.Mathlib.Omega.{arith}
 use borrow.Author.Needs.{needs}
+use Rattle.pciv_format.specs.Layout.{maxSlots}
 use Rattle.pciv_format.specs.Parts.{Parts}
 use Rattle.pciv_format.specs.Check.{fileParts}
-use mathlib.Core.Path.{refl}
-use Rattle.pciv_merge.proofs.JointLaws.{JointLeft, joint-start, joint-room, joint-less, joint-more, joint-end}
+use Rattle.pciv_merge.proofs.JointLaws.{JointLeft, joint-start, joint-room, joint-step, joint-more, joint-end}
 use Rattle.pciv_merge.proofs.joint.put_joint.Statement.{statement}
 use Rattle.pciv_merge.proofs.joint.put_joint.Tie as tie
 
 abbrev Inv-loop : tie.InvT-loop
-Inv-loop out₀ a b n ka kb from at₀ j₀ t₀ out at j t = JointLeft (fileParts a n ka) (fileParts b n kb) out₀ from j t out at
+Inv-loop out₀ a b n ka kb from start ends at₀ j₀ t₀ p₀ q₀ out at j t p q =
+    JointLeft (fileParts a n ka) (fileParts b n kb) out₀ from j t out at
+    × (p ≡ 40 + n + 12 * j)
+    × (q ≡ 40 + n + 12 * t)
 
 abbrev μ-loop : tie.MeasureT-loop
-μ-loop out₀ a b n ka kb from at₀ j₀ t₀ out at j t = ka + kb - (j + t)
+μ-loop out₀ a b n ka kb from start ends at₀ j₀ t₀ p₀ q₀ out at j t p q = ends - (p + q)
+
+-- the parts of the two files
+abbrev first : tie.Start Inv-loop μ-loop → Parts
+first s = fileParts (s .args .a .now) (s .args .n) (s .args .ka)
+
+abbrev second : tie.Start Inv-loop μ-loop → Parts
+second s = fileParts (s .args .b .now) (s .args .n) (s .args .kb)
+
+-- all numbers are small
+few : (s : tie.Start Inv-loop μ-loop)
+    → (let a = s .args in (a .ka ≤ a .n) × (a .kb ≤ a .n) × (a .n ≤ maxSlots))
+few s =
+    let p = s .pre .0 in
+    (p .first .header .few, p .second .header .few, p .first .header .small)
+
+add-start : tie.Need-add-start Inv-loop μ-loop
+add-start c = omega (arith, few (c .before .before .before))
+
+mul-ends : tie.Need-mul-ends Inv-loop μ-loop
+mul-ends c = omega (arith, few (c .before .before .before))
+
+add-ends : tie.Need-add-ends Inv-loop μ-loop
+add-ends c = omega (arith, few (c .before .before .before))
+
+mul-ends-2 : tie.Need-mul-ends-2 Inv-loop μ-loop
+mul-ends-2 c = omega (arith, few (c .before .before .before))
+
+add-ends-2 : tie.Need-add-ends-2 Inv-loop μ-loop
+add-ends-2 c = omega (arith, few (c .before .before .before))
 
 loop-holds : tie.Need-loop-holds Inv-loop μ-loop
 loop-holds c =
-    let g = c .before .before .before in
-    let a = g .args in
-    joint-start (fileParts (a .a .now) (a .n) (a .ka)) (fileParts (a .b .now) (a .n) (a .kb)) (a .out .now) (a .from) (g .pre .1)
+    let s = c .before .before .before in
+    (joint-start (first s) (second s) (s .args .out .now) (s .args .from) (s .pre .1), omega arith, omega arith)
 
 add-loop : tie.Need-add-loop Inv-loop μ-loop
 add-loop c =
-    let g = c .before .before .before .before .pre .0 in
-    omega (arith, c .loop .inv .first .inside, c .loop .inv .second .inside, g .first .header .few, g .second .header .few, g .first .header .small)
-
-add-loop-2 : tie.Need-add-loop-2 Inv-loop μ-loop
-add-loop-2 c =
-    let g = c .before .before .before .before .pre .0 in
-    omega (arith, g .first .header .few, g .second .header .few, g .first .header .small)
+    let i = c .loop .inv in
+    omega (arith, i .1, i .2, i .0 .first .inside, i .0 .second .inside, few (c .before .before .before .before))
 
 meet-requires : tie.Need-meet-requires Inv-loop μ-loop
 meet-requires c κs =
-    let l = c .before in
-    (l .before .before .before .before .pre .0, (l .loop .inv .first .inside, l .loop .inv .second .inside))
+    let i = c .before .loop .inv in
+    (c .before .before .before .before .before .pre .0, (i .1, i .2))
+
+-- an entry is left
+left : (c : tie.In-loop Inv-loop μ-loop)
+    → (let a = c .before .before .before .before .before .args in let l = c .before .loop in l .j + l .t < a .ka + a .kb)
+left c = omega (arith, c .before .loop .inv .1, c .before .loop .inv .2, c .loop-test .taken)
 
 put-entry-requires : tie.Need-put-entry-requires Inv-loop μ-loop
 put-entry-requires c κs =
     let m = c .before in
     let l = m .before .before in
-    let g = l .before .before .before .before in
-    let a = g .args in
-    joint-room (fileParts (a .a .now) (a .n) (a .ka)) (fileParts (a .b .now) (a .n) (a .kb)) refl (g .pre .0 .first .parts) (g .pre .0 .second .parts)
-    (λ i. l .before .before .shared-slice-known .given (40 + i) .fits) (λ i. l .before .shared-slice-known2 .given (40 + i) .fits) (l .loop .inv)
-    (m .before .loop-test .taken) (m .meet .result) (m .meet .ensures)
+    let s = l .before .before .before .before in
+    joint-room (first s) (second s) refl (s .pre .0 .first .parts) (s .pre .0 .second .parts)
+    (λ i. l .before .before .shared-slice-known .given (40 + i) .fits) (λ i. l .before .shared-slice-known2 .given (40 + i) .fits)
+    (l .loop .inv .0) (left (m .before)) (m .meet .result) (m .meet .ensures)
 
-more : (c : tie.After-meet Inv-loop μ-loop)
-    → (let l = c .before .before .loop in l .j + l .t < c .meet .result .first + c .meet .result .second)
-more c =
-    let m = c in
+-- what is passed with the slot that is met
+step : (m : tie.After-meet Inv-loop μ-loop)
+    → (let l = m .before .before in let a = l .before .before .before .before .args in let r = m .meet .result in
+    (1 ≤ r .first + r .second) × (l .loop .j + r .first ≤ a .ka) × (l .loop .t + r .second ≤ a .kb))
+step m =
     let l = m .before .before in
-    let g = l .before .before .before .before in
-    let a = g .args in
-    joint-less (fileParts (a .a .now) (a .n) (a .ka)) (fileParts (a .b .now) (a .n) (a .kb)) refl (g .pre .0 .first .parts) (g .pre .0 .second .parts)
-    (λ i. l .before .before .shared-slice-known .given (40 + i) .fits) (λ i. l .before .shared-slice-known2 .given (40 + i) .fits) (l .loop .inv)
-    (m .before .loop-test .taken) (m .meet .result) (m .meet .ensures)
+    let s = l .before .before .before .before in
+    joint-step (first s) (second s) refl (s .pre .0 .first .parts) (s .pre .0 .second .parts)
+    (λ i. l .before .before .shared-slice-known .given (40 + i) .fits) (λ i. l .before .shared-slice-known2 .given (40 + i) .fits)
+    (l .loop .inv .0) (left (m .before)) (m .meet .result) (m .meet .ensures)
+
+add-j : tie.Need-add-j Inv-loop μ-loop
+add-j c =
+    let m = c .before .before .before .before .before in
+    omega (arith, step m, few (m .before .before .before .before .before .before))
+
+add-t : tie.Need-add-t Inv-loop μ-loop
+add-t c =
+    let m = c .before .before .before .before .before .before in
+    omega (arith, step m, few (m .before .before .before .before .before .before))
+
+mul-p : tie.Need-mul-p Inv-loop μ-loop
+mul-p c =
+    let m = c .before .before .before .before .before .before .before in
+    omega (arith, step m, few (m .before .before .before .before .before .before))
+
+add-p : tie.Need-add-p Inv-loop μ-loop
+add-p c =
+    let m = c .before .before .before .before .before .before .before in
+    omega (arith, step m, m .before .before .loop .inv .1, few (m .before .before .before .before .before .before))
+
+mul-q : tie.Need-mul-q Inv-loop μ-loop
+mul-q c =
+    let m = c .before .before .before .before .before .before .before .before in
+    omega (arith, step m, few (m .before .before .before .before .before .before))
+
+add-q : tie.Need-add-q Inv-loop μ-loop
+add-q c =
+    let m = c .before .before .before .before .before .before .before .before in
+    omega (arith, step m, m .before .before .loop .inv .2, few (m .before .before .before .before .before .before))
 
 loop-less : tie.Need-loop-less Inv-loop μ-loop
-loop-less c = omega (arith, more (c .before .before .before .before))
+loop-less c =
+    let m = c .before .before .before .before .before .before .before .before in
+    omega (arith, step m, m .before .loop-test .taken)
 
 loop-again : tie.Need-loop-again Inv-loop μ-loop
 loop-again c =
-    let m = c .before .before .before .before in
+    let e = c .before .before .before .before .before .before in
+    let m = e .before .before in
     let l = m .before .before in
-    let g = l .before .before .before .before in
-    let a = g .args in
-    joint-more (fileParts (a .a .now) (a .n) (a .ka)) (fileParts (a .b .now) (a .n) (a .kb)) refl (g .pre .0 .first .parts) (g .pre .0 .second .parts)
-    (λ i. l .before .before .shared-slice-known .given (40 + i) .fits) (λ i. l .before .shared-slice-known2 .given (40 + i) .fits) (l .loop .inv)
-    (m .before .loop-test .taken) (m .meet .result) (m .meet .ensures)
-    _ _ (c .before .before .put-entry .ensures .1) (c .before .before .put-entry .ensures .0)
+    let s = l .before .before .before .before in (
+      joint-more (first s) (second s) refl (s .pre .0 .first .parts) (s .pre .0 .second .parts)
+          (λ i. l .before .before .shared-slice-known .given (40 + i) .fits) (λ i. l .before .shared-slice-known2 .given (40 + i) .fits)
+          (l .loop .inv .0) (left (m .before)) (m .meet .result) (m .meet .ensures) _ _ (e .put-entry .ensures .1) (e .put-entry .ensures .0),
+      omega (arith, l .loop .inv .1),
+      omega (arith, l .loop .inv .2),
+    )
 
 same-length : tie.Need-same-length Inv-loop μ-loop
-same-length c = c .before .loop .inv .left .size
+same-length c = c .before .loop .inv .0 .left .size
 
 returns : tie.Need-returns Inv-loop μ-loop
 returns c =
     let l = c .before in
-    let g = l .before .before .before .before in
-    let a = g .args in
-    joint-end (fileParts (a .a .now) (a .n) (a .ka)) (fileParts (a .b .now) (a .n) (a .kb)) refl (g .pre .0 .first .parts) (g .pre .0 .second .parts)
-    (λ i. l .before .before .shared-slice-known .given (40 + i) .fits) (λ i. l .before .shared-slice-known2 .given (40 + i) .fits) (l .loop .inv)
-    (c .loop-test .left)
+    let s = l .before .before .before .before in
+    joint-end (first s) (second s) refl (s .pre .0 .first .parts) (s .pre .0 .second .parts)
+    (λ i. l .before .before .shared-slice-known .given (40 + i) .fits) (λ i. l .before .shared-slice-known2 .given (40 + i) .fits)
+    (l .loop .inv .0) (omega (arith, l .loop .inv .1, l .loop .inv .2, c .loop-test .left))
 
 pub put-joint-spec : {M : Type 1} → statement M
 put-joint-spec =
@@ -90,11 +155,21 @@ put-joint-spec =
     (tie.spec
     Inv-loop
     μ-loop
+    add-start
+    mul-ends
+    add-ends
+    mul-ends-2
+    add-ends-2
     loop-holds
     add-loop
-    add-loop-2
     meet-requires
     put-entry-requires
+    add-j
+    add-t
+    mul-p
+    add-p
+    mul-q
+    add-q
     loop-less
     loop-again
     same-length
