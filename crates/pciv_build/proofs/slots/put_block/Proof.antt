@@ -1,121 +1,90 @@
--- Proves slots::put_block. Invariant: bits are those of the slots from `slot` on, and their entries are left.
--- Falls: from + count - slot.
-use mathlib.Core.Path.{_≡_, sym, ap, _∙_}
-use Prim.Native.Nat.{_+_, _-_, _≤_}
+-- Proves slots::put_block: the entries that the first word tells, and then those of the second.
+use mathlib.Core.Path.{_≡_, refl, sym, ap, _∙_}
+use Prim.Native.Nat.{ℕ, _+_, _≤_, _<_}
 use native.Mathlib.Omega.{arith}
+use mathlib.Core.List.{List, [], _++_, append-nil}
 use lib.ListN.{length}
-use lib.Count.{trailingZeros, trailing-le}
-use Rattle.pciv_format.specs.Mask.{word}
+use Rattle.pciv_bytes.specs.Counts.{byteAt}
+use Rattle.pciv_bytes.proofs.PositionsLaws.{positions-append}
 use Rattle.pciv_build.specs.Slots.{isFull, fullSlots}
-use Rattle.pciv_build.proofs.WordLaws.{NextBit, word-next, word-none}
-use Rattle.pciv_build.proofs.SlotsLaws.{BlanksLeft, blanks-start, blanks-more, blanks-end}
+use Rattle.pciv_build.proofs.SlotsLaws.{BlanksLeft, blanks-start, blanks-room, blanks-before, blanks-part, blanks-end, slots-same, word-same}
 use borrow.Author.Needs.{needs}
 use Rattle.pciv_build.proofs.slots.put_block.Statement.{statement}
 use Rattle.pciv_build.proofs.slots.put_block.Tie as tie
 
-abbrev Inv-loop : tie.InvT-loop
-Inv-loop out₀ place from count bits₀ next₀ slot₀ out bits next slot =
-    (from ≤ slot)
-    × (slot ≤ from + count)
-    × (bits ≡ word (isFull out₀) slot (from + count - slot))
-    × BlanksLeft out₀ place (fullSlots out₀ from count) out next (fullSlots out₀ slot (from + count - slot))
+-- from the first word's entries: the function's entry
+abbrev entry : tie.After-put-word → tie.Start
+entry c = c .before .before .before .before .before
 
-abbrev μ-loop : tie.MeasureT-loop
-μ-loop out₀ place from count bits₀ next₀ slot₀ out bits next slot = from + count - slot
+-- the slots of the block, word by word
+split : (s : tie.Start)
+    → (let d = s .args .out .now in
+    fullSlots d (s .args .from) 128 ≡ fullSlots d (s .args .from) 64 ++ fullSlots d (s .args .from + 64) 64)
+split s = positions-append (isFull (s .args .out .now)) (s .args .from) 64 64
 
-abbrev entry : tie.At-loop Inv-loop μ-loop → tie.Start Inv-loop μ-loop
-entry c = c .before .before .before .before
+-- after the first word's entries: those of the second are left
+left : (c : tie.After-put-word)
+    → (let a = entry c .args in
+    BlanksLeft (a .out .now) (a .place) (fullSlots (a .out .now) (a .from) 128) (c .put-word .last .0) (c .put-word .result)
+    (fullSlots (a .out .now) (a .from + 64) 64))
+left c =
+    blanks-part (blanks-start _ _ _) _ _ (split (entry c)) _ _ (c .put-word .ensures .1) (c .put-word .ensures .0)
 
--- the lowest set bit
-next-bit : (c : tie.In-loop Inv-loop μ-loop)
-    → (let l = c .before .loop in
-    let a = entry (c .before) .args in
-    NextBit (isFull (a .out .now)) (l .slot) (a .from + a .count - l .slot) (fullSlots (a .out .now) (l .slot) (a .from + a .count - l .slot))
-    (l .bits) (trailingZeros 64 (l .bits)))
-next-bit c =
-    let l = c .before .loop in
-    let s = entry (c .before) in
-    word-next (isFull (s .args .out .now)) 64 (l .slot) (s .args .from + s .args .count - l .slot) (l .bits) (l .inv .2)
-    (omega (arith, l .inv .0, s .pre .0)) (c .loop-test .taken)
+-- and the primary bytes are as they were
+kept : (c : tie.After-put-word)
+    → (let a = entry c .args in
+    (j : ℕ) → a .from + 64 ≤ j → j < a .from + 64 + 64 → byteAt (c .put-word .last .0) (40 + j) ≡ byteAt (a .out .now) (40 + j))
+kept c j h₁ h₂ = blanks-before (left c) (40 + j) (omega (arith, entry c .pre .0))
 
-full-word-requires : tie.Need-full-word-requires Inv-loop μ-loop
-full-word-requires c κs = search needs
+-- so are the slots of the second word
+second : (c : tie.After-put-word)
+    → (let a = entry c .args in fullSlots (a .out .now) (a .from + 64) 64 ≡ fullSlots (c .put-word .last .0) (a .from + 64) 64)
+second c = slots-same (entry c .args .out .now) (c .put-word .last .0) _ 64 (kept c)
 
-loop-holds : tie.Need-loop-holds Inv-loop μ-loop
-loop-holds c =
-    let a = c .before .before .before .args in
-    let all : a .from + a .count - a .from ≡ a .count = omega arith in
-    rw all (omega arith, omega arith, c .full-word .ensures, blanks-start _ _ _)
+block-words-requires : tie.Need-block-words-requires
+block-words-requires c κs = search needs
 
-cast-zeros : tie.Need-cast-zeros Inv-loop μ-loop
-cast-zeros c = omega (arith, trailing-le 64 (c .before .loop .bits))
-
-add-full : tie.Need-add-full Inv-loop μ-loop
-add-full c = omega (arith, next-bit c .inside, entry (c .before) .pre .0)
-
-cast-put-entry : tie.Need-cast-put-entry Inv-loop μ-loop
-cast-put-entry c = search needs
-
-put-entry-requires : tie.Need-put-entry-requires Inv-loop μ-loop
-put-entry-requires c κs =
-    let l = c .before .before .loop in
-    let s = entry (c .before .before) in
-    omega (arith, l .inv .3 .count, l .inv .3 .size, ap length (next-bit (c .before) .slots-are), s .pre .1)
-
-shr-bits : tie.Need-shr-bits Inv-loop μ-loop
-shr-bits c =
-    let d = c .before .before .before .before in
-    omega (arith, next-bit d .inside, d .before .loop .inv .0, entry (d .before) .pre .0)
-
-add-slot : tie.Need-add-slot Inv-loop μ-loop
-add-slot c =
-    let d = c .before .before .before .before in
-    omega (arith, next-bit d .inside, d .before .loop .inv .0, entry (d .before) .pre .0)
-
-loop-less : tie.Need-loop-less Inv-loop μ-loop
-loop-less c = omega (arith, next-bit (c .before .before .before .before) .inside)
-
-loop-again : tie.Need-loop-again Inv-loop μ-loop
-loop-again c =
-    let e = c .before .before in
-    let d = e .before .before in
-    let l = d .before .loop in
-    let a = entry (d .before) .args in
-    let b = next-bit d in
-    let left : a .from + a .count - l .slot - (trailingZeros 64 (l .bits) + 1)
-    ≡ a .from + a .count - (l .slot + trailingZeros 64 (l .bits) + 1) = omega arith in (
-      omega (arith, l .inv .0),
-      omega (arith, b .inside),
-      rw left at (b .rest),
-      blanks-more (l .inv .3) _ _ (rw left at (b .slots-are)) _ _ (e .put-entry .ensures .1) (e .put-entry .ensures .0),
+put-word-requires : tie.Need-put-word-requires
+put-word-requires c κs =
+    let b = c .before in
+    let s = b .before .before .before in
+    let d : List ℕ = s .args .out .now in
+    let i : ℕ = s .args .from in (
+      b .block-words .ensures .0,
+      (
+        omega (arith, s .pre .0),
+        blanks-room (blanks-start d (s .args .place) _) (fullSlots d i 64) (fullSlots d (i + 64) 64) (split s) (s .pre .1),
+      ),
     )
 
-same-length : tie.Need-same-length Inv-loop μ-loop
+add-put-word : tie.Need-add-put-word
+add-put-word c = search needs
+
+put-word-requires-2 : tie.Need-put-word-requires-2
+put-word-requires-2 c κs =
+    let p = c .before .before .before in
+    let l = left p in (
+      p .before .before .block-words .ensures .1 ∙ word-same (entry p .args .out .now) (p .put-word .last .0) _ 64 (kept p),
+      (omega (arith, entry p .pre .0, l .low), omega (arith, l .count, l .size, ap length (second p), entry p .pre .1)),
+    )
+
+same-length : tie.Need-same-length
 same-length c = search needs
 
-returns : tie.Need-returns Inv-loop μ-loop
+returns : tie.Need-returns
 returns c =
-    let l = c .before .loop in
-    let a = entry (c .before) .args in
-    let none : l .bits ≡ 0 = omega arith in
-    blanks-end (l .inv .3)
-    (word-none (isFull (a .out .now)) (l .slot) (a .from + a .count - l .slot) (sym (l .inv .2) ∙ none))
+    let q = c .before .before in
+    let p = q .before .before .before .before in
+    blanks-end
+    (blanks-part (left p) _ [] (second p ∙ sym (append-nil _)) _ _ (q .put-word2 .ensures .1) (q .put-word2 .ensures .0)) refl
 
 pub put-block-spec : {M : Type 1} → statement M
 put-block-spec =
     tie.close
     (tie.spec
-    Inv-loop
-    μ-loop
-    full-word-requires
-    loop-holds
-    cast-zeros
-    add-full
-    cast-put-entry
-    put-entry-requires
-    shr-bits
-    add-slot
-    loop-less
-    loop-again
+    block-words-requires
+    put-word-requires
+    add-put-word
+    put-word-requires-2
     same-length
     returns)
