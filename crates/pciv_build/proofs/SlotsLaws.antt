@@ -5,19 +5,20 @@
 --   blanks-before   what stands before the entries stays as it was
 --   slots-same, word-same    the slots with primary byte 255, and their word, where the primary bytes stay
 --   slots-part      these slots: those of a block, and then the others
---   slots-more, -skip, -end    one slot that is among them, and then the others; one that is not; none left
+--   slots-word      the same for a word, of which only some bits may be slots
+--   slots-end       none left
 -- Axioms: none.
 use mathlib.Core.Path.{_≡_, refl, sym, ap, subst, _∙_}
-use Prim.Native.Nat.{ℕ, zero, suc, _+_, _-_, _*_, _≤_, _<_}
+use Prim.Native.Nat.{ℕ, zero, suc, _+_, _-_, _*_, _≤_, _<_, min}
 use native.Mathlib.Nat.{le-refl}
 use native.Mathlib.Omega.{arith}
+use native.Mathlib.Decide.{decLe}
 use mathlib.Core.Bool.{Bool, false}
 use mathlib.Core.List.{List, [], _∷_, _++_, append-nil}
 use lib.ListN.{length, getD, length-append}
 use lib.Seq.{sets, length-sets}
 use lib.Dec.{eqb}
-use borrow.Author.Tests.{eq-eqb, ne-eqb}
-use Rattle.pciv_bytes.specs.Ranges.{positions, joined, keepIf}
+use Rattle.pciv_bytes.specs.Ranges.{positions, joined}
 use Rattle.pciv_bytes.specs.LittleEndian.{le}
 use Rattle.pciv_bytes.specs.Counts.{byteAt}
 use Rattle.pciv_bytes.proofs.PositionsLaws.{positions-cong, positions-append}
@@ -104,21 +105,18 @@ module _ (d₀ d : List ℕ) (i c : ℕ) (same : (j : ℕ) → i ≤ j → j < i
       (positions-append (isFull d₀) i c (n - (i + c))
       ∙ ap (λ (l : List ℕ). l ++ fullSlots d₀ (i + c) (n - (i + c))) slots-same)
 
--- one slot, and those behind it
-module _ (d : List ℕ) (n i : ℕ) (h : i < n) where
-  slots-next : fullSlots d i (n - i) ≡ keepIf (isFull d i) i (fullSlots d (i + 1) (n - (i + 1)))
-  unfolding positions
-  slots-next =
-      let e : n - i ≡ suc (n - (i + 1)) = omega arith in
-      let next : i + 1 ≡ suc i = omega arith in
-      rw (e, next)
-
-  pub slots-more : byteAt d (40 + i) ≡ 255 → fullSlots d i (n - i) ≡ i ∷ fullSlots d (i + 1) (n - (i + 1))
-  slots-more full = slots-next ∙ rw (eq-eqb (byteAt d (40 + i)) 255 full)
-
-  pub slots-skip : (byteAt d (40 + i) ≡ 255 → ⊥) → fullSlots d i (n - i) ≡ fullSlots d (i + 1) (n - (i + 1))
-  slots-skip low = slots-next ∙ rw (ne-eqb (byteAt d (40 + i)) 255 low)
-
 pub slots-end : (d : List ℕ) (n i : ℕ) → n ≤ i → fullSlots d i (n - i) ≡ []
 unfolding positions
 slots-end d n i h = let e : n - i ≡ 0 = omega arith in rw e
+
+-- the slots of a word, and those behind it
+pub slots-word : (d₀ d : List ℕ) (i n : ℕ) → ((j : ℕ) → i ≤ j → j < i + min 64 (n - i) → byteAt d (40 + j) ≡ byteAt d₀ (40 + j))
+    → fullSlots d₀ i (n - i) ≡ fullSlots d i (min 64 (n - i)) ++ fullSlots d₀ (i + 64) (n - (i + 64))
+slots-word d₀ d i n same =
+    elim (decLe 64 (n - i)) [
+      | yes full ↦ (let e : min 64 (n - i) ≡ 64 = omega arith in
+          rw e (slots-part d₀ d i 64 (λ j h₁ h₂. same j h₁ (omega arith)) n (omega arith)))
+      | no part ↦ (let e : min 64 (n - i) ≡ n - i = omega arith in
+          rw (e, slots-end d₀ n (i + 64) (omega arith))
+          (slots-same d₀ d i (n - i) (λ j h₁ h₂. same j h₁ (omega arith)) ∙ sym (append-nil (fullSlots d i (n - i)))))
+    ]

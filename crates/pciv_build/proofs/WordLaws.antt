@@ -1,25 +1,29 @@
 -- Laws of words whose bits tell which numbers of a range have p.
---   word-full                 which primary bytes are 255, told by which bytes are not below 255
+--   tell-full                 which primary bytes are 255, told by the mask of those that are not below 255
 --   NextBit, word-next        the lowest set bit, the positions that it and the bits above it tell, and these bits
 --   word-none                 no bit is set
 -- Axioms: none.
 use mathlib.Core.Path.{_≡_, refl, sym, ap, _∙_}
-use Prim.Native.Nat.{ℕ, zero, suc, _+_, _-_, _*_, _/_, _%_, _^_, _≤_, _<_}
+use Prim.Native.Nat.{ℕ, zero, suc, _+_, _-_, _*_, _/_, _%_, _^_, _≤_, _<_, min}
 use native.Mathlib.Nat.{zero-add, pow-suc, div-one, div-div-eq-div-mul, mul-comm}
 use native.Mathlib.Omega.{arith}
 use native.Mathlib.Decide.{decLe}
 use mathlib.Core.Bool.{Bool, true, false, not}
 use mathlib.Core.List.{List, [], _∷_}
+use lib.ListN.{length, getD, take, drop, length-drop}
+use lib.Seq.{sets, length-take-le, getD-take, getD-drop}
 use lib.Count.{trailingZeros}
 use lib.Dec.{ltb, eqb}
 use borrow.Author.Tests.{lt-ltb, le-ltb, eq-eqb, ne-eqb}
 use Rattle.pciv_bytes.specs.Ranges.{flag, positions, keepIf}
 use Rattle.pciv_bytes.specs.LittleEndian.{Bytes}
 use Rattle.pciv_bytes.specs.Counts.{byteAt}
-use Rattle.pciv_format.specs.Mask.{word}
+use Rattle.pciv_bytes.proofs.WriteLaws.{getD-sets}
+use Rattle.pciv_format.specs.Mask.{word, maskOf}
 use Rattle.pciv_words.proofs.BitLaws.{word-lt, bitAt-word, word-unique}
+use Rattle.pciv_words.proofs.MaskLaws.{length-maskOf, getD-maskOf}
 use Rattle.pciv_flags.specs.Flags.{passesAt}
-use Rattle.pciv_build.specs.Slots.{isFull}
+use Rattle.pciv_build.specs.Slots.{isFull, TellFull}
 
 -- ---- the word of the slots with primary byte 255
 
@@ -35,10 +39,35 @@ not-below x h =
       | no d ↦ rw (lt-ltb x 255 (omega arith)) (sym (ne-eqb x 255 (λ e. omega arith)))
     ]
 
-pub word-full : (d : List ℕ) → Bytes d → (i at c : ℕ) → at ≡ 40 + i → word (passesAt d 255 true) at c ≡ word (isFull d) i c
-word-full d bytes i at c place =
-    word-moved (passesAt d 255 true) (isFull d) at i c
-    (λ j h. let e : at + j ≡ 40 + (i + j) = omega arith in rw e (not-below (byteAt d (40 + (i + j))) (bytes (40 + (i + j)))))
+-- the mask of the primary bytes of slots i up to `to`, in the front of ws
+module _ (d ws : List ℕ) (i to : ℕ) (bytes : Bytes d) (h : i ≤ to) (fits : 40 + to ≤ length d) (room : to ≤ i + 64 * length ws) where
+  abbrev part : List ℕ
+  part = take (40 + to - (40 + i)) (drop (40 + i) d)
+
+  length-part : length part ≡ to - i
+  length-part =
+      let e : 40 + to - (40 + i) ≡ to - i = omega arith in
+      rw e (length-take-le (to - i) (drop (40 + i) d) (rw (length-drop (40 + i) d) (omega arith)))
+
+  part-full : (j : ℕ) → j < to - i → passesAt part 255 true j ≡ isFull d (i + j)
+  part-full j inside =
+      let there : 40 + i + j ≡ 40 + (i + j) = omega arith in
+      let e : byteAt part j ≡ byteAt d (40 + (i + j)) =
+      getD-take (40 + to - (40 + i)) (drop (40 + i) d) j 0 (omega arith) ∙ getD-drop (40 + i) d j 0 ∙ ap (byteAt d) there in
+      rw e (not-below (byteAt d (40 + (i + j))) (bytes (40 + (i + j))))
+
+  pub tell-full : TellFull (sets ws 0 (maskOf (length part) (passesAt part 255 true))) d i to
+  tell-full w inside =
+      let p : ℕ → Bool = passesAt part 255 true in
+      let n : ℕ = length part in
+      let long = length-maskOf n p in
+      let e : min 64 (n - 64 * w) ≡ min 64 (to - (i + 64 * w)) = omega (arith, length-part) in
+      ap (λ (k : ℕ). getD (sets ws 0 (maskOf n p)) k 0) (sym (zero-add w))
+      ∙ getD-sets (maskOf n p) ws 0 0 w (omega (arith, long, length-part)) (omega (arith, long, length-part))
+      ∙ getD-maskOf n p w (omega (arith, length-part))
+      ∙ ap (word p (64 * w)) e
+      ∙ word-moved p (isFull d) (64 * w) (i + 64 * w) (min 64 (to - (i + 64 * w)))
+      (λ j l. let there : i + (64 * w + j) ≡ i + 64 * w + j = omega arith in part-full (64 * w + j) (omega arith) ∙ ap (isFull d) there)
 
 -- ---- the lowest set bit
 

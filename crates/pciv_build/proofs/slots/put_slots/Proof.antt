@@ -1,5 +1,5 @@
 -- Proves slots::put_slots. Invariant: the entries of the slots from i on are left. Falls: n - i.
-use mathlib.Core.Path.{_≡_, refl}
+use mathlib.Core.Path.{_≡_}
 use Prim.Native.Nat.{ℕ, _+_, _-_, _*_, _≤_}
 use native.Mathlib.Nat.{sub-zero}
 use native.Mathlib.Omega.{arith}
@@ -51,10 +51,14 @@ loop-holds c = rw (sub-zero (c .before .args .n)) (omega arith, blanks-start _ _
 sub-loop : tie.Need-sub-loop Inv-loop μ-loop
 sub-loop c = search needs
 
-put-block-requires : tie.Need-put-block-requires Inv-loop μ-loop
-put-block-requires c κs =
+add-put-group : tie.Need-add-put-group Inv-loop μ-loop
+add-put-group c = search needs
+
+put-group-requires : tie.Need-put-group-requires Inv-loop μ-loop
+put-group-requires c κs =
     let l = c .before .before in
-    (omega (arith, l .loop .inv .1 .low), room l 128 (omega arith))
+    let all : l .loop .i + 4096 - l .loop .i ≡ 4096 = omega arith in
+    ((omega arith, omega arith, omega (arith, l .loop .inv .1 .low)), rw all (room l 4096 (omega arith)))
 
 add-i : tie.Need-add-i Inv-loop μ-loop
 add-i c = search needs
@@ -66,12 +70,17 @@ loop-again : tie.Need-loop-again Inv-loop μ-loop
 loop-again c =
     let put = c .before .before in
     let l = put .before .before .before in
-    (omega arith, blanks-part (l .loop .inv .1) _ _ (split l 128 (omega arith)) _ _ (put .put-block .ensures .1) (put .put-block .ensures .0))
+    let all : l .loop .i + 4096 - l .loop .i ≡ 4096 = omega arith in (
+      omega arith,
+      blanks-part (l .loop .inv .1) _ _ (split l 4096 (omega arith)) _ _ (rw all at (put .put-group .ensures .1))
+          (rw all at (put .put-group .ensures .0)),
+    )
 
-put-last-requires : tie.Need-put-last-requires Inv-loop μ-loop
-put-last-requires c κs =
+put-group-requires-2 : tie.Need-put-group-requires-2 Inv-loop μ-loop
+put-group-requires-2 c κs =
     let l = c .before .before in
-    ((l .loop .inv .0, l .loop .inv .1 .low), room l (entry l .args .n - l .loop .i) (omega (arith, l .loop .inv .0)))
+    let h = l .loop .inv .0 in
+    ((h, omega arith, l .loop .inv .1 .low), room l (entry l .args .n - l .loop .i) (omega (arith, h)))
 
 same-length : tie.Need-same-length Inv-loop μ-loop
 same-length c = search needs
@@ -83,7 +92,8 @@ returns c =
     let a = entry l .args in
     let rest : ℕ = a .n - l .loop .i in
     blanks-end
-    (blanks-part (l .loop .inv .1) _ _ (split l rest (omega (arith, l .loop .inv .0))) _ _ (put .put-last .ensures) refl)
+    (blanks-part (l .loop .inv .1) _ _ (split l rest (omega (arith, l .loop .inv .0))) _ _ (put .put-group2 .ensures .1)
+    (put .put-group2 .ensures .0))
     (slots-end (a .out .now) (a .n) (l .loop .i + rest) (omega (arith, l .loop .inv .0))) .1
 
 pub put-slots-spec : {M : Type 1} → statement M
@@ -95,10 +105,11 @@ put-slots-spec =
     add-place
     loop-holds
     sub-loop
-    put-block-requires
+    add-put-group
+    put-group-requires
     add-i
     loop-less
     loop-again
-    put-last-requires
+    put-group-requires-2
     same-length
     returns)

@@ -1,7 +1,7 @@
 -- Proves slots::put_word. Invariant: bits are those of the slots from `slot` on, and their entries are left.
--- Falls: from + 64 - slot.
+-- Falls: end - slot, where `end` is behind the slots of the word.
 use mathlib.Core.Path.{_≡_, sym, ap, _∙_}
-use Prim.Native.Nat.{_+_, _-_, _≤_}
+use Prim.Native.Nat.{ℕ, _+_, _-_, _≤_, min}
 use native.Mathlib.Omega.{arith}
 use lib.ListN.{length}
 use lib.Count.{trailingZeros, trailing-le}
@@ -13,15 +13,19 @@ use borrow.Author.Needs.{needs}
 use Rattle.pciv_build.proofs.slots.put_word.Statement.{statement}
 use Rattle.pciv_build.proofs.slots.put_word.Tie as tie
 
+-- behind the slots of the word
+abbrev end : ℕ → ℕ → ℕ
+end from to = from + min 64 (to - from)
+
 abbrev Inv-loop : tie.InvT-loop
-Inv-loop out₀ place from flags next₀ bits₀ slot₀ out next bits slot =
+Inv-loop out₀ place from to flags next₀ bits₀ slot₀ out next bits slot =
     (from ≤ slot)
-    × (slot ≤ from + 64)
-    × (bits ≡ word (isFull out₀) slot (from + 64 - slot))
-    × BlanksLeft out₀ place (fullSlots out₀ from 64) out next (fullSlots out₀ slot (from + 64 - slot))
+    × (slot ≤ end from to)
+    × (bits ≡ word (isFull out₀) slot (end from to - slot))
+    × BlanksLeft out₀ place (fullSlots out₀ from (min 64 (to - from))) out next (fullSlots out₀ slot (end from to - slot))
 
 abbrev μ-loop : tie.MeasureT-loop
-μ-loop out₀ place from flags next₀ bits₀ slot₀ out next bits slot = from + 64 - slot
+μ-loop out₀ place from to flags next₀ bits₀ slot₀ out next bits slot = end from to - slot
 
 abbrev entry : tie.At-loop Inv-loop μ-loop → tie.Start Inv-loop μ-loop
 entry c = c .before .before
@@ -30,18 +34,18 @@ entry c = c .before .before
 next-bit : (c : tie.In-loop Inv-loop μ-loop)
     → (let l = c .before .loop in
     let a = entry (c .before) .args in
-    NextBit (isFull (a .out .now)) (l .slot) (a .from + 64 - l .slot) (fullSlots (a .out .now) (l .slot) (a .from + 64 - l .slot))
+    NextBit (isFull (a .out .now)) (l .slot) (end (a .from) (a .to) - l .slot) (fullSlots (a .out .now) (l .slot) (end (a .from) (a .to) - l .slot))
     (l .bits) (trailingZeros 64 (l .bits)))
 next-bit c =
     let l = c .before .loop in
     let s = entry (c .before) in
-    word-next (isFull (s .args .out .now)) 64 (l .slot) (s .args .from + 64 - l .slot) (l .bits) (l .inv .2)
+    word-next (isFull (s .args .out .now)) 64 (l .slot) (end (s .args .from) (s .args .to) - l .slot) (l .bits) (l .inv .2)
     (omega (arith, l .inv .0)) (c .loop-test .taken)
 
 loop-holds : tie.Need-loop-holds Inv-loop μ-loop
 loop-holds c =
     let s = c .before in
-    let all : s .args .from + 64 - s .args .from ≡ 64 = omega arith in
+    let all : end (s .args .from) (s .args .to) - s .args .from ≡ min 64 (s .args .to - s .args .from) = omega arith in
     rw all (omega arith, omega arith, s .pre .0, blanks-start _ _ _)
 
 cast-zeros : tie.Need-cast-zeros Inv-loop μ-loop
@@ -79,8 +83,8 @@ loop-again c =
     let l = d .before .loop in
     let a = entry (d .before) .args in
     let b = next-bit d in
-    let left : a .from + 64 - l .slot - (trailingZeros 64 (l .bits) + 1)
-    ≡ a .from + 64 - (l .slot + trailingZeros 64 (l .bits) + 1) = omega arith in (
+    let left : end (a .from) (a .to) - l .slot - (trailingZeros 64 (l .bits) + 1)
+    ≡ end (a .from) (a .to) - (l .slot + trailingZeros 64 (l .bits) + 1) = omega arith in (
       omega (arith, l .inv .0),
       omega (arith, b .inside),
       rw left at (b .rest),
@@ -96,7 +100,7 @@ returns c =
     let a = entry (c .before) .args in
     let none : l .bits ≡ 0 = omega arith in
     blanks-end (l .inv .3)
-    (word-none (isFull (a .out .now)) (l .slot) (a .from + 64 - l .slot) (sym (l .inv .2) ∙ none))
+    (word-none (isFull (a .out .now)) (l .slot) (end (a .from) (a .to) - l .slot) (sym (l .inv .2) ∙ none))
 
 pub put-word-spec : {M : Type 1} → statement M
 put-word-spec =
