@@ -3,13 +3,16 @@
 --   -start, -more, -part, -skip, -end    before the first; one entry on, several; none; after the last
 --   blanks-room     there is room for the next ones
 --   blanks-before   what stands before the entries stays as it was
---   slots-part      the slots with primary byte 255: those of a block, and then the others
---   slots-none      a block has none
+--   slots-same, word-same    the slots with primary byte 255, and their word, where the primary bytes stay
+--   slots-part      these slots: those of a block, and then the others
+--   slots-word      the same for a word, of which only some bits may be slots
+--   slots-end       none left
 -- Axioms: none.
 use mathlib.Core.Path.{_≡_, refl, sym, ap, subst, _∙_}
-use Prim.Native.Nat.{ℕ, zero, suc, _+_, _-_, _*_, _≤_, _<_}
+use Prim.Native.Nat.{ℕ, zero, suc, _+_, _-_, _*_, _≤_, _<_, min}
 use native.Mathlib.Nat.{le-refl}
 use native.Mathlib.Omega.{arith}
+use native.Mathlib.Decide.{decLe}
 use mathlib.Core.Bool.{Bool, false}
 use mathlib.Core.List.{List, [], _∷_, _++_, append-nil}
 use lib.ListN.{length, getD, length-append}
@@ -18,11 +21,11 @@ use lib.Dec.{eqb}
 use Rattle.pciv_bytes.specs.Ranges.{positions, joined}
 use Rattle.pciv_bytes.specs.LittleEndian.{le}
 use Rattle.pciv_bytes.specs.Counts.{byteAt}
-use Rattle.pciv_bytes.specs.Any.{anyFrom}
-use Rattle.pciv_bytes.proofs.AnyLaws.{anyFrom-none}
 use Rattle.pciv_bytes.proofs.PositionsLaws.{positions-cong, positions-append}
 use Rattle.pciv_bytes.proofs.JoinedLaws.{joined-append, length-joined}
 use Rattle.pciv_bytes.proofs.WriteLaws.{sets-append}
+use Rattle.pciv_format.specs.Mask.{word}
+use Rattle.pciv_words.proofs.BitLaws.{word-cong}
 use Rattle.pciv_build.specs.Slots.{isFull, fullSlots, blankEntry, blankEntries}
 use Rattle.pciv_build.proofs.EntriesLaws.{rest-before}
 
@@ -83,28 +86,37 @@ module _ {d₀ : List ℕ} {p₀ : ℕ} {xs₀ d : List ℕ} {p : ℕ} {xs : Lis
 
 -- ---- the slots with primary byte 255
 
--- of a block of c slots that are as in d, and of those behind it
-pub slots-part : (d₀ d : List ℕ) (n i c : ℕ) → i + c ≤ n → ((j : ℕ) → j < n → byteAt d (40 + j) ≡ byteAt d₀ (40 + j))
-    → fullSlots d₀ i (n - i) ≡ fullSlots d i c ++ fullSlots d₀ (i + c) (n - (i + c))
-slots-part d₀ d n i c h same =
-    let e : n - i ≡ c + (n - (i + c)) = omega arith in
-    rw e
-    (positions-append (isFull d₀) i c (n - (i + c))
-    ∙ ap (λ (l : List ℕ). l ++ fullSlots d₀ (i + c) (n - (i + c)))
-    (positions-cong (isFull d₀) (isFull d) i c (λ j h₁ h₂. ap (λ (x : ℕ). eqb x 255) (sym (same j (omega arith))))))
+-- where the primary bytes of d are those of d₀
+module _ (d₀ d : List ℕ) (i c : ℕ) (same : (j : ℕ) → i ≤ j → j < i + c → byteAt d (40 + j) ≡ byteAt d₀ (40 + j)) where
+  full-same : (j : ℕ) → i ≤ j → j < i + c → isFull d₀ j ≡ isFull d j
+  full-same j h₁ h₂ = ap (λ (x : ℕ). eqb x 255) (sym (same j h₁ h₂))
 
-positions-none : (p : ℕ → Bool) (i c : ℕ) → ((j : ℕ) → i ≤ j → j < i + c → p j ≡ false) → positions p i c ≡ []
-unfolding positions
-positions-none p i zero none = refl
-positions-none p i (suc c) none =
-    rw (none i (le-refl i) (omega arith)) (positions-none p (suc i) c (λ j h₁ h₂. none j (omega arith) (omega arith)))
+  pub slots-same : fullSlots d₀ i c ≡ fullSlots d i c
+  slots-same = positions-cong (isFull d₀) (isFull d) i c full-same
 
-pub slots-none : (d : List ℕ) (i c : ℕ) → anyFrom (λ (j : ℕ). eqb (getD d j 0) 255) (40 + i) (40 + (i + c) - (40 + i)) ≡ false
-    → fullSlots d i c ≡ []
-slots-none d i c none =
-    positions-none (isFull d) i c
-    (λ j h₁ h₂. anyFrom-none (λ (j : ℕ). eqb (getD d j 0) 255) (40 + (i + c) - (40 + i)) (40 + i) none (40 + j) (omega arith) (omega arith))
+  pub word-same : word (isFull d₀) i c ≡ word (isFull d) i c
+  word-same = word-cong (isFull d₀) (isFull d) i c full-same
+
+  -- a block of c of n slots, and those behind it
+  pub slots-part : (n : ℕ) → i + c ≤ n → fullSlots d₀ i (n - i) ≡ fullSlots d i c ++ fullSlots d₀ (i + c) (n - (i + c))
+  slots-part n h =
+      let e : n - i ≡ c + (n - (i + c)) = omega arith in
+      rw e
+      (positions-append (isFull d₀) i c (n - (i + c))
+      ∙ ap (λ (l : List ℕ). l ++ fullSlots d₀ (i + c) (n - (i + c))) slots-same)
 
 pub slots-end : (d : List ℕ) (n i : ℕ) → n ≤ i → fullSlots d i (n - i) ≡ []
 unfolding positions
 slots-end d n i h = let e : n - i ≡ 0 = omega arith in rw e
+
+-- the slots of a word, and those behind it
+pub slots-word : (d₀ d : List ℕ) (i n : ℕ) → ((j : ℕ) → i ≤ j → j < i + min 64 (n - i) → byteAt d (40 + j) ≡ byteAt d₀ (40 + j))
+    → fullSlots d₀ i (n - i) ≡ fullSlots d i (min 64 (n - i)) ++ fullSlots d₀ (i + 64) (n - (i + 64))
+slots-word d₀ d i n same =
+    elim (decLe 64 (n - i)) [
+      | yes full ↦ (let e : min 64 (n - i) ≡ 64 = omega arith in
+          rw e (slots-part d₀ d i 64 (λ j h₁ h₂. same j h₁ (omega arith)) n (omega arith)))
+      | no part ↦ (let e : min 64 (n - i) ≡ n - i = omega arith in
+          rw (e, slots-end d₀ n (i + 64) (omega arith))
+          (slots-same d₀ d i (n - i) (λ j h₁ h₂. same j h₁ (omega arith)) ∙ sym (append-nil (fullSlots d i (n - i)))))
+    ]

@@ -1,60 +1,73 @@
 -- Laws of words whose bits tell which numbers of a range have p.
---   word-more, word-halves    one bit more; two parts of up to 32 bits
---   word-small                a word of up to 64 bits is a number of 64 bits
+--   tell-full                 which primary bytes are 255, told by the mask of those that are not below 255
 --   NextBit, word-next        the lowest set bit, the positions that it and the bits above it tell, and these bits
 --   word-none                 no bit is set
 -- Axioms: none.
 use mathlib.Core.Path.{_≡_, refl, sym, ap, _∙_}
-use Prim.Native.Nat.{ℕ, zero, suc, _+_, _-_, _*_, _/_, _%_, _^_, _≤_, _<_}
-use native.Mathlib.Nat.{add-zero, zero-add, mul-assoc, pow-suc, div-one, div-div-eq-div-mul, mul-comm, lt-of-lt-of-le}
+use Prim.Native.Nat.{ℕ, zero, suc, _+_, _-_, _*_, _/_, _%_, _^_, _≤_, _<_, min}
+use native.Mathlib.Nat.{zero-add, pow-suc, div-one, div-div-eq-div-mul, mul-comm}
 use native.Mathlib.Omega.{arith}
-use mathlib.Core.Bool.{Bool, true, false}
+use native.Mathlib.Decide.{decLe}
+use mathlib.Core.Bool.{Bool, true, false, not}
 use mathlib.Core.List.{List, [], _∷_}
+use lib.ListN.{length, getD, take, drop, length-drop}
+use lib.Seq.{sets, length-take-le, getD-take, getD-drop}
 use lib.Count.{trailingZeros}
-use lib.Dec.{lit<}
-use lib.Pow.{shl-exact, pow-mono}
+use lib.Dec.{ltb, eqb}
+use borrow.Author.Tests.{lt-ltb, le-ltb, eq-eqb, ne-eqb}
 use Rattle.pciv_bytes.specs.Ranges.{flag, positions, keepIf}
-use Rattle.pciv_bytes.proofs.SumLaws.{flag-le}
-use Rattle.pciv_format.specs.Mask.{word}
+use Rattle.pciv_bytes.specs.LittleEndian.{Bytes}
+use Rattle.pciv_bytes.specs.Counts.{byteAt}
+use Rattle.pciv_bytes.proofs.WriteLaws.{getD-sets}
+use Rattle.pciv_format.specs.Mask.{word, maskOf}
+use Rattle.pciv_words.proofs.BitLaws.{word-lt, bitAt-word, word-unique}
+use Rattle.pciv_words.proofs.MaskLaws.{length-maskOf, getD-maskOf}
+use Rattle.pciv_flags.specs.Flags.{passesAt}
+use Rattle.pciv_build.specs.Slots.{isFull, TellFull}
 
-module _ (p : ℕ → Bool) where
-  word-append : (i c e : ℕ) → word p i (c + e) ≡ word p i c + word p (i + c) e * 2 ^ c
-  unfolding word
-  word-append i zero e = rw (zero-add e, add-zero i) (omega arith)
-  word-append i (suc c) e =
-      let s : suc c + e ≡ suc (c + e) = omega arith in
-      let t : i + suc c ≡ suc i + c = omega arith in
-      rw (s, t, pow-suc 2 c, ← mul-assoc (word p (suc i + c) e) (2 ^ c) 2) (omega (arith, word-append (suc i) c e))
+-- ---- the word of the slots with primary byte 255
 
-  word-one : (i : ℕ) → word p i 1 ≡ flag (p i)
-  unfolding word
-  word-one i = omega arith
+-- the same flags, from k on
+word-moved : (p q : ℕ → Bool) (i k c : ℕ) → ((j : ℕ) → j < c → p (i + j) ≡ q (k + j)) → word p i c ≡ word q k c
+word-moved p q i k c same =
+    word-unique q k c (word p i c) (word-lt p i c) (λ j h. bitAt-word p i c j h ∙ ap flag (same j h))
 
-  word-lt : (i c : ℕ) → word p i c < 2 ^ c
-  unfolding word
-  word-lt i zero = lit< tt
-  word-lt i (suc c) = rw (pow-suc 2 c) (omega (arith, flag-le (p i), word-lt (suc i) c))
+not-below : (x : ℕ) → x < 256 → not (ltb x 255) ≡ eqb x 255
+not-below x h =
+    elim (decLe 255 x) [
+      | yes d ↦ rw (le-ltb x 255 d) (sym (eq-eqb x 255 (omega arith)))
+      | no d ↦ rw (lt-ltb x 255 (omega arith)) (sym (ne-eqb x 255 (λ e. omega arith)))
+    ]
 
-  pub word-start : (i : ℕ) → 0 ≡ word p i 0
-  unfolding word
-  word-start i = refl
+-- the mask of the primary bytes of slots i up to `to`, in the front of ws
+module _ (d ws : List ℕ) (i to : ℕ) (bytes : Bytes d) (h : i ≤ to) (fits : 40 + to ≤ length d) (room : to ≤ i + 64 * length ws) where
+  abbrev part : List ℕ
+  part = take (40 + to - (40 + i)) (drop (40 + i) d)
 
-  pub word-small : (i c : ℕ) → c ≤ 64 → word p i c < 2 ^ 64
-  word-small i c h = lt-of-lt-of-le (word-lt i c) (pow-mono {i = c} {j = 64} h)
+  length-part : length part ≡ to - i
+  length-part =
+      let e : 40 + to - (40 + i) ≡ to - i = omega arith in
+      rw e (length-take-le (to - i) (drop (40 + i) d) (rw (length-drop (40 + i) d) (omega arith)))
 
-  -- put in place by a shift
-  pub word-more : (i c : ℕ) → c < 64 → word p i c + flag (p (i + c)) * 2 ^ c % 2 ^ 64 ≡ word p i (c + 1)
-  word-more i c h =
-      rw (shl-exact {a = flag (p (i + c))} 1 c 64 (omega (arith, flag-le (p (i + c)))) (omega arith))
-      (sym (word-append i c 1 ∙ rw (word-one (i + c))))
+  part-full : (j : ℕ) → j < to - i → passesAt part 255 true j ≡ isFull d (i + j)
+  part-full j inside =
+      let there : 40 + i + j ≡ 40 + (i + j) = omega arith in
+      let e : byteAt part j ≡ byteAt d (40 + (i + j)) =
+      getD-take (40 + to - (40 + i)) (drop (40 + i) d) j 0 (omega arith) ∙ getD-drop (40 + i) d j 0 ∙ ap (byteAt d) there in
+      rw e (not-below (byteAt d (40 + (i + j))) (bytes (40 + (i + j))))
 
-  pub word-halves : (i c : ℕ) → 32 ≤ c → c ≤ 64 → word p i 32 + word p (i + 32) (c - 32) * 2 ^ 32 % 2 ^ 64 ≡ word p i c
-  word-halves i c h₁ h₂ =
-      let high : word p (i + 32) (c - 32) < 2 ^ 32 =
-      lt-of-lt-of-le (word-lt (i + 32) (c - 32)) (pow-mono {i = c - 32} {j = 32} (omega arith)) in
-      let e : 32 + (c - 32) ≡ c = omega arith in
-      rw (shl-exact {a = word p (i + 32) (c - 32)} 32 32 64 high (omega arith))
-      (sym (word-append i 32 (c - 32)) ∙ ap (word p i) e)
+  pub tell-full : TellFull (sets ws 0 (maskOf (length part) (passesAt part 255 true))) d i to
+  tell-full w inside =
+      let p : ℕ → Bool = passesAt part 255 true in
+      let n : ℕ = length part in
+      let long = length-maskOf n p in
+      let e : min 64 (n - 64 * w) ≡ min 64 (to - (i + 64 * w)) = omega (arith, length-part) in
+      ap (λ (k : ℕ). getD (sets ws 0 (maskOf n p)) k 0) (sym (zero-add w))
+      ∙ getD-sets (maskOf n p) ws 0 0 w (omega (arith, long, length-part)) (omega (arith, long, length-part))
+      ∙ getD-maskOf n p w (omega (arith, length-part))
+      ∙ ap (word p (64 * w)) e
+      ∙ word-moved p (isFull d) (64 * w) (i + 64 * w) (min 64 (to - (i + 64 * w)))
+      (λ j l. let there : i + (64 * w + j) ≡ i + 64 * w + j = omega arith in part-full (64 * w + j) (omega arith) ∙ ap (isFull d) there)
 
 -- ---- the lowest set bit
 

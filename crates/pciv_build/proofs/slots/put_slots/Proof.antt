@@ -1,12 +1,12 @@
 -- Proves slots::put_slots. Invariant: the entries of the slots from i on are left. Falls: n - i.
-use mathlib.Core.Path.{_≡_, sym, ap, _∙_}
+use mathlib.Core.Path.{_≡_}
 use Prim.Native.Nat.{ℕ, _+_, _-_, _*_, _≤_}
 use native.Mathlib.Nat.{sub-zero}
 use native.Mathlib.Omega.{arith}
 use mathlib.Core.List.{List, _++_}
 use lib.ListN.{length}
 use Rattle.pciv_build.specs.Slots.{fullSlots}
-use Rattle.pciv_build.proofs.SlotsLaws.{BlanksLeft, blanks-start, blanks-room, blanks-before, blanks-part, blanks-skip, blanks-end, slots-part, slots-none, slots-end}
+use Rattle.pciv_build.proofs.SlotsLaws.{BlanksLeft, blanks-start, blanks-room, blanks-before, blanks-part, blanks-end, slots-part, slots-end}
 use borrow.Author.Needs.{needs}
 use Rattle.pciv_build.proofs.slots.put_slots.Statement.{statement}
 use Rattle.pciv_build.proofs.slots.put_slots.Tie as tie
@@ -31,7 +31,7 @@ split : (c : tie.At-loop Inv-loop μ-loop) (count : ℕ)
 split c count inside =
     let a = entry c .args in
     let l = c .loop in
-    slots-part (a .out .now) (l .out) (a .n) (l .i) count inside (λ j h. blanks-before (l .inv .1) (40 + j) (omega arith))
+    slots-part (a .out .now) (l .out) (l .i) count (λ j h₁ h₂. blanks-before (l .inv .1) (40 + j) (omega arith)) (a .n) inside
 
 room : (c : tie.At-loop Inv-loop μ-loop) (count : ℕ)
     → (let l = c .loop in
@@ -51,26 +51,17 @@ loop-holds c = rw (sub-zero (c .before .args .n)) (omega arith, blanks-start _ _
 sub-loop : tie.Need-sub-loop Inv-loop μ-loop
 sub-loop c = search needs
 
+add-put-group : tie.Need-add-put-group Inv-loop μ-loop
+add-put-group c = search needs
+
+put-group-requires : tie.Need-put-group-requires Inv-loop μ-loop
+put-group-requires c κs =
+    let l = c .before .before in
+    let all : l .loop .i + 4096 - l .loop .i ≡ 4096 = omega arith in
+    ((omega arith, omega arith, omega (arith, l .loop .inv .1 .low)), rw all (room l 4096 (omega arith)))
+
 add-i : tie.Need-add-i Inv-loop μ-loop
 add-i c = search needs
-
-add-any-byte : tie.Need-add-any-byte Inv-loop μ-loop
-add-any-byte c = search needs
-
-add-any-byte-2 : tie.Need-add-any-byte-2 Inv-loop μ-loop
-add-any-byte-2 c = search needs
-
-any-byte-requires : tie.Need-any-byte-requires Inv-loop μ-loop
-any-byte-requires c κs =
-    let l = c .before .before in
-    (omega arith, omega (arith, l .loop .inv .1 .size, entry l .pre))
-
-put-block-requires : tie.Need-put-block-requires Inv-loop μ-loop
-put-block-requires c κs =
-    let l = c .before .before .before .before .before in (
-      (omega arith, omega (arith, l .loop .inv .1 .low)),
-      room l 64 (omega arith),
-    )
 
 loop-less : tie.Need-loop-less Inv-loop μ-loop
 loop-less c = search needs
@@ -78,33 +69,18 @@ loop-less c = search needs
 loop-again : tie.Need-loop-again Inv-loop μ-loop
 loop-again c =
     let put = c .before .before in
-    let l = put .before .before .before .before .before .before in
-    (omega arith, blanks-part (l .loop .inv .1) _ _ (split l 64 (omega arith)) _ _ (put .put-block .ensures .1) (put .put-block .ensures .0))
-
-loop-less-2 : tie.Need-loop-less-2 Inv-loop μ-loop
-loop-less-2 c = search needs
-
-loop-again-2 : tie.Need-loop-again-2 Inv-loop μ-loop
-loop-again-2 c =
-    let l = c .before .before .before .before in
-    let a = entry l .args in
-    let i = l .loop .i in (
+    let l = put .before .before .before in
+    let all : l .loop .i + 4096 - l .loop .i ≡ 4096 = omega arith in (
       omega arith,
-      blanks-skip (l .loop .inv .1) _
-          (split l 64 (omega arith)
-          ∙ ap (λ (xs : List ℕ). xs ++ fullSlots (a .out .now) (i + 64) (a .n - (i + 64)))
-          (slots-none (l .loop .out) i 64 (sym (c .before .any-byte .ensures) ∙ c .if1 .left))),
+      blanks-part (l .loop .inv .1) _ _ (split l 4096 (omega arith)) _ _ (rw all at (put .put-group .ensures .1))
+          (rw all at (put .put-group .ensures .0)),
     )
 
-sub-put-block : tie.Need-sub-put-block Inv-loop μ-loop
-sub-put-block c = search needs
-
-put-block-requires-2 : tie.Need-put-block-requires-2 Inv-loop μ-loop
-put-block-requires-2 c κs =
-    let l = c .before .before in (
-      (omega arith, omega (arith, l .loop .inv .1 .low, l .loop .inv .0)),
-      room l (entry l .args .n - l .loop .i) (omega (arith, l .loop .inv .0)),
-    )
+put-group-requires-2 : tie.Need-put-group-requires-2 Inv-loop μ-loop
+put-group-requires-2 c κs =
+    let l = c .before .before in
+    let h = l .loop .inv .0 in
+    ((h, omega arith, l .loop .inv .1 .low), room l (entry l .args .n - l .loop .i) (omega (arith, h)))
 
 same-length : tie.Need-same-length Inv-loop μ-loop
 same-length c = search needs
@@ -116,7 +92,8 @@ returns c =
     let a = entry l .args in
     let rest : ℕ = a .n - l .loop .i in
     blanks-end
-    (blanks-part (l .loop .inv .1) _ _ (split l rest (omega (arith, l .loop .inv .0))) _ _ (put .put-block2 .ensures .1) (put .put-block2 .ensures .0))
+    (blanks-part (l .loop .inv .1) _ _ (split l rest (omega (arith, l .loop .inv .0))) _ _ (put .put-group2 .ensures .1)
+    (put .put-group2 .ensures .0))
     (slots-end (a .out .now) (a .n) (l .loop .i + rest) (omega (arith, l .loop .inv .0))) .1
 
 pub put-slots-spec : {M : Type 1} → statement M
@@ -128,16 +105,11 @@ put-slots-spec =
     add-place
     loop-holds
     sub-loop
+    add-put-group
+    put-group-requires
     add-i
-    add-any-byte
-    add-any-byte-2
-    any-byte-requires
-    put-block-requires
     loop-less
     loop-again
-    loop-less-2
-    loop-again-2
-    sub-put-block
-    put-block-requires-2
+    put-group-requires-2
     same-length
     returns)

@@ -1,7 +1,7 @@
--- Proves slots::put_block. Invariant: bits are those of the slots from `slot` on, and their entries are left.
--- Falls: from + count - slot.
+-- Proves slots::put_word. Invariant: bits are those of the slots from `slot` on, and their entries are left.
+-- Falls: end - slot, where `end` is behind the slots of the word.
 use mathlib.Core.Path.{_≡_, sym, ap, _∙_}
-use Prim.Native.Nat.{_+_, _-_, _≤_}
+use Prim.Native.Nat.{ℕ, _+_, _-_, _≤_, min}
 use native.Mathlib.Omega.{arith}
 use lib.ListN.{length}
 use lib.Count.{trailingZeros, trailing-le}
@@ -10,48 +10,49 @@ use Rattle.pciv_build.specs.Slots.{isFull, fullSlots}
 use Rattle.pciv_build.proofs.WordLaws.{NextBit, word-next, word-none}
 use Rattle.pciv_build.proofs.SlotsLaws.{BlanksLeft, blanks-start, blanks-more, blanks-end}
 use borrow.Author.Needs.{needs}
-use Rattle.pciv_build.proofs.slots.put_block.Statement.{statement}
-use Rattle.pciv_build.proofs.slots.put_block.Tie as tie
+use Rattle.pciv_build.proofs.slots.put_word.Statement.{statement}
+use Rattle.pciv_build.proofs.slots.put_word.Tie as tie
+
+-- behind the slots of the word
+abbrev end : ℕ → ℕ → ℕ
+end from to = from + min 64 (to - from)
 
 abbrev Inv-loop : tie.InvT-loop
-Inv-loop out₀ place from count bits₀ next₀ slot₀ out bits next slot =
+Inv-loop out₀ place from to flags next₀ bits₀ slot₀ out next bits slot =
     (from ≤ slot)
-    × (slot ≤ from + count)
-    × (bits ≡ word (isFull out₀) slot (from + count - slot))
-    × BlanksLeft out₀ place (fullSlots out₀ from count) out next (fullSlots out₀ slot (from + count - slot))
+    × (slot ≤ end from to)
+    × (bits ≡ word (isFull out₀) slot (end from to - slot))
+    × BlanksLeft out₀ place (fullSlots out₀ from (min 64 (to - from))) out next (fullSlots out₀ slot (end from to - slot))
 
 abbrev μ-loop : tie.MeasureT-loop
-μ-loop out₀ place from count bits₀ next₀ slot₀ out bits next slot = from + count - slot
+μ-loop out₀ place from to flags next₀ bits₀ slot₀ out next bits slot = end from to - slot
 
 abbrev entry : tie.At-loop Inv-loop μ-loop → tie.Start Inv-loop μ-loop
-entry c = c .before .before .before .before
+entry c = c .before .before
 
 -- the lowest set bit
 next-bit : (c : tie.In-loop Inv-loop μ-loop)
     → (let l = c .before .loop in
     let a = entry (c .before) .args in
-    NextBit (isFull (a .out .now)) (l .slot) (a .from + a .count - l .slot) (fullSlots (a .out .now) (l .slot) (a .from + a .count - l .slot))
+    NextBit (isFull (a .out .now)) (l .slot) (end (a .from) (a .to) - l .slot) (fullSlots (a .out .now) (l .slot) (end (a .from) (a .to) - l .slot))
     (l .bits) (trailingZeros 64 (l .bits)))
 next-bit c =
     let l = c .before .loop in
     let s = entry (c .before) in
-    word-next (isFull (s .args .out .now)) 64 (l .slot) (s .args .from + s .args .count - l .slot) (l .bits) (l .inv .2)
-    (omega (arith, l .inv .0, s .pre .0)) (c .loop-test .taken)
-
-full-word-requires : tie.Need-full-word-requires Inv-loop μ-loop
-full-word-requires c κs = search needs
+    word-next (isFull (s .args .out .now)) 64 (l .slot) (end (s .args .from) (s .args .to) - l .slot) (l .bits) (l .inv .2)
+    (omega (arith, l .inv .0)) (c .loop-test .taken)
 
 loop-holds : tie.Need-loop-holds Inv-loop μ-loop
 loop-holds c =
-    let a = c .before .before .before .args in
-    let all : a .from + a .count - a .from ≡ a .count = omega arith in
-    rw all (omega arith, omega arith, c .full-word .ensures, blanks-start _ _ _)
+    let s = c .before in
+    let all : end (s .args .from) (s .args .to) - s .args .from ≡ min 64 (s .args .to - s .args .from) = omega arith in
+    rw all (omega arith, omega arith, s .pre .0, blanks-start _ _ _)
 
 cast-zeros : tie.Need-cast-zeros Inv-loop μ-loop
 cast-zeros c = omega (arith, trailing-le 64 (c .before .loop .bits))
 
 add-full : tie.Need-add-full Inv-loop μ-loop
-add-full c = omega (arith, next-bit c .inside, entry (c .before) .pre .0)
+add-full c = omega (arith, next-bit c .inside, entry (c .before) .pre .1 .0)
 
 cast-put-entry : tie.Need-cast-put-entry Inv-loop μ-loop
 cast-put-entry c = search needs
@@ -60,17 +61,17 @@ put-entry-requires : tie.Need-put-entry-requires Inv-loop μ-loop
 put-entry-requires c κs =
     let l = c .before .before .loop in
     let s = entry (c .before .before) in
-    omega (arith, l .inv .3 .count, l .inv .3 .size, ap length (next-bit (c .before) .slots-are), s .pre .1)
+    omega (arith, l .inv .3 .count, l .inv .3 .size, ap length (next-bit (c .before) .slots-are), s .pre .1 .1)
 
 shr-bits : tie.Need-shr-bits Inv-loop μ-loop
 shr-bits c =
     let d = c .before .before .before .before in
-    omega (arith, next-bit d .inside, d .before .loop .inv .0, entry (d .before) .pre .0)
+    omega (arith, next-bit d .inside, d .before .loop .inv .0, entry (d .before) .pre .1 .0)
 
 add-slot : tie.Need-add-slot Inv-loop μ-loop
 add-slot c =
     let d = c .before .before .before .before in
-    omega (arith, next-bit d .inside, d .before .loop .inv .0, entry (d .before) .pre .0)
+    omega (arith, next-bit d .inside, d .before .loop .inv .0, entry (d .before) .pre .1 .0)
 
 loop-less : tie.Need-loop-less Inv-loop μ-loop
 loop-less c = omega (arith, next-bit (c .before .before .before .before) .inside)
@@ -82,8 +83,8 @@ loop-again c =
     let l = d .before .loop in
     let a = entry (d .before) .args in
     let b = next-bit d in
-    let left : a .from + a .count - l .slot - (trailingZeros 64 (l .bits) + 1)
-    ≡ a .from + a .count - (l .slot + trailingZeros 64 (l .bits) + 1) = omega arith in (
+    let left : end (a .from) (a .to) - l .slot - (trailingZeros 64 (l .bits) + 1)
+    ≡ end (a .from) (a .to) - (l .slot + trailingZeros 64 (l .bits) + 1) = omega arith in (
       omega (arith, l .inv .0),
       omega (arith, b .inside),
       rw left at (b .rest),
@@ -99,15 +100,14 @@ returns c =
     let a = entry (c .before) .args in
     let none : l .bits ≡ 0 = omega arith in
     blanks-end (l .inv .3)
-    (word-none (isFull (a .out .now)) (l .slot) (a .from + a .count - l .slot) (sym (l .inv .2) ∙ none))
+    (word-none (isFull (a .out .now)) (l .slot) (end (a .from) (a .to) - l .slot) (sym (l .inv .2) ∙ none))
 
-pub put-block-spec : {M : Type 1} → statement M
-put-block-spec =
+pub put-word-spec : {M : Type 1} → statement M
+put-word-spec =
     tie.close
     (tie.spec
     Inv-loop
     μ-loop
-    full-word-requires
     loop-holds
     cast-zeros
     add-full
