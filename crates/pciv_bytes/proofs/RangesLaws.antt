@@ -2,14 +2,15 @@
 --   firstBelow-none/-at     its value, from what holds of each number
 --   firstBelow-clear/-has   what holds of each number, from its value
 --   table-rest/-done        what is left of a table at index i of n
+--   table-shift, -append    the same elements from another place on; a table in two parts
 use mathlib.Core.Path.{_≡_, refl, sym, ap, ap₂, _∙_}
 use Prim.Native.Nat.{ℕ, zero, suc, _+_, _-_, _≤_, _<_}
-use native.Mathlib.Nat.{add-zero}
+use native.Mathlib.Nat.{zero-add, add-zero}
 use native.Mathlib.Omega.{arith}
 use native.Mathlib.Decide.{decLe}
 use native.Mathlib.Numerals.{add-one}
 use mathlib.Core.Bool.{Bool, true, false, cond}
-use mathlib.Core.List.{List, [], _∷_}
+use mathlib.Core.List.{List, [], _∷_, _++_}
 use lib.ListN.{length, getD}
 use Rattle.pciv_bytes.specs.Ranges.{firstFrom, firstBelow, table}
 
@@ -131,3 +132,19 @@ module _ {A : Type 0} where
   pub table-done : (f : ℕ → A) (n i : ℕ) → n ≤ i → table f i (n - i) ≡ []
   unfolding table
   table-done f n i h = let e : n - i ≡ 0 = omega arith in rw e
+
+  -- the same elements, from another place on
+  pub table-shift : (f g : ℕ → A) (i t c : ℕ) → ((j : ℕ) → j < c → f (i + j) ≡ g (t + j)) → table f i c ≡ table g t c
+  unfolding table
+  table-shift f g i t zero same = refl
+  table-shift f g i t (suc c) same =
+      ap₂ (λ (x : A) (l : List A). x ∷ l) (rw (add-zero i, add-zero t) at (same 0 (omega arith)))
+      (table-shift f g (suc i) (suc t) c (λ j h. ap f (omega arith) ∙ same (suc j) (omega arith) ∙ ap g (omega arith)))
+
+  pub table-append : (f : ℕ → A) (c i m : ℕ) → table f i (c + m) ≡ table f i c ++ table f (i + c) m
+  unfolding table
+  table-append f zero i m = rw (zero-add m, add-zero i)
+  table-append f (suc c) i m =
+      let e : suc c + m ≡ suc (c + m) = omega arith in
+      let g : i + suc c ≡ suc i + c = omega arith in
+      rw (e, g) (ap (λ (l : List A). f i ∷ l) (table-append f c (suc i) m))

@@ -11,7 +11,7 @@ use lib.ListN.{length, getD, take, drop, set, replicate, drop-of-length-le, leng
 use lib.Seq.{sets, length-sets, drop-at, sets-eq, length-take-le, take-set-le, drop-cons, getD-append-add, set-getD, set-set, set-comm, set-append-left, getD-set-other}
 use Rattle.pciv_bytes.specs.LittleEndian.{le}
 use Rattle.pciv_bytes.specs.Ranges.{table}
-use Rattle.pciv_bytes.proofs.RangesLaws.{table-rest, table-done}
+use Rattle.pciv_bytes.proofs.RangesLaws.{length-table, table-rest, table-done, table-append}
 
 module _ {A : Type 0} where
   pub sets-append : (a b d : List A) (i : ℕ) → sets d i (a ++ b) ≡ sets (sets d i a) (i + length a) b
@@ -129,6 +129,17 @@ module _ {A : Type 0} where
 
   pub sets-table-end : (f : ℕ → A) (at n i : ℕ) (d : List A) → n ≤ i → sets d (at + i) (table f i (n - i)) ≡ d
   sets-table-end f at n i d h = ap (sets d (at + i)) (table-done f n i h)
+
+  -- c elements of what is left of a table
+  pub sets-table-part : (f : ℕ → A) (at n i c : ℕ) (d : List A) → i + c ≤ n
+      → sets d (at + i) (table f i (n - i)) ≡ sets (sets d (at + i) (table f i c)) (at + (i + c)) (table f (i + c) (n - (i + c)))
+  sets-table-part f at n i c d h =
+      let e : n - i ≡ c + (n - (i + c)) = omega arith in
+      let g : at + i + c ≡ at + (i + c) = omega arith in
+      rw e
+      (ap (sets d (at + i)) (table-append f c i (n - (i + c)))
+      ∙ sets-append (table f i c) (table f (i + c) (n - (i + c))) d (at + i)
+      ∙ rw (length-table f i c, g))
 
   -- ---- a copy of s; i elements are written, and j is the place of the next
 

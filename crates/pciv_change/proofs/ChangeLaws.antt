@@ -13,17 +13,42 @@ use lib.Signed.{mag}
 use Rattle.pciv_bytes.specs.Ranges.{table}
 use Rattle.pciv_bytes.specs.LittleEndian.{Bytes}
 use Rattle.pciv_bytes.specs.Counts.{byteAt}
-use Rattle.pciv_bytes.proofs.RangesLaws.{length-table, getD-table, table-cong}
-use Rattle.pciv_bytes.proofs.WriteLaws.{sets-front}
+use Rattle.pciv_bytes.proofs.RangesLaws.{length-table, getD-table, table-cong, table-shift}
+use Rattle.pciv_bytes.proofs.WriteLaws.{sets-front, getD-sets, sets-table-part}
 use Rattle.pciv_format.specs.Parts.{Parts, lowestSlot, valueOf, SoundParts}
 use Rattle.pciv_format.specs.Check.{fileParts, CheckedMap}
 use Rattle.pciv_format.proofs.PartsLaws.{entry-good}
 use Rattle.pciv_map.proofs.MapLaws.{primaryOf, primary-length, primary-at, value-lt}
 use Rattle.pciv_map.proofs.PatchLaws.{over, over-start, over-at, over-more, over-end}
-use Rattle.pciv_change.specs.Change.{differenceAt, movedBy, movedAt, movedFrom, SmallFrom}
+use Rattle.pciv_change.specs.Change.{differenceAt, raisedAt, loweredAt, movedBy, movedAt, movedFrom, SmallFrom}
 use Rattle.pciv_change.specs.declared.Side.{Side}
 use Rattle.pciv_change.specs.declared.Side.the-variants.{Subtracted, Reduced}
-use Rattle.pciv_change.proofs.SignedLaws.{mag-sub, sub-sub, sub-add}
+use Rattle.pciv_change.proofs.SignedLaws.{mag-sub, sub-sub, sub-add, lowered-raised}
+
+-- ---- differences of bytes
+
+module _ (a b : List ℕ) (bytes : Bytes a) where
+  -- c of them, raised in a list t of their own
+  part-lowered : (t : List ℕ) (i c : ℕ) → c ≤ length t
+      → table (loweredAt (sets t 0 (table (raisedAt (byteAt a) (byteAt b) i) 0 c))) 0 c ≡ table (differenceAt (byteAt a) (byteAt b)) i c
+  part-lowered t i c room =
+      let g : ℕ → ℕ = raisedAt (byteAt a) (byteAt b) i in
+      table-shift _ (differenceAt (byteAt a) (byteAt b)) 0 i c
+      (λ j h.
+      ap (λ (r : ℕ). pos r -ℤ pos 255)
+      (getD-sets (table g 0 c) t 0 0 j (rw length-table h) (rw (length-table, zero-add) room)
+      ∙ getD-table g 0 0 c j h
+      ∙ ap g (zero-add j))
+      ∙ lowered-raised (byteAt a (i + j)) (byteAt b (i + j)) (bytes (i + j)))
+
+  -- and written where they belong
+  pub bytes-more : (n : ℕ) (out : List ℤ) (t : List ℕ) (i c : ℕ) → c ≤ length t → i + c ≤ n
+      → sets out i (table (differenceAt (byteAt a) (byteAt b)) i (n - i))
+      ≡ sets (sets out i (table (loweredAt (sets t 0 (table (raisedAt (byteAt a) (byteAt b) i) 0 c))) 0 c)) (i + c)
+      (table (differenceAt (byteAt a) (byteAt b)) (i + c) (n - (i + c)))
+  bytes-more n out t i c room inside =
+      rw (part-lowered t i c room)
+      (rw (zero-add i, zero-add (i + c)) at (sets-table-part (differenceAt (byteAt a) (byteAt b)) 0 n i c out inside))
 
 -- ---- remaining work
 

@@ -4,7 +4,7 @@ use mathlib.Core.Path.{_≡_, sym, ap, _∙_}
 use Prim.Native.Nat.{ℕ, zero, suc, _+_, _-_, _^_, _≤_, _<_}
 use native.Mathlib.Omega.{arith}
 use mathlib.Core.Bool.{Bool, true, false, cond}
-use lib.IntN.{ℤ, pos, negsuc, negℤ, _+ℤ_, _-ℤ_, +ℤ-assoc, +ℤ-comm, negℤ-+ℤ}
+use lib.IntN.{ℤ, pos, negsuc, negℤ, _+ℤ_, _-ℤ_, +ℤ-assoc, +ℤ-comm, +ℤ-negℤ-cancel, negℤ-+ℤ}
 use lib.Dec.{ltb}
 use lib.Signed.{mag}
 
@@ -36,3 +36,15 @@ sub-add x y w =
     +ℤ-assoc (pos x) w (pos y)
     ∙ ap (λ (u : ℤ). pos x +ℤ u) (+ℤ-comm w (pos y))
     ∙ sym (+ℤ-assoc (pos x) (pos y) w)
+
+-- 255 more, and 255 less again
+pub lowered-raised : (x y : ℕ) → x < 256 → pos (255 + y - x) -ℤ pos 255 ≡ pos y -ℤ pos x
+lowered-raised x y h =
+    let d : ℕ = 255 - x in
+    let e : 255 + y - x ≡ y + d = omega arith in
+    let g : 255 ≡ x + d = omega arith in
+    ap (λ (t : ℕ). pos t -ℤ pos 255) e
+    ∙ ap (λ (t : ℕ). pos (y + d) -ℤ pos t) g
+    ∙ sym (sub-sub (pos (y + d)) x d)
+    ∙ ap (λ (z : ℤ). z -ℤ pos d) (sym (sub-add y d (negℤ (pos x))))
+    ∙ +ℤ-negℤ-cancel (pos y -ℤ pos x) (pos d)

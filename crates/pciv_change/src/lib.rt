@@ -2,7 +2,7 @@
 // One pass over both primary arrays gives the difference of the bytes; then what each distance in overflow has
 // above its byte 255 is put right, entry by entry, in one map and in the other.
 ghost use mathlib.Core.Path.{_≡_};
-ghost use Prim.Native.Nat.{_^_, _≤_, _<_};
+ghost use Prim.Native.Nat.{_+_, _-_, _^_, _≤_, _<_};
 ghost use lib.IntN.{pos, _-ℤ_};
 ghost use lib.ListN.{length};
 ghost use lib.Signed.{mag};
@@ -14,7 +14,7 @@ ghost use Rattle.pciv_format.specs.Parts.{valueOf};
 ghost use Rattle.pciv_format.specs.Check.{fileParts, CheckedMap};
 ghost use Rattle.pciv_format.specs.Arith.{signedDifferenceOutcome, signedDifferenceList};
 ghost use Rattle.pciv_check.specs.Pair.{CheckedPair};
-ghost use Rattle.pciv_change.specs.Change.{differenceAt, movedBy, movedFrom, SmallFrom};
+ghost use Rattle.pciv_change.specs.Change.{differenceAt, raisedAt, loweredAt, movedBy, movedFrom, SmallFrom};
 use pciv_check::pair::PairAnswer;
 use pciv_check::pair::check_pair;
 use pciv_format::BUFFER_TOO_SMALL;
@@ -31,11 +31,55 @@ enum Side {
     Reduced,
 }
 
-// y - x of two bytes.
-fn byte_difference(x: u8, y: u8) -> i64
-    ensures { λ r. ⌜ r ≡ pos y -ℤ pos x ⌝ }
+// How many differences of bytes are made at once: a list of them stays in the fastest memory.
+const PART: usize = 1024;
+
+// How many of the differences that are left are made next.
+fn part_len(left: usize) -> usize
+    ensures { λ r. ⌜ (r ≤ left) × (r ≤ 1024) × (0 < left → 0 < r) ⌝ }
 {
-    (y as i64) - (x as i64)
+    if left < PART {
+        return left;
+    }
+    PART
+}
+
+// 255 more than y - x of two bytes, which needs no sign.
+fn raised_difference(x: u8, y: u8) -> u16
+    ensures { λ r. ⌜ r ≡ 255 + y - x ⌝ }
+{
+    255 + (y as u16) - (x as u16)
+}
+
+// The raised differences of `count` bytes of a and b from `from` on, to the front of out.
+fn raised_differences(out: &mut [u16], a: &[u8], b: &[u8], from: usize, count: usize)
+    requires { ⌜ (count ≤ length (now out)) × (from + count ≤ length (now a)) × (from + count ≤ length (now b)) ⌝ }
+    ensures { λ _. ⌜ now (out .exit) ≡ sets (now (out .entry)) 0 (table (raisedAt (byteAt (now (a .entry))) (byteAt (now (b .entry))) from) 0 count) ⌝ }
+{
+    let mut i = 0;
+    while i < count {
+        out[i] = raised_difference(a[from + i], b[from + i]);
+        i += 1;
+    }
+}
+
+// The difference that is 255 less.
+fn lowered(raised: u16) -> i64
+    ensures { λ r. ⌜ r ≡ pos raised -ℤ pos 255 ⌝ }
+{
+    (raised as i64) - (SENTINEL as i64)
+}
+
+// The differences of the first `count` raised ones, to out from `at` on.
+fn lower(out: &mut [i64], raised: &[u16], at: usize, count: usize)
+    requires { ⌜ (count ≤ length (now raised)) × (at + count ≤ length (now out)) ⌝ }
+    ensures { λ _. ⌜ now (out .exit) ≡ sets (now (out .entry)) at (table (loweredAt (now (raised .entry))) 0 count) ⌝ }
+{
+    let mut i = 0;
+    while i < count {
+        out[at + i] = lowered(raised[i]);
+        i += 1;
+    }
 }
 
 // y - x of every byte x of a and y of b, to the front of out.
@@ -43,10 +87,13 @@ fn byte_differences(a: &[u8], b: &[u8], out: &mut [i64])
     requires { ⌜ (length (now a) ≡ length (now b)) × (length (now a) ≤ length (now out)) ⌝ }
     ensures { λ _. ⌜ now (out .exit) ≡ sets (now (out .entry)) 0 (table (differenceAt (byteAt (now (a .entry))) (byteAt (now (b .entry)))) 0 (length (now (a .entry)))) ⌝ }
 {
+    let mut raised = [0u16; PART];
     let mut i = 0;
     while i < a.len() {
-        out[i] = byte_difference(a[i], b[i]);
-        i += 1;
+        let count = part_len(a.len() - i);
+        raised_differences(&mut raised, a, b, i, count);
+        lower(out, &raised, i, count);
+        i += count;
     }
 }
 

@@ -1,21 +1,18 @@
 -- Laws of rows and bits: eight bits at once, and a mask's bits as bytes.
---   table-shift, sets-table-part    the same table from another place on; a part of a table, written at once
 --   bitRows-at, bitsRow-table       a row of the table, byte by byte
 --   bit-of-word, row-of-word        one bit of a word is one slot, a row eight slots
 --   primary-bits                    bits are primary bytes
 --   count-none, part-none, index-none    a map below 255 has no overflow entry, and its file no index
 -- Axioms: none.
-use mathlib.Core.Path.{_≡_, refl, sym, ap, ap₂, _∙_}
-use Prim.Native.Nat.{ℕ, zero, suc, _+_, _-_, _*_, _/_, _%_, _^_, _≤_, _<_}
-use native.Mathlib.Nat.{zero-add, add-zero}
+use mathlib.Core.Path.{_≡_, refl, sym, ap, _∙_}
+use Prim.Native.Nat.{ℕ, _+_, _*_, _/_, _%_, _^_, _≤_, _<_}
+use native.Mathlib.Nat.{zero-add}
 use native.Mathlib.Omega.{arith}
-use mathlib.Core.List.{List, [], _∷_, _++_}
+use mathlib.Core.List.{List, []}
 use lib.ListN.{length, getD}
-use lib.Seq.{sets}
 use Rattle.pciv_bytes.specs.Ranges.{table, joined}
-use Rattle.pciv_bytes.proofs.RangesLaws.{length-table, getD-table, table-cong}
+use Rattle.pciv_bytes.proofs.RangesLaws.{getD-table, table-cong, table-shift}
 use Rattle.pciv_bytes.proofs.SumLaws.{flag-le}
-use Rattle.pciv_bytes.proofs.WriteLaws.{sets-append}
 use Rattle.pciv_format.specs.Layout.{primaryByte, primary, overflowCount, overflowSlots, overflowPart}
 use Rattle.pciv_format.specs.Mask.{bitAt, bitsRow, maskHas, maskValue}
 use Rattle.pciv_format.proofs.PartsLaws.{primaryByte-inline}
@@ -25,36 +22,6 @@ use Rattle.pciv_build.proofs.EntriesLaws.{slotsFrom-start, slotsFrom-gap, slots
 use Rattle.pciv_words.proofs.BitLaws.{bitAt-shr, bitAt-mod}
 use Rattle.pciv_words.proofs.MaskLaws.{flag-maskHas}
 use Rattle.pciv_masked.specs.Rows.{bitRows}
-
--- ---- tables
-
-module _ {A : Type 0} where
-  -- the same elements, from another place on
-  pub table-shift : (f g : ℕ → A) (i t c : ℕ) → ((j : ℕ) → j < c → f (i + j) ≡ g (t + j)) → table f i c ≡ table g t c
-  unfolding table
-  table-shift f g i t zero same = refl
-  table-shift f g i t (suc c) same =
-      ap₂ (λ (x : A) (l : List A). x ∷ l) (rw (add-zero i, add-zero t) at (same 0 (omega arith)))
-      (table-shift f g (suc i) (suc t) c (λ j h. ap f (omega arith) ∙ same (suc j) (omega arith) ∙ ap g (omega arith)))
-
-  table-append : (f : ℕ → A) (c i m : ℕ) → table f i (c + m) ≡ table f i c ++ table f (i + c) m
-  unfolding table
-  table-append f zero i m = rw (zero-add m, add-zero i)
-  table-append f (suc c) i m =
-      let e : suc c + m ≡ suc (c + m) = omega arith in
-      let g : i + suc c ≡ suc i + c = omega arith in
-      rw (e, g) (ap (λ (l : List A). f i ∷ l) (table-append f c (suc i) m))
-
-  -- c elements of what is left of a table
-  pub sets-table-part : (f : ℕ → A) (at n i c : ℕ) (d : List A) → i + c ≤ n
-      → sets d (at + i) (table f i (n - i)) ≡ sets (sets d (at + i) (table f i c)) (at + (i + c)) (table f (i + c) (n - (i + c)))
-  sets-table-part f at n i c d h =
-      let e : n - i ≡ c + (n - (i + c)) = omega arith in
-      let g : at + i + c ≡ at + (i + c) = omega arith in
-      rw e
-      (ap (sets d (at + i)) (table-append f c i (n - (i + c)))
-      ∙ sets-append (table f i c) (table f (i + c) (n - (i + c))) d (at + i)
-      ∙ rw (length-table f i c, g))
 
 -- ---- rows
 

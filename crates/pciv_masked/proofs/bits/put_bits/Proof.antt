@@ -7,9 +7,9 @@ use mathlib.Core.List.{List}
 use lib.ListN.{length, length-set}
 use lib.Seq.{sets, length-sets}
 use Rattle.pciv_bytes.specs.Ranges.{table}
-use Rattle.pciv_bytes.proofs.WriteLaws.{sets-table-start, sets-table-more, sets-table-end}
+use Rattle.pciv_bytes.proofs.WriteLaws.{sets-table-start, sets-table-more, sets-table-end, sets-table-part}
 use Rattle.pciv_format.specs.Mask.{bitsRow, maskValue}
-use Rattle.pciv_masked.proofs.RowLaws.{row-of-word, sets-table-part}
+use Rattle.pciv_masked.proofs.RowLaws.{row-of-word}
 use borrow.Author.Needs.{needs}
 use Rattle.pciv_masked.proofs.bits.put_bits.Statement.{statement}
 use Rattle.pciv_masked.proofs.bits.put_bits.Tie as tie
