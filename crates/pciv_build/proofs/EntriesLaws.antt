@@ -4,6 +4,7 @@
 --   -start, -more, -skip, -gap, -end
 --                  before the first slot; past a slot in overflow; past one that is not; past all slots up
 --                  to s, none of which is in overflow; after the last slot
+--   entries-over   where an entry is left, something else is written in its place first
 --   entries-done   where no slot in overflow is left;  rest-before  what stands before the entries stays as it was
 use mathlib.Core.Path.{_≡_, refl, sym, ap, _∙_}
 use Prim.Native.Nat.{ℕ, zero, suc, _+_, _-_, _*_, _≤_, _<_}
@@ -12,12 +13,14 @@ use native.Mathlib.Numerals.{add-one}
 use native.Mathlib.Omega.{arith}
 use mathlib.Core.Bool.{Bool, true, false}
 use mathlib.Core.List.{List, [], _∷_, _++_}
-use lib.ListN.{length, getD}
+use lib.ListN.{length, getD, length-append}
 use lib.Seq.{sets, length-sets}
 use borrow.Author.Tests.{le-leb, lt-leb}
 use Rattle.pciv_bytes.specs.Ranges.{flag, positions, joined, sumFrom, keepIf}
 use Rattle.pciv_bytes.specs.LittleEndian.{le}
-use Rattle.pciv_bytes.proofs.WriteLaws.{sets-append, getD-sets-below}
+use Rattle.pciv_bytes.proofs.JoinedLaws.{length-joined}
+use Rattle.pciv_bytes.proofs.LittleEndianLaws.{length-le}
+use Rattle.pciv_bytes.proofs.WriteLaws.{sets-append, getD-sets-below, sets-over}
 use Rattle.pciv_format.specs.Layout.{inOverflow, overflowSlots, overflowCount, overflowEntry, overflowPart}
 use Rattle.pciv_format.proofs.LayoutLaws.{length-overflowEntry}
 unfoldable pub use Rattle.pciv_build.specs.Entries.{slotsFrom, entriesFrom}
@@ -84,6 +87,10 @@ entriesFrom-none : (n : ℕ) (v : ℕ → ℕ) (i : ℕ) → length (slotsFrom n
 unfolding entriesFrom
 entriesFrom-none n v i none = no-entries v (slotsFrom n v i) none
 
+length-entriesFrom : (n : ℕ) (v : ℕ → ℕ) (i : ℕ) → length (entriesFrom n v i) ≡ 12 * length (slotsFrom n v i)
+unfolding entriesFrom
+length-entriesFrom n v i = length-joined (overflowEntry v) 12 (length-overflowEntry v) (slotsFrom n v i)
+
 overflowEntry-is : (v : ℕ → ℕ) (s : ℕ) → overflowEntry v s ≡ le 8 s ++ le 4 (v s)
 unfolding overflowEntry
 overflowEntry-is v s = refl
@@ -148,6 +155,22 @@ module _ {n : ℕ} {v : ℕ → ℕ} {d₀ : List ℕ} {p₀ i : ℕ} {d : List 
   entries-skip h inline =
       entries-gap (i + 1) (omega arith) (omega arith)
       (λ j h₁ h₂. (let same : i ≡ j = omega arith in rw same at inline))
+
+  -- an entry is left, and what is written in its place is written over
+  pub entries-over : (slot x : ℕ) (d' : List ℕ) → 0 < length (slotsFrom n v i) → d' ≡ sets d p (le 8 slot ++ le 4 x)
+      → EntriesLeft n v d₀ p₀ i d' p
+  entries-over slot x d' some put =
+      let g : List ℕ = le 8 slot ++ le 4 x in
+      let long : length d' ≡ length d = ap length put ∙ length-sets d p g in
+      let short : length g ≡ 12 = simp (length-append, length-le) in
+      record {
+        inside = e .inside;
+        size = long ∙ e .size;
+        low = e .low;
+        count = e .count;
+        room = omega (arith, e .room);
+        rest = e .rest ∙ sym (rw put (sets-over g (entriesFrom n v i) d p (omega (arith, length-entriesFrom n v i))));
+      }
 
 -- no slot in overflow is left
 pub entries-done : {n : ℕ} {v : ℕ → ℕ} {d₀ : List ℕ} {p₀ i : ℕ} {d : List ℕ} {p : ℕ} → EntriesLeft n v d₀ p₀ i d p

@@ -1,34 +1,32 @@
 -- The primary bytes of the result.
 --   mask-room            the words of a mask have all of its slots
 --   masked-byte-is       what a bit makes of a primary byte is the primary byte of what it makes of the distance
---   masked-primary       the bits, and then what each makes of the map's byte, are the primary bytes
+--   maskedSlot op b ws i     what becomes of the primary byte of slot i in the file b
+--   word-of-slots, masked-primary    64 slots are a word; all slots are the primary bytes
 -- Axioms: none.
 use mathlib.Core.Path.{_≡_, refl, sym, ap, ap₂, _∙_}
-use Prim.Native.Nat.{ℕ, _+_, _*_, _≤_, _<_}
+use Prim.Native.Nat.{ℕ, _+_, _*_, _/_, _%_, _≤_}
 use native.Mathlib.Nat.{zero-add}
 use native.Mathlib.Omega.{arith}
 use mathlib.Core.Bool.{Bool, true, false}
 use mathlib.Core.List.{List}
-use lib.ListN.{length}
-use lib.Seq.{sets}
+use lib.ListN.{length, getD}
 use Rattle.pciv_bytes.specs.Ranges.{flag, table}
 use Rattle.pciv_bytes.specs.LittleEndian.{Bytes}
 use Rattle.pciv_bytes.specs.Counts.{byteAt}
-use Rattle.pciv_bytes.proofs.RangesLaws.{length-table, getD-table, table-cong}
+use Rattle.pciv_bytes.proofs.RangesLaws.{table-cong, table-shift}
 use Rattle.pciv_bytes.proofs.SumLaws.{flag-le}
-use Rattle.pciv_bytes.proofs.WriteLaws.{sets-at, sets-again}
 use Rattle.pciv_format.specs.Layout.{primaryByte, primary}
 use Rattle.pciv_format.specs.Parts.{Parts, valueOf}
 use Rattle.pciv_format.specs.Check.{fileParts, CheckedMap}
-use Rattle.pciv_format.specs.Mask.{maskHas, maskValue}
+use Rattle.pciv_format.specs.Mask.{bitAt, maskHas, maskValue}
 use Rattle.pciv_format.proofs.PartsLaws.{primaryByte-valueOf}
-use Rattle.pciv_format.proofs.LayoutLaws.{length-primary}
-use Rattle.pciv_map.proofs.MapLaws.{primaryOf, primary-length, primary-at}
 use Rattle.pciv_addition.proofs.BytesLaws.{primaryByte-min}
 use Rattle.pciv_words.specs.Words.{IsMask}
-use Rattle.pciv_masked.specs.Masked.{maskedOf, maskedAt, maskedByte}
+use Rattle.pciv_masked.specs.Masked.{maskedOf, maskedAt, maskedByte, maskedWord}
 use Rattle.pciv_masked.specs.declared.bytes.MaskedOp.{MaskedOp}
 use Rattle.pciv_masked.specs.declared.bytes.MaskedOp.the-variants.{Keep, Increment}
+use Rattle.pciv_masked.proofs.RowLaws.{slot-bit}
 
 pub mask-room : {n : ℕ} {ws : List ℕ} → IsMask n ws → n ≤ 64 * length ws
 mask-room m = omega (arith, m .count)
@@ -38,39 +36,24 @@ masked-byte-is Keep true x = refl
 masked-byte-is Keep false x = refl
 masked-byte-is Increment b x = omega (arith, primaryByte-min x, primaryByte-min (x + flag b), flag-le b)
 
-module _ (op : MaskedOp) (b : List ℕ) (n k : ℕ) (c : CheckedMap b n k) (bytes : Bytes b) (ws : List ℕ) where
-  abbrev v : ℕ → ℕ
-  v = maskedAt op (fileParts b n k) ws
+module _ (op : MaskedOp) (b ws : List ℕ) where
+  -- what becomes of the primary byte of slot i
+  abbrev pub maskedSlot : ℕ → ℕ
+  maskedSlot i = maskedByte op (maskValue ws i) (byteAt b (40 + i))
 
-  abbrev bits : List ℕ
-  bits = table (maskValue ws) 0 n
+  pub word-of-slots : (i : ℕ) → i % 64 ≡ 0 → table (maskedWord op b i (getD ws (i / 64) 0)) 0 64 ≡ table maskedSlot i 64
+  word-of-slots i whole =
+      let x : ℕ = getD ws (i / 64) 0 in
+      table-shift (maskedWord op b i x) maskedSlot 0 i 64
+      (λ t h.
+      (let e : 40 + i + (0 + t) ≡ 40 + (i + t) = omega arith in
+      ap₂ (maskedByte op) (ap (bitAt x) (zero-add t) ∙ slot-bit ws i t whole h) (ap (byteAt b) e)))
 
-  -- d are the bytes with the bits in their place
-  abbrev byteFrom : List ℕ → ℕ → ℕ
-  byteFrom d i = maskedByte op (byteAt d (40 + i)) (byteAt (primaryOf b n) i)
-
-  byte-is : (d d₁ : List ℕ) → 40 + n ≤ length d → d₁ ≡ sets d 40 bits → (i : ℕ) → i < n → byteFrom d₁ i ≡ primaryByte (v i)
-  byte-is d d₁ room is i h =
-      let P : Parts = fileParts b n k in
-      let l : length bits ≡ n = length-table (maskValue ws) 0 n in
-      let bit : byteAt d₁ (40 + i) ≡ maskValue ws i =
-      ap (λ (e : List ℕ). byteAt e (40 + i)) is
-      ∙ sets-at d bits 40 i 0 (rw l room) (rw l h)
-      ∙ getD-table (maskValue ws) 0 0 n i h
-      ∙ ap (maskValue ws) (zero-add i) in
-      let byte : byteAt (primaryOf b n) i ≡ primaryByte (valueOf P i) =
-      primary-at b n k c i h ∙ sym (primaryByte-valueOf P (c .parts) (λ t. bytes (40 + t)) i h) in
-      ap₂ (maskedByte op) bit byte ∙ masked-byte-is op (maskHas ws i) (valueOf P i)
-
-  pub masked-primary : (d d₁ d₂ : List ℕ) → 40 + n ≤ length d → d₁ ≡ sets d 40 (table (maskValue ws) 0 n)
-      → d₂ ≡ sets d₁ 40 (table (λ (i : ℕ). maskedByte op (byteAt d₁ (40 + i)) (byteAt (primaryOf b n) i)) 0 (length (primaryOf b n)))
-      → d₂ ≡ sets d 40 (primary n (maskedAt op (fileParts b n k) ws))
+  pub masked-primary : (n k : ℕ) → CheckedMap b n k → Bytes b → table maskedSlot 0 n ≡ primary n (maskedAt op (fileParts b n k) ws)
   unfolding primary
-  masked-primary d d₁ d₂ room is put =
-      let l : length bits ≡ n = length-table (maskValue ws) 0 n in
-      let same : table (byteFrom d₁) 0 n ≡ primary n v =
-      table-cong (byteFrom d₁) (λ (i : ℕ). primaryByte (v i)) 0 n (λ i h. byte-is d d₁ room is i (omega arith)) in
-      put
-      ∙ ap (λ (m : ℕ). sets d₁ 40 (table (byteFrom d₁) 0 m)) (primary-length b n k c)
-      ∙ ap₂ (λ (e l : List ℕ). sets e 40 l) is same
-      ∙ sets-again d bits (primary n v) 40 (l ∙ sym (length-primary n v)) (rw l room)
+  masked-primary n k c bytes =
+      let P : Parts = fileParts b n k in
+      table-cong maskedSlot (λ (i : ℕ). primaryByte (maskedAt op P ws i)) 0 n
+      (λ i h.
+      ap (maskedByte op (maskValue ws i)) (sym (primaryByte-valueOf P (c .parts) (λ t. bytes (40 + t)) i (omega arith)))
+      ∙ masked-byte-is op (maskHas ws i) (valueOf P i))

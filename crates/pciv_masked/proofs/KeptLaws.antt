@@ -1,13 +1,14 @@
 -- A map kept where a mask is 1, along its overflow entries (the walk's laws are in pciv_merge, proofs/LedLaws.antt).
 --   kept-counted, -all     one entry on, in a walk that counts those that are kept; after the last
 --   kept-small             no distance of the result is too large
---   kept-room, -put, -skip, -written
---                          the same in a walk that writes them
+--   kept-room, -here, -more, -written
+--                          the same in a walk that writes them: there is room and an entry, one entry on, and after the last
 -- Axioms: none.
 use mathlib.Core.Path.{_≡_, refl, sym, ap, _∙_}
-use Prim.Native.Nat.{ℕ, _+_, _≤_, _<_}
+use Prim.Native.Nat.{ℕ, _+_, _*_, _≤_, _<_}
 use native.Mathlib.Nat.{add-zero}
 use native.Mathlib.Omega.{arith}
+use native.Mathlib.Decide.{decLe}
 use mathlib.Core.Bool.{Bool, true, false}
 use mathlib.Core.List.{List, _++_}
 use lib.ListN.{length}
@@ -22,9 +23,9 @@ use Rattle.pciv_format.specs.Parts.{Parts, lowestSlot, valueOf, SoundParts}
 use Rattle.pciv_format.specs.Check.{fileParts, CheckedMap}
 use Rattle.pciv_format.specs.Mask.{maskHas, maskValue, keptIf}
 use Rattle.pciv_format.proofs.PartsLaws.{entry-good, valueOf-slot, valueOf-inline}
-use Rattle.pciv_build.proofs.EntriesLaws.{EntriesLeft, Counted}
+use Rattle.pciv_build.proofs.EntriesLaws.{EntriesLeft, Counted, slotsFrom-end, count-slotsFrom, entries-over, entries-done}
 use Rattle.pciv_map.proofs.MapLaws.{value-lt}
-use Rattle.pciv_merge.proofs.LedLaws.{counted-entry, counted-pass, counted-last, entries-fit, entries-entry, entries-pass, entries-last}
+use Rattle.pciv_merge.proofs.LedLaws.{counted-entry, counted-pass, counted-last, entries-entry, entries-pass, entries-past}
 use Rattle.pciv_masked.specs.Masked.{maskedAt}
 use Rattle.pciv_masked.specs.declared.bytes.MaskedOp.the-variants.{Keep}
 
@@ -67,26 +68,56 @@ module _ (P : Parts) (s : SoundParts P) (bytes : (i : ℕ) → P .byte i < 256) 
         go false q = rw (q, add-zero c) (counted-pass P s bytes v led j here e (inline (omega (arith, ap flag q))))
 
     module _ {d₀ : List ℕ} {p₀ : ℕ} {d : List ℕ} {p : ℕ} (e : EntriesLeft (P .n) (maskedAt Keep P ws) d₀ p₀ (lowestSlot P j) d p) where
-      pub kept-room : 0 < maskValue ws (P .slot j) → p + 12 ≤ length d
-      kept-room on = entries-fit P s bytes v led j here e (far on)
-
-      pub kept-put : 0 < maskValue ws (P .slot j) → (slot x : ℕ) (d' : List ℕ) (p' : ℕ) → slot ≡ P .slot j → x ≡ P .distance j
+      kept-put : 0 < maskValue ws (P .slot j) → (slot x : ℕ) (d' : List ℕ) (p' : ℕ) → slot ≡ P .slot j → x ≡ P .distance j
           → d' ≡ sets d p (le 8 slot ++ le 4 x) → p' ≡ p + 12
-          → EntriesLeft (P .n) (maskedAt Keep P ws) d₀ p₀ (lowestSlot P (j + 1)) d' p'
+          → EntriesLeft (P .n) v d₀ p₀ (lowestSlot P (j + 1)) d' p'
       kept-put on slot x d' p' at is put next =
           entries-entry P s bytes v led j here e (far on) slot x d' p' at (is ∙ sym (value-set on)) put next
 
-      pub kept-skip : maskValue ws (P .slot j) ≤ 0 → EntriesLeft (P .n) (maskedAt Keep P ws) d₀ p₀ (lowestSlot P (j + 1)) d p
-      kept-skip off = entries-pass P s bytes v led j here e (inline off)
+      -- what is written for an entry that is not kept is written over
+      kept-over : maskValue ws (P .slot j) ≤ 0 → p < p₀ + 12 * overflowCount (P .n) v → (slot x : ℕ) (d' : List ℕ)
+          → d' ≡ sets d p (le 8 slot ++ le 4 x) → EntriesLeft (P .n) v d₀ p₀ (lowestSlot P (j + 1)) d' p
+      kept-over off more slot x d' put =
+          let passed = entries-pass P s bytes v led j here e (inline off) in
+          entries-over passed slot x d' (omega (arith, passed .count, count-slotsFrom (P .n) v)) put
+
+      pub kept-more : p < p₀ + 12 * overflowCount (P .n) (maskedAt Keep P ws) → (slot x bit : ℕ) (d' : List ℕ) → slot ≡ P .slot j
+          → x ≡ P .distance j → bit ≡ maskValue ws slot → d' ≡ sets d p (le 8 slot ++ le 4 x)
+          → EntriesLeft (P .n) (maskedAt Keep P ws) d₀ p₀ (lowestSlot P (j + 1)) d' (p + 12 * flag (ltb 0 bit))
+      kept-more more slot x bit d' at is set put = go (maskHas ws (P .slot j)) refl
+        where
+          go : (b : Bool) → maskHas ws (P .slot j) ≡ b → EntriesLeft (P .n) v d₀ p₀ (lowestSlot P (j + 1)) d' (p + 12 * flag (ltb 0 bit))
+          go true q =
+              let on : bit ≡ 1 = set ∙ rw (at, q) in
+              rw on (kept-put (omega (arith, ap flag q)) slot x d' (p + 12) at is put (omega arith))
+          go false q =
+              let off : bit ≡ 0 = set ∙ rw (at, q) in
+              rw (off, add-zero p) (kept-over (omega (arith, ap flag q)) more slot x d' put)
+
+  -- an entry is left
+  module _ {j : ℕ} (inside : j ≤ P .k) {d₀ : List ℕ} {p₀ : ℕ} {d : List ℕ} {p : ℕ}
+      (e : EntriesLeft (P .n) (maskedAt Keep P ws) d₀ p₀ (lowestSlot P j) d p)
+      (more : p < p₀ + 12 * overflowCount (P .n) (maskedAt Keep P ws)) where
+    pub kept-room : p + 12 ≤ length d
+    kept-room = omega (arith, e .count, e .room, more, count-slotsFrom (P .n) v)
+
+    pub kept-here : j < P .k
+    kept-here =
+        elim (decLe (P .k) j) [
+          | yes last ↦ (let past = entries-past P s bytes v led j inside last e in
+              absurd (omega (arith, past .count, ap length (slotsFrom-end (P .n) v (P .n) (omega arith)), count-slotsFrom (P .n) v)))
+          | no d ↦ omega arith
+        ]
 
   module _ {j : ℕ} (inside : j ≤ P .k) (last : P .k ≤ j) where
     pub kept-counted-all : {c : ℕ} → Counted (P .n) (maskedAt Keep P ws) (lowestSlot P j) c
         → c ≡ overflowCount (P .n) (maskedAt Keep P ws)
     kept-counted-all e = counted-last P s bytes v led j inside last e
 
-    pub kept-written : {d₀ : List ℕ} {p₀ : ℕ} {d : List ℕ} {p : ℕ} → EntriesLeft (P .n) (maskedAt Keep P ws) d₀ p₀ (lowestSlot P j) d p
-        → d ≡ sets d₀ p₀ (overflowPart (P .n) (maskedAt Keep P ws))
-    kept-written e = entries-last P s bytes v led j inside last e
+-- no entry is left
+pub kept-written : {n : ℕ} {v : ℕ → ℕ} {d₀ : List ℕ} {p₀ i : ℕ} {d : List ℕ} {p : ℕ} → EntriesLeft n v d₀ p₀ i d p
+    → p₀ + 12 * overflowCount n v ≤ p → d ≡ sets d₀ p₀ (overflowPart n v)
+kept-written {n} {v} e done = entries-done e (omega (arith, e .count, count-slotsFrom n v))
 
 -- no distance of the result is too large
 pub kept-small : (b : List ℕ) (n k : ℕ) → CheckedMap b n k → Bytes b → (ws : List ℕ)

@@ -3,8 +3,8 @@
 --   word-raised     what is picked in a word, as a part of a sum over all slots
 --   raised-le       at most one for each slot
 --   raised-count    the slots in overflow are the map's own and those that come to it
---   Raising         the walk that writes the entries: those of slots from `slot` on are left, the cursor is at `slot`,
---                   which is in overflow; -start, -more, -end
+--   Raising         the walk that writes the entries: those of slots from `from` on are left, and the cursor is there
+--   RaisingAt       and at the next slot in overflow; -start, -next, -more
 -- Axioms: none.
 use mathlib.Core.Path.{_≡_, refl, sym, ap, _∙_}
 use Prim.Native.Nat.{ℕ, zero, suc, _+_, _-_, _*_, _≤_, _<_}
@@ -17,26 +17,24 @@ use mathlib.Core.List.{List, _++_}
 use lib.ListN.{length, getD}
 use lib.Seq.{sets}
 use lib.Dec.{eqb, ltb}
-use borrow.Author.Tests.{le-leb, lt-leb, leb-true, leb-false, lt-ltb, le-ltb, eq-eqb, ne-eqb}
+use borrow.Author.Tests.{le-leb, lt-leb, lt-ltb, le-ltb, eq-eqb, ne-eqb}
 use Rattle.pciv_bytes.specs.Ranges.{flag, firstBelow, sumFrom}
-use Rattle.pciv_bytes.specs.LittleEndian.{Bytes, le}
+use Rattle.pciv_bytes.specs.LittleEndian.{Bytes, le, get}
 use Rattle.pciv_bytes.specs.Counts.{byteAt, byteIs}
-use Rattle.pciv_bytes.specs.Find.{Next}
 use Rattle.pciv_bytes.proofs.RangesLaws.{firstBelow-at, firstBelow-none}
 use Rattle.pciv_bytes.proofs.SumLaws.{flag-le, sumFrom-split, sumFrom-le}
-use Rattle.pciv_format.specs.Layout.{maxDistance, inOverflow, primaryByte, overflowCount, overflowPart}
+use Rattle.pciv_format.specs.Layout.{maxDistance, inOverflow, primaryByte, overflowCount}
 use Rattle.pciv_format.specs.Parts.{Parts, lowestSlot, valueOf, SoundParts}
 use Rattle.pciv_format.specs.Check.{fileParts, CheckedMap}
 use Rattle.pciv_format.specs.Mask.{maskHas, maskValue}
 use Rattle.pciv_format.proofs.PartsLaws.{entry-good, valueOf-slot, primaryByte-valueOf, overflowCount-is}
-use Rattle.pciv_build.proofs.EntriesLaws.{entriesFrom, EntriesLeft, entries-start, rest-before, entries-more, entries-gap, entries-end, overflowCount-sum}
+use Rattle.pciv_build.proofs.EntriesLaws.{overflowCount-sum}
+use Rattle.pciv_build.proofs.FillLaws.{Filling, Next, fill-next, fill-more}
 use Rattle.pciv_map.specs.Cursor.{Cursor, TakenAt}
 use Rattle.pciv_map.specs.declared.cursor.Taken.{Taken}
 use Rattle.pciv_map.proofs.EntryLaws.{gap-value, gap-inline}
 use Rattle.pciv_map.proofs.CursorLaws.{cursor-start, cursor-gap}
 use Rattle.pciv_map.proofs.MapLaws.{primaryOf, primary-at}
-use Rattle.pciv_build.specs.Slots.{HoldsPrimary}
-use Rattle.pciv_build.proofs.FillLaws.{full-is}
 use Rattle.pciv_addition.proofs.BytesLaws.{primaryByte-min}
 use Rattle.pciv_words.specs.Words.{IsMask}
 use Rattle.pciv_words.proofs.MaskLaws.{flag-maskHas}
@@ -178,50 +176,36 @@ module _ (b : List ℕ) (n k : ℕ) (c : CheckedMap b n k) (bytes : Bytes b) (ws
 
 -- ---- the overflow entries
 
--- the places of the primary bytes 255 of d
-abbrev fullIn : List ℕ → ℕ → Bool
-fullIn d i = eqb (byteAt d (40 + i)) 255
+pub record Raising (P : Parts) (ws d₀ d : List ℕ) (at j : ℕ) : Type 0 where
+  pub from : ℕ
+  pub fill : Filling (P .n) (maskedAt Increment P ws) d₀ from d at
+  pub cursor : Cursor P j from
 
-pub record Raising (P : Parts) (ws d₀ : List ℕ) (slot : ℕ) (d : List ℕ) (at j : ℕ) : Type 0 where
-  pub left : EntriesLeft (P .n) (maskedAt Increment P ws) d₀ (40 + P .n) slot d at
+pub record RaisingAt (P : Parts) (ws : List ℕ) (from : ℕ) (d : List ℕ) (at j slot : ℕ) : Type 0 where
+  pub next : Next (P .n) (maskedAt Increment P ws) from d at slot
   pub cursor : Cursor P j slot
-  pub full : slot < P .n → 255 ≤ maskedAt Increment P ws slot
 
-module _ (P : Parts) (s : SoundParts P) (bytes : (i : ℕ) → P .byte i < 256) (ws d₀ : List ℕ)
-    (holds : HoldsPrimary (P .n) (maskedAt Increment P ws) d₀) where
-  abbrev u : ℕ → ℕ
-  u = maskedAt Increment P ws
+module _ (P : Parts) (ws d₀ : List ℕ) where
+  pub raising-start : (d : List ℕ) → Filling (P .n) (maskedAt Increment P ws) d₀ 0 d (40 + P .n) → Raising P ws d₀ d (40 + P .n) 0
+  raising-start d fill = record { from = 0; fill = fill; cursor = cursor-start P }
 
-  -- from slot i on to the next primary byte 255
-  raising-to : (i slot : ℕ) (d : List ℕ) (at j : ℕ) → EntriesLeft (P .n) u d₀ (40 + P .n) i d at → Cursor P j i
-      → Next (fullIn d) i (P .n) slot → Raising P ws d₀ slot d at j
-  raising-to i slot d at j left cursor next =
-      let low : i ≤ slot = next .before .low in
-      let high : slot ≤ P .n = next .before .high in
-      let full-at : (t : ℕ) → t < P .n → fullIn d t ≡ inOverflow (u t) =
-      λ t h. ap (λ (x : ℕ). eqb x 255) (rest-before (entriesFrom (P .n) u 0) (entriesFrom (P .n) u i) d₀ d (40 + P .n) at (left .low) (left .rest) (40 + t) (omega arith) ∙ holds t h) ∙ full-is (u t) in
-      let none : (t : ℕ) → i ≤ t → t < slot → u t < 255 =
-      λ t h₁ h₂. leb-false 255 (u t) (sym (full-at t (omega arith)) ∙ next .before .clear t h₁ h₂) in
+  pub raising-next : SoundParts P → ((i : ℕ) → P .byte i < 256) → (d : List ℕ) (at j : ℕ) (w : Raising P ws d₀ d at j)
+      → at < 40 + P .n + 12 * overflowCount (P .n) (maskedAt Increment P ws) → (slot : ℕ) → slot ≡ get 8 d at
+      → RaisingAt P ws (w .from) d at j slot
+  raising-next s bytes d at j w more slot is =
+      let next : Next (P .n) (maskedAt Increment P ws) (w .from) d at slot = rw is (fill-next (w .fill) more) in
       record {
-        left = entries-gap left slot low high none;
-        cursor = cursor-gap P s bytes j i slot cursor low (λ t h₁ h₂. omega (arith, none t h₁ h₂));
-        full = λ h. leb-true 255 (u slot) (sym (full-at slot h) ∙ next .has h);
+        next = next;
+        cursor = cursor-gap P s bytes j (w .from) slot (w .cursor) (next .low) (λ u h₁ h₂. omega (arith, next .clear u h₁ h₂));
       }
 
-  pub raising-start : (slot : ℕ) → 40 + P .n + 12 * overflowCount (P .n) (maskedAt Increment P ws) ≤ length d₀
-      → Next (fullIn d₀) 0 (P .n) slot → Raising P ws d₀ slot d₀ (40 + P .n) 0
-  raising-start slot room next =
-      raising-to 0 slot d₀ (40 + P .n) 0 (entries-start (P .n) u d₀ (40 + P .n) room) (cursor-start P) next
-
   -- the entry of the slot is written
-  pub raising-more : (slot next at at' : ℕ) (d d' : List ℕ) (j : ℕ) (x : Taken) (bit : ℕ) → Raising P ws d₀ slot d at j
-      → slot < P .n → TakenAt P slot x → bit ≡ maskValue ws slot
-      → d' ≡ sets d at (le 8 slot ++ le 4 (x .distance + bit)) → at' ≡ at + 12 → Next (fullIn d') (slot + 1) (P .n) next
-      → Raising P ws d₀ next d' at' (x .next)
-  raising-more slot next at at' d d' j x bit w here taken is put step found =
-      raising-to (slot + 1) next d' at' (x .next)
-      (entries-more (w .left) here (w .full here) (x .distance + bit) d' at' (omega (arith, taken .is)) put step) (taken .next) found
-
-  pub raising-end : (slot : ℕ) (d : List ℕ) (at j : ℕ) → Raising P ws d₀ slot d at j → P .n ≤ slot
-      → d ≡ sets d₀ (40 + P .n) (overflowPart (P .n) (maskedAt Increment P ws))
-  raising-end slot d at j w done = entries-end (w .left) done
+  pub raising-more : (d d' : List ℕ) (at at' j slot : ℕ) (x : Taken) (bit : ℕ) (w : Raising P ws d₀ d at j)
+      → RaisingAt P ws (w .from) d at j slot → TakenAt P slot x → bit ≡ maskValue ws slot
+      → d' ≡ sets d at (le 8 slot ++ le 4 (x .distance + bit)) → at' ≡ at + 12 → Raising P ws d₀ d' at' (x .next)
+  raising-more d d' at at' j slot x bit w here taken is put step =
+      record {
+        from = slot + 1;
+        fill = fill-more (w .fill) slot (x .distance + bit) d' at' (here .next) (omega (arith, taken .is)) put step;
+        cursor = taken .next;
+      }

@@ -1,18 +1,22 @@
 -- Laws of rows and bits: eight bits at once, and a mask's bits as bytes.
 --   bitRows-at, bitsRow-table       a row of the table, byte by byte
---   bit-of-word, row-of-word        one bit of a word is one slot, a row eight slots
+--   bit-of-word, slot-bit           one bit of a word is one slot
+--   row-of-word, word-of-mask       a row is eight bits of a word, a word 64 slots;  word-bit  a word as 64 bytes
 --   primary-bits                    bits are primary bytes
 --   count-none, part-none, index-none    a map below 255 has no overflow entry, and its file no index
 -- Axioms: none.
-use mathlib.Core.Path.{_≡_, refl, sym, ap, _∙_}
+use mathlib.Core.Path.{_≡_, refl, sym, ap, ap₂, _∙_}
 use Prim.Native.Nat.{ℕ, _+_, _*_, _/_, _%_, _^_, _≤_, _<_}
 use native.Mathlib.Nat.{zero-add}
 use native.Mathlib.Omega.{arith}
 use mathlib.Core.List.{List, []}
 use lib.ListN.{length, getD}
+use lib.Seq.{sets}
 use Rattle.pciv_bytes.specs.Ranges.{table, joined}
-use Rattle.pciv_bytes.proofs.RangesLaws.{getD-table, table-cong, table-shift}
+use Rattle.pciv_bytes.specs.Counts.{byteAt}
+use Rattle.pciv_bytes.proofs.RangesLaws.{length-table, getD-table, table-cong, table-shift}
 use Rattle.pciv_bytes.proofs.SumLaws.{flag-le}
+use Rattle.pciv_bytes.proofs.WriteLaws.{sets-at}
 use Rattle.pciv_format.specs.Layout.{primaryByte, primary, overflowCount, overflowSlots, overflowPart}
 use Rattle.pciv_format.specs.Mask.{bitAt, bitsRow, maskHas, maskValue}
 use Rattle.pciv_format.proofs.PartsLaws.{primaryByte-inline}
@@ -45,21 +49,33 @@ bit-of-word ws i =
     let e : 64 * (i / 64) + i % 64 ≡ i = omega arith in
     sym (flag-maskHas ws (i / 64) (i % 64) (omega arith)) ∙ ap (maskValue ws) e
 
-slot-bit : (ws : List ℕ) (i t : ℕ) → i % 8 ≡ 0 → t < 8 → bitAt (getD ws (i / 64) 0 / 2 ^ (i % 64) % 256) t ≡ maskValue ws (i + t)
-slot-bit ws i t whole h =
-    let x : ℕ = getD ws (i / 64) 0 in
-    let e : 64 * (i / 64) + (i % 64 + t) ≡ i + t = omega arith in
-    bitAt-mod (x / 2 ^ (i % 64)) 8 t h
-    ∙ bitAt-shr x (i % 64) t
-    ∙ sym (flag-maskHas ws (i / 64) (i % 64 + t) (omega arith))
-    ∙ ap (maskValue ws) e
-
-pub row-of-word : (ws : List ℕ) (i : ℕ) → i % 8 ≡ 0 → bitsRow (getD ws (i / 64) 0 / 2 ^ (i % 64) % 256) ≡ table (maskValue ws) i 8
-row-of-word ws i whole =
-    let b : ℕ = getD ws (i / 64) 0 / 2 ^ (i % 64) % 256 in
+-- eight bits of a word, from bit j on
+pub row-of-word : (x j : ℕ) → bitsRow (x / 2 ^ j % 256) ≡ table (bitAt x) j 8
+row-of-word x j =
+    let b : ℕ = x / 2 ^ j % 256 in
     bitsRow-table b
-    ∙ table-shift (bitAt b) (maskValue ws) 0 i 8
-    (λ t h. ap (bitAt b) (zero-add t) ∙ slot-bit ws i t whole h)
+    ∙ table-shift (bitAt b) (bitAt x) 0 j 8
+    (λ t h. ap (bitAt b) (zero-add t) ∙ bitAt-mod (x / 2 ^ j) 8 t h ∙ bitAt-shr x j t)
+
+-- the bits of a word as they stand in 64 bytes
+pub word-bit : (d b : List ℕ) (x j : ℕ) → 64 ≤ length d → b ≡ sets d 0 (table (bitAt x) 0 64) → j < 64 → byteAt b j ≡ bitAt x j
+word-bit d b x j room is h =
+    let l : length (table (bitAt x) 0 64) ≡ 64 = length-table (bitAt x) 0 64 in
+    ap₂ byteAt is (sym (zero-add j))
+    ∙ sets-at d (table (bitAt x) 0 64) 0 j 0 (omega arith) (omega arith)
+    ∙ getD-table (bitAt x) 0 0 64 j h
+    ∙ ap (bitAt x) (zero-add j)
+
+-- the bits of the word that has the slots from i on
+pub slot-bit : (ws : List ℕ) (i t : ℕ) → i % 64 ≡ 0 → t < 64 → bitAt (getD ws (i / 64) 0) t ≡ maskValue ws (i + t)
+slot-bit ws i t whole h =
+    let e : 64 * (i / 64) + t ≡ i + t = omega arith in
+    sym (flag-maskHas ws (i / 64) t h) ∙ ap (maskValue ws) e
+
+pub word-of-mask : (ws : List ℕ) (i : ℕ) → i % 64 ≡ 0 → table (bitAt (getD ws (i / 64) 0)) 0 64 ≡ table (maskValue ws) i 64
+word-of-mask ws i whole =
+    let x : ℕ = getD ws (i / 64) 0 in
+    table-shift (bitAt x) (maskValue ws) 0 i 64 (λ t h. ap (bitAt x) (zero-add t) ∙ slot-bit ws i t whole h)
 
 -- ---- a map of 0 and 1
 

@@ -2,6 +2,7 @@
 --   maskedOf op set x      what becomes of the distance x of a slot that is set, or not
 --   maskedAt op P ws i     the distance of the result at slot i
 --   maskedByte op bit x    what becomes of the primary byte x where the bit is 0 or 1
+--   maskedWord op b i word j    of the primary byte of slot i + j in the file b, by bit j of a word
 --   raisedAt xs ws i       1 where slot i is set and has byte 254, which comes to overflow when 1 is added, else 0
 --   picked g i c x         g i, g (i + 1), .. at the set ones of the c lowest bits of x, added up
 --   SetBelow to i x        every set bit j of x has i + j below `to`
@@ -11,7 +12,7 @@ use Prim.Native.Nat.{ℕ, zero, suc, _+_, _*_, _/_, _%_, _<_, min}
 use mathlib.Core.Bool.{Bool, cond}
 use mathlib.Core.List.{List}
 use lib.Dec.{eqb}
-use Rattle.pciv_bytes.specs.Counts.{byteIs}
+use Rattle.pciv_bytes.specs.Counts.{byteAt, byteIs}
 use Rattle.pciv_format.specs.Parts.{Parts, valueOf}
 use Rattle.pciv_format.specs.Mask.{bitAt, maskHas, maskValue, keptIf, plusIf}
 use Rattle.pciv_masked.specs.declared.bytes.MaskedOp.{MaskedOp}
@@ -27,6 +28,9 @@ maskedAt op P ws i = maskedOf op (maskHas ws i) (valueOf P i)
 abbrev pub maskedByte : MaskedOp → ℕ → ℕ → ℕ
 maskedByte Keep bit x = cond (eqb bit 0) 0 x
 maskedByte Increment bit x = min 255 (x + bit)
+
+abbrev pub maskedWord : MaskedOp → List ℕ → ℕ → ℕ → ℕ → ℕ
+maskedWord op b i word j = maskedByte op (bitAt word j) (byteAt b (40 + i + j))
 
 abbrev pub raisedAt : List ℕ → List ℕ → ℕ → ℕ
 raisedAt xs ws i = maskValue ws i * byteIs xs 254 i

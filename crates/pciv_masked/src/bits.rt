@@ -4,7 +4,8 @@ ghost use Prim.Native.Nat.{_+_, _*_, _/_, _%_, _^_, _≤_, _<_};
 ghost use lib.ListN.{length};
 ghost use lib.Seq.{sets};
 ghost use Rattle.pciv_bytes.specs.Ranges.{table};
-ghost use Rattle.pciv_format.specs.Mask.{maskValue};
+ghost use Rattle.pciv_format.specs.Mask.{bitAt, maskValue};
+ghost use Rattle.pciv_masked.specs.Rows.{bitRows};
 use crate::rows::bit_rows;
 use crate::rows::put_row;
 use pciv_format::HEADER_LEN;
@@ -25,18 +26,28 @@ fn eight_bits(word: u64, j: usize) -> usize
     ((word >> j) % 256) as usize
 }
 
-// Writes the bits of the n slots where a file has its primary array: eight at once through the table, and then what is
-// left.
+// Writes the 64 bits of a word from `at` on, eight at once through the table.
+pub(crate) fn put_word(out: &mut [u8], at: usize, rows: &[u8; 2048], word: u64)
+    requires { ⌜ (now rows ≡ bitRows) × (at + 64 ≤ length (now out)) ⌝ }
+    ensures { λ _. ⌜ now (out .exit) ≡ sets (now (out .entry)) at (table (bitAt word) 0 64) ⌝ }
+{
+    let mut j = 0;
+    while j < 64 {
+        put_row(out, at + j, rows, eight_bits(word, j));
+        j += 8;
+    }
+}
+
+// Writes the bits of the n slots where a file has its primary array: word by word, and then what is left.
 pub(crate) fn put_bits(out: &mut [u8], n: usize, words: &[u64])
     requires { ⌜ (n ≤ 64 * length (now words)) × (40 + n ≤ length (now out)) ⌝ }
     ensures { λ _. ⌜ now (out .exit) ≡ sets (now (out .entry)) 40 (table (maskValue (now (words .entry))) 0 n) ⌝ }
 {
     let rows = bit_rows();
     let mut i = 0;
-    while 8 <= n - i {
-        let b = eight_bits(words[i / 64], i % 64);
-        put_row(out, HEADER_LEN + i, &rows, b);
-        i += 8;
+    while 64 <= n - i {
+        put_word(out, HEADER_LEN + i, &rows, words[i / 64]);
+        i += 64;
     }
     while i < n {
         out[HEADER_LEN + i] = bit_of(words, i);

@@ -1,15 +1,17 @@
-// The primary bytes of the result: the bits of the mask first, as bytes 0 and 1, and then each with the map's byte.
+// The primary bytes of the result: the bits of a word as bytes 0 and 1, and each with the map's byte.
 ghost use mathlib.Core.Path.{_≡_};
-ghost use Prim.Native.Nat.{ℕ, _+_, _≤_};
+ghost use Prim.Native.Nat.{_+_, _≤_};
 ghost use lib.ListN.{length};
 ghost use lib.Seq.{sets};
 ghost use Rattle.pciv_bytes.specs.Ranges.{table};
-ghost use Rattle.pciv_bytes.specs.Counts.{byteAt};
 ghost use Rattle.pciv_format.specs.Layout.{primary};
 ghost use Rattle.pciv_format.specs.Check.{fileParts, CheckedMap};
 ghost use Rattle.pciv_words.specs.Words.{IsMask};
-ghost use Rattle.pciv_masked.specs.Masked.{maskedAt, maskedByte};
-use crate::bits::put_bits;
+ghost use Rattle.pciv_masked.specs.Rows.{bitRows};
+ghost use Rattle.pciv_masked.specs.Masked.{maskedAt, maskedByte, maskedWord};
+use crate::bits::bit_of;
+use crate::bits::put_word;
+use crate::rows::bit_rows;
 use pciv_format::HEADER_LEN;
 
 // What is done with the distances of a map: kept where the mask is 1, else 0 ("cut"); or one more where it is 1
@@ -29,15 +31,19 @@ fn masked_byte(op: MaskedOp, bit: u8, x: u8) -> u8
     }
 }
 
-// Every byte of out from `at` on is a bit; it becomes what the bit makes of the byte of a.
-fn mask_bytes(out: &mut [u8], at: usize, op: MaskedOp, a: &[u8])
-    requires { ⌜ at + length (now a) ≤ length (now out) ⌝ }
-    ensures { λ _. ⌜ now (out .exit) ≡ sets (now (out .entry)) at (table (λ (i : ℕ). maskedByte op (byteAt (now (out .entry)) (at + i)) (byteAt (now (a .entry)) i)) 0 (length (now (a .entry)))) ⌝ }
+// Writes what the bits of a word make of the primary bytes of 64 slots, from slot i on.
+fn mask_word(out: &mut [u8], op: MaskedOp, file: &[u8], i: usize, rows: &[u8; 2048], word: u64)
+    requires { ⌜ now rows ≡ bitRows ⌝ }
+    requires { ⌜ (40 + i + 64 ≤ length (now file)) × (40 + i + 64 ≤ length (now out)) ⌝ }
+    ensures { λ _. ⌜ now (out .exit) ≡ sets (now (out .entry)) (40 + i) (table (maskedWord op (now (file .entry)) i word) 0 64) ⌝ }
 {
-    let mut i = 0;
-    while i < a.len() {
-        out[at + i] = masked_byte(op, out[at + i], a[i]);
-        i += 1;
+    let mut bits: [u8; 64] = [0; 64];
+    put_word(&mut bits, 0, rows, word);
+    let mut j = 0;
+    while j < 64 {
+        let at = HEADER_LEN + i + j;
+        out[at] = masked_byte(op, bits[j], file[at]);
+        j += 1;
     }
 }
 
@@ -55,7 +61,14 @@ pub(crate) fn put_primary(
     requires { ⌜ 40 + n ≤ length (now out) ⌝ }
     ensures { λ _. ⌜ now (out .exit) ≡ sets (now (out .entry)) 40 (primary n (maskedAt op (fileParts (now (file .entry)) n k) (now (words .entry)))) ⌝ }
 {
-    let end = HEADER_LEN + n;
-    put_bits(out, n, words);
-    mask_bytes(out, HEADER_LEN, op, &file[HEADER_LEN..end]);
+    let rows = bit_rows();
+    let mut i = 0;
+    while 64 <= n - i {
+        mask_word(out, op, file, i, &rows, words[i / 64]);
+        i += 64;
+    }
+    while i < n {
+        out[HEADER_LEN + i] = masked_byte(op, bit_of(words, i), file[HEADER_LEN + i]);
+        i += 1;
+    }
 }

@@ -29,22 +29,23 @@ pub(crate) fn count_kept(file: &[u8], n: usize, k: usize, words: &[u64]) -> usiz
     count
 }
 
-// Writes the entries that are kept.
-pub(crate) fn put_kept(out: &mut [u8], file: &[u8], n: usize, k: usize, words: &[u64])
+// Writes the entries that are kept, `count` of them. One that is not is written over by the next, so that there is no
+// choice to guess.
+pub(crate) fn put_kept(out: &mut [u8], file: &[u8], n: usize, k: usize, words: &[u64], count: usize)
     requires { ⌜ CheckedMap (now file) n k ⌝ }
     requires { ⌜ IsMask n (now words) ⌝ }
-    requires { ⌜ 40 + n + 12 * overflowCount n (maskedAt Keep (fileParts (now file) n k) (now words)) ≤ length (now out) ⌝ }
+    requires { ⌜ count ≡ overflowCount n (maskedAt Keep (fileParts (now file) n k) (now words)) ⌝ }
+    requires { ⌜ 40 + n + 12 * count ≤ length (now out) ⌝ }
     ensures { λ _. ⌜ now (out .exit) ≡ sets (now (out .entry)) (40 + n) (overflowPart n (maskedAt Keep (fileParts (now (file .entry)) n k) (now (words .entry)))) ⌝ }
 {
     let mut at = HEADER_LEN + n;
+    let end = at + 12 * count;
     let mut j = 0;
-    while j < k {
+    while at < end {
         let slot = entry_slot(file, n, j);
-        let x = entry_distance(file, n, j);
+        put_entry(out, at, slot, entry_distance(file, n, j));
         let bit = bit_of(words, slot);
+        at += 12 * (0 < bit) as usize;
         j += 1;
-        if 0 < bit {
-            at = put_entry(out, at, slot, x);
-        }
     }
 }

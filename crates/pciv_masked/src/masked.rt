@@ -50,18 +50,27 @@ fn count_overflow(op: MaskedOp, file: &[u8], n: usize, k: usize, words: &[u64]) 
     }
 }
 
-// Writes the overflow entries of the result, whose primary bytes stand in the buffer.
-fn put_entries(out: &mut [u8], op: MaskedOp, file: &[u8], n: usize, k: usize, words: &[u64])
+// Writes the overflow entries of the result, `count` of them, whose primary bytes stand in the buffer.
+fn put_entries(
+    out: &mut [u8],
+    op: MaskedOp,
+    file: &[u8],
+    n: usize,
+    k: usize,
+    words: &[u64],
+    count: usize,
+)
     requires { ⌜ CheckedMap (now file) n k ⌝ }
     requires { ⌜ IsMask n (now words) ⌝ }
     requires { ⌜ Fits n (maskedAt op (fileParts (now file) n k) (now words)) ⌝ }
     requires { ⌜ HoldsPrimary n (maskedAt op (fileParts (now file) n k) (now words)) (now out) ⌝ }
-    requires { ⌜ 40 + n + 12 * overflowCount n (maskedAt op (fileParts (now file) n k) (now words)) ≤ length (now out) ⌝ }
+    requires { ⌜ count ≡ overflowCount n (maskedAt op (fileParts (now file) n k) (now words)) ⌝ }
+    requires { ⌜ 40 + n + 12 * count ≤ length (now out) ⌝ }
     ensures { λ _. ⌜ now (out .exit) ≡ sets (now (out .entry)) (40 + n) (overflowPart n (maskedAt op (fileParts (now (file .entry)) n k) (now (words .entry)))) ⌝ }
 {
     match op {
-        MaskedOp::Keep => put_kept(out, file, n, k, words),
-        MaskedOp::Increment => put_incremented(out, file, n, k, words),
+        MaskedOp::Keep => put_kept(out, file, n, k, words, count),
+        MaskedOp::Increment => put_incremented(out, file, n, k, words, count),
     }
 }
 
@@ -93,7 +102,7 @@ pub(crate) fn masked_into(
         FileAnswer::Refused(r) => FileAnswer::Refused(r),
         FileAnswer::Done(s) => {
             put_primary(out, op, file, n, k, words);
-            put_entries(out, op, file, n, k, words);
+            put_entries(out, op, file, n, k, words, count);
             finish(out, n, count);
             FileAnswer::Done(s)
         }

@@ -3,10 +3,9 @@ ghost use mathlib.Core.Path.{_≡_};
 ghost use Prim.Native.Nat.{ℕ, _+_, _*_, _≤_};
 ghost use lib.ListN.{length};
 ghost use lib.Seq.{sets};
-ghost use lib.Dec.{eqb, ltb};
+ghost use lib.Dec.{ltb};
 ghost use Rattle.pciv_bytes.specs.Ranges.{firstBelow, sumFrom};
-ghost use Rattle.pciv_bytes.specs.Counts.{byteAt, byteIs};
-ghost use Rattle.pciv_bytes.specs.Find.{Next};
+ghost use Rattle.pciv_bytes.specs.Counts.{byteIs};
 ghost use Rattle.pciv_format.specs.Layout.{maxDistance, overflowCount, overflowPart};
 ghost use Rattle.pciv_format.specs.Check.{fileParts, CheckedMap};
 ghost use Rattle.pciv_words.specs.Words.{IsMask};
@@ -16,10 +15,10 @@ ghost use Rattle.pciv_masked.specs.Masked.{maskedAt, raisedAt, picked, S
 ghost use Rattle.pciv_masked.specs.declared.bytes.MaskedOp.the-variants.{Increment};
 use crate::bits::bit_of;
 use pciv_build::put_entry;
+use pciv_build::slots::put_slots;
 use pciv_bytes::find::any_byte;
-use pciv_bytes::find::next_byte;
+use pciv_bytes::little_endian::get64;
 use pciv_format::HEADER_LEN;
-use pciv_format::SENTINEL;
 use pciv_map::cursor::take_at;
 use pciv_map::entries::entry_distance;
 use pciv_map::entries::entry_slot;
@@ -101,30 +100,32 @@ pub(crate) fn count_incremented(file: &[u8], n: usize, k: usize, words: &[u64]) 
     k + count_raised(&file[HEADER_LEN..end], words)
 }
 
-// The next slot from `from` on whose primary byte is 255, or n.
-fn next_full(file: &[u8], n: usize, from: usize) -> usize
-    requires { ⌜ (from ≤ n) × (40 + n ≤ length (now file)) ⌝ }
-    ensures { λ r. ⌜ Next (λ (i : ℕ). eqb (byteAt (now (file .entry)) (40 + i)) 255) from n r ⌝ }
-{
-    next_byte(file, HEADER_LEN + from, HEADER_LEN + n, SENTINEL) - HEADER_LEN
-}
-
-// Writes the overflow entries of the result, whose primary bytes stand in the buffer.
-pub(crate) fn put_incremented(out: &mut [u8], file: &[u8], n: usize, k: usize, words: &[u64])
+// Writes the overflow entries of the result, `count` of them, whose primary bytes stand in the buffer: first their slots,
+// then at each slot the distance.
+pub(crate) fn put_incremented(
+    out: &mut [u8],
+    file: &[u8],
+    n: usize,
+    k: usize,
+    words: &[u64],
+    count: usize,
+)
     requires { ⌜ CheckedMap (now file) n k ⌝ }
     requires { ⌜ IsMask n (now words) ⌝ }
     requires { ⌜ Fits n (maskedAt Increment (fileParts (now file) n k) (now words)) ⌝ }
     requires { ⌜ HoldsPrimary n (maskedAt Increment (fileParts (now file) n k) (now words)) (now out) ⌝ }
-    requires { ⌜ 40 + n + 12 * overflowCount n (maskedAt Increment (fileParts (now file) n k) (now words)) ≤ length (now out) ⌝ }
+    requires { ⌜ count ≡ overflowCount n (maskedAt Increment (fileParts (now file) n k) (now words)) ⌝ }
+    requires { ⌜ 40 + n + 12 * count ≤ length (now out) ⌝ }
     ensures { λ _. ⌜ now (out .exit) ≡ sets (now (out .entry)) (40 + n) (overflowPart n (maskedAt Increment (fileParts (now (file .entry)) n k) (now (words .entry)))) ⌝ }
 {
+    put_slots(out, n);
     let mut at = HEADER_LEN + n;
+    let end = at + 12 * count;
     let mut j = 0;
-    let mut slot = next_full(out, n, 0);
-    while slot < n {
+    while at < end {
+        let slot = get64(out, at);
         let x = take_at(file, n, k, j, slot);
         j = x.next;
         at = put_entry(out, at, slot, x.distance + bit_of(words, slot) as u32);
-        slot = next_full(out, n, slot + 1);
     }
 }

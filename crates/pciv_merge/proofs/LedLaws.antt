@@ -6,7 +6,7 @@
 --   led-start, led-next    where it begins, and one entry on
 --   counted-entry, -pass, -last    the slots of v in overflow, counted along the entries of P, where v is in
 --                          overflow only where P is: at entry j they are one more, or not, or all
---   entries-fit, -entry, -pass, -last    the same of their entries, as they are written
+--   entries-fit, -entry, -pass, -past, -last    the same of their entries, as they are written
 --   combined-led           a combination that shrinks is in overflow only where the first map is
 -- Axioms: none.
 use mathlib.Core.Path.{_≡_, refl, sym, ap, _∙_}
@@ -138,9 +138,13 @@ module _ (P : Parts) (s : SoundParts P) (bytes : (i : ℕ) → P .byte i < 256) 
     pub counted-last : {c : ℕ} → Counted (P .n) v (lowestSlot P j) c → c ≡ overflowCount (P .n) v
     counted-last e = counted-end (counted-gap e (P .n) (e .inside) (omega arith) past-slot) (omega arith)
 
+    pub entries-past : {d₀ : List ℕ} {p₀ : ℕ} {d : List ℕ} {p : ℕ} → EntriesLeft (P .n) v d₀ p₀ (lowestSlot P j) d p
+        → EntriesLeft (P .n) v d₀ p₀ (P .n) d p
+    entries-past e = entries-gap e (P .n) (e .inside) (omega arith) past-slot
+
     pub entries-last : {d₀ : List ℕ} {p₀ : ℕ} {d : List ℕ} {p : ℕ} → EntriesLeft (P .n) v d₀ p₀ (lowestSlot P j) d p
         → d ≡ sets d₀ p₀ (overflowPart (P .n) v)
-    entries-last e = entries-end (entries-gap e (P .n) (e .inside) (omega arith) past-slot) (omega arith)
+    entries-last e = entries-end (entries-past e) (omega arith)
 
 -- ---- a combination that shrinks
 

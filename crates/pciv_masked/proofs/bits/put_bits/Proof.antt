@@ -1,5 +1,5 @@
 -- Proves bits::put_bits. Invariant of both loops: what is left to write are the bits of the slots from i on; in the first
--- i is a multiple of eight. Falls: n - i.
+-- i is a multiple of 64. Falls: n - i.
 use mathlib.Core.Path.{_≡_, refl, sym, ap, _∙_}
 use Prim.Native.Nat.{ℕ, _+_, _-_, _%_, _≤_}
 use native.Mathlib.Omega.{arith}
@@ -8,8 +8,8 @@ use lib.ListN.{length, length-set}
 use lib.Seq.{sets, length-sets}
 use Rattle.pciv_bytes.specs.Ranges.{table}
 use Rattle.pciv_bytes.proofs.WriteLaws.{sets-table-start, sets-table-more, sets-table-end, sets-table-part}
-use Rattle.pciv_format.specs.Mask.{bitsRow, maskValue}
-use Rattle.pciv_masked.proofs.RowLaws.{row-of-word}
+use Rattle.pciv_format.specs.Mask.{maskValue}
+use Rattle.pciv_masked.proofs.RowLaws.{word-of-mask}
 use borrow.Author.Needs.{needs}
 use Rattle.pciv_masked.proofs.bits.put_bits.Statement.{statement}
 use Rattle.pciv_masked.proofs.bits.put_bits.Tie as tie
@@ -21,7 +21,7 @@ Left ws n d₀ i₀ d i =
     × (sets d₀ (40 + i₀) (table (maskValue ws) i₀ (n - i₀)) ≡ sets d (40 + i) (table (maskValue ws) i (n - i)))
 
 abbrev Inv-loop : tie.InvT-loop
-Inv-loop out₀ n words rows i₀ out i = (i % 8 ≡ 0) × Left words n out₀ 0 out i
+Inv-loop out₀ n words rows i₀ out i = (i % 64 ≡ 0) × Left words n out₀ 0 out i
 
 abbrev μ-loop : tie.MeasureT-loop
 μ-loop out₀ n words rows i₀ out i = n - i
@@ -47,22 +47,17 @@ loop-holds c = (refl, (omega arith, refl, refl))
 sub-loop : tie.Need-sub-loop Inv-loop μ-loop Inv-loop2 μ-loop2
 sub-loop c = search needs
 
-mul-eight-bits : tie.Need-mul-eight-bits Inv-loop μ-loop Inv-loop2 μ-loop2
-mul-eight-bits c = search needs
+add-put-word : tie.Need-add-put-word Inv-loop μ-loop Inv-loop2 μ-loop2
+add-put-word c = search needs
 
-shared-slice-read-eight-bits : tie.Need-shared-slice-read-eight-bits Inv-loop μ-loop Inv-loop2 μ-loop2
-shared-slice-read-eight-bits c = search needs
+mul-put-word : tie.Need-mul-put-word Inv-loop μ-loop Inv-loop2 μ-loop2
+mul-put-word c = search needs
 
-eight-bits-requires : tie.Need-eight-bits-requires Inv-loop μ-loop Inv-loop2 μ-loop2
-eight-bits-requires c κs = search needs
+shared-slice-read-put-word : tie.Need-shared-slice-read-put-word Inv-loop μ-loop Inv-loop2 μ-loop2
+shared-slice-read-put-word c = search needs
 
-add-put-row : tie.Need-add-put-row Inv-loop μ-loop Inv-loop2 μ-loop2
-add-put-row c = search needs
-
-put-row-requires : tie.Need-put-row-requires Inv-loop μ-loop Inv-loop2 μ-loop2
-put-row-requires c κs =
-    let e = c .before .before in
-    (e .before .before .before .before .bit-rows .ensures, omega (arith, e .eight-bits .ensures), search needs)
+put-word-requires : tie.Need-put-word-requires Inv-loop μ-loop Inv-loop2 μ-loop2
+put-word-requires c κs = (c .before .before .before .before .before .bit-rows .ensures, search needs)
 
 add-i : tie.Need-add-i Inv-loop μ-loop Inv-loop2 μ-loop2
 add-i c = search needs
@@ -73,19 +68,18 @@ loop-less c = search needs
 loop-again : tie.Need-loop-again Inv-loop μ-loop Inv-loop2 μ-loop2
 loop-again c =
     let p = c .before .before in
-    let e = p .before .before .before in
-    let w = e .before .before in
+    let w = p .before .before .before .before in
     let l = w .before .loop in
     let a = start w .args in
     let f : ℕ → ℕ = maskValue (a .words .now) in
-    let put : p .put-row .last .0 ≡ sets (l .out) (40 + l .i) (table f (l .i) 8) =
-    p .put-row .ensures ∙ ap (sets (l .out) (40 + l .i)) (ap bitsRow (e .eight-bits .ensures) ∙ row-of-word (a .words .now) (l .i) (l .inv .0)) in
-    let left = sets-table-part f 40 (a .n) (l .i) 8 (l .out) (omega (arith, l .inv .1 .0, w .loop-test .taken)) in (
+    let put : p .put-word .last .0 ≡ sets (l .out) (40 + l .i) (table f (l .i) 64) =
+    p .put-word .ensures ∙ ap (sets (l .out) (40 + l .i)) (word-of-mask (a .words .now) (l .i) (l .inv .0)) in
+    let left = sets-table-part f 40 (a .n) (l .i) 64 (l .out) (omega (arith, l .inv .1 .0, w .loop-test .taken)) in (
       omega (arith, l .inv .0),
       (
         omega (arith, l .inv .1 .0, w .loop-test .taken),
-        ap length put ∙ length-sets (l .out) (40 + l .i) (table f (l .i) 8) ∙ l .inv .1 .1,
-        l .inv .1 .2 ∙ left ∙ ap (λ (d : List ℕ). sets d (40 + (l .i + 8)) (table f (l .i + 8) (a .n - (l .i + 8)))) (sym put),
+        ap length put ∙ length-sets (l .out) (40 + l .i) (table f (l .i) 64) ∙ l .inv .1 .1,
+        l .inv .1 .2 ∙ left ∙ ap (λ (d : List ℕ). sets d (40 + (l .i + 64)) (table f (l .i + 64) (a .n - (l .i + 64)))) (sym put),
       ),
     )
 
@@ -144,11 +138,10 @@ put-bits-spec =
     bit-rows-requires
     loop-holds
     sub-loop
-    mul-eight-bits
-    shared-slice-read-eight-bits
-    eight-bits-requires
-    add-put-row
-    put-row-requires
+    add-put-word
+    mul-put-word
+    shared-slice-read-put-word
+    put-word-requires
     add-i
     loop-less
     loop-again

@@ -1,53 +1,191 @@
--- Proves bytes::put_primary.
-use native.Mathlib.Nat.{add-sub-cancel-left}
+-- Proves bytes::put_primary. Invariant of both loops: what is left to write are the bytes of the slots from i on; in the
+-- first i is a multiple of 64. Falls: n - i.
+use mathlib.Core.Path.{_≡_, refl, sym, ap, _∙_}
+use Prim.Native.Nat.{ℕ, _+_, _-_, _%_, _≤_}
+use native.Mathlib.Omega.{arith}
+use mathlib.Core.List.{List}
+use lib.ListN.{length, length-set}
+use lib.Seq.{sets, length-sets}
+use Rattle.pciv_bytes.specs.Ranges.{table}
+use Rattle.pciv_bytes.specs.Counts.{byteAt}
+use Rattle.pciv_bytes.proofs.WriteLaws.{sets-table-start, sets-table-more, sets-table-end, sets-table-part}
 use Rattle.pciv_map.proofs.MapLaws.{primary-inside}
-use Rattle.pciv_masked.proofs.ByteLaws.{masked-primary}
+use Rattle.pciv_masked.specs.Masked.{maskedByte}
+use Rattle.pciv_masked.specs.declared.bytes.MaskedOp.{MaskedOp}
+use Rattle.pciv_masked.proofs.ByteLaws.{mask-room, maskedSlot, word-of-slots, masked-primary}
 use borrow.Author.Needs.{needs}
 use Rattle.pciv_masked.proofs.bytes.put_primary.Statement.{statement}
 use Rattle.pciv_masked.proofs.bytes.put_primary.Tie as tie
 
-add-end : tie.Need-add-end
-add-end c = search needs
+-- all that was left at slot i₀ of d₀ is what is left at slot i of d
+abbrev Left : MaskedOp → List ℕ → List ℕ → ℕ → List ℕ → ℕ → List ℕ → ℕ → Type 0
+Left op b ws n d₀ i₀ d i =
+    (i ≤ n) × (length d ≡ length d₀)
+    × (sets d₀ (40 + i₀) (table (maskedSlot op b ws) i₀ (n - i₀)) ≡ sets d (40 + i) (table (maskedSlot op b ws) i (n - i)))
 
-put-bits-requires : tie.Need-put-bits-requires
-put-bits-requires c κs = search needs
+abbrev Inv-loop : tie.InvT-loop
+Inv-loop out₀ op file n k words rows i₀ out i = (i % 64 ≡ 0) × Left op file words n out₀ 0 out i
 
-sub-mask-bytes : tie.Need-sub-mask-bytes
-sub-mask-bytes c = search needs
+abbrev μ-loop : tie.MeasureT-loop
+μ-loop out₀ op file n k words rows i₀ out i = n - i
 
-part-mask-bytes-start : tie.Need-part-mask-bytes-start
-part-mask-bytes-start c = search needs
+abbrev Inv-loop2 : tie.InvT-loop2
+Inv-loop2 out₀ op file n k words i₀ out i = Left op file words n out₀ i₀ out i
 
-part-mask-bytes-end : tie.Need-part-mask-bytes-end
-part-mask-bytes-end c =
-    let s = c .before .before .before .before .before .before .before .before in
-    primary-inside (s .args .file .now) (s .args .n) (s .args .k) (s .pre .0)
+abbrev μ-loop2 : tie.MeasureT-loop2
+μ-loop2 out₀ op file n k words i₀ out i = n - i
 
-mask-bytes-requires : tie.Need-mask-bytes-requires
-mask-bytes-requires c κs = search needs
+abbrev start : tie.In-loop Inv-loop μ-loop Inv-loop2 μ-loop2 → tie.Start Inv-loop μ-loop Inv-loop2 μ-loop2
+start c = c .before .before .before .before .before .before
 
-same-length : tie.Need-same-length
+abbrev start2 : tie.In-loop2 Inv-loop μ-loop Inv-loop2 μ-loop2 → tie.Start Inv-loop μ-loop Inv-loop2 μ-loop2
+start2 c = c .before .before .before .before .before .before .before .before
+
+inside : (s : tie.Start Inv-loop μ-loop Inv-loop2 μ-loop2) → 40 + s .args .n ≤ length (s .args .file .now)
+inside s = primary-inside (s .args .file .now) (s .args .n) (s .args .k) (s .pre .0)
+
+bit-rows-requires : tie.Need-bit-rows-requires Inv-loop μ-loop Inv-loop2 μ-loop2
+bit-rows-requires c κs = search needs
+
+loop-holds : tie.Need-loop-holds Inv-loop μ-loop Inv-loop2 μ-loop2
+loop-holds c = (refl, (omega arith, refl, refl))
+
+sub-loop : tie.Need-sub-loop Inv-loop μ-loop Inv-loop2 μ-loop2
+sub-loop c = search needs
+
+mul-mask-word : tie.Need-mul-mask-word Inv-loop μ-loop Inv-loop2 μ-loop2
+mul-mask-word c = search needs
+
+shared-slice-read-mask-word : tie.Need-shared-slice-read-mask-word Inv-loop μ-loop Inv-loop2 μ-loop2
+shared-slice-read-mask-word c =
+    let w = c .before .before .before in
+    omega (arith, w .before .loop .inv .1 .0, w .loop-test .taken, mask-room (start w .pre .1 .0))
+
+mask-word-requires : tie.Need-mask-word-requires Inv-loop μ-loop Inv-loop2 μ-loop2
+mask-word-requires c κs =
+    let w = c .before .before .before in
+    let l = w .before .loop in
+    let s = start w in (
+      w .before .before .bit-rows .ensures,
+      (
+        omega (arith, l .inv .1 .0, w .loop-test .taken, inside s),
+        omega (arith, l .inv .1 .0, l .inv .1 .1, w .loop-test .taken, s .pre .1 .1),
+      ),
+    )
+
+add-i : tie.Need-add-i Inv-loop μ-loop Inv-loop2 μ-loop2
+add-i c = search needs
+
+loop-less : tie.Need-loop-less Inv-loop μ-loop Inv-loop2 μ-loop2
+loop-less c = search needs
+
+loop-again : tie.Need-loop-again Inv-loop μ-loop Inv-loop2 μ-loop2
+loop-again c =
+    let p = c .before .before in
+    let w = p .before .before .before .before in
+    let l = w .before .loop in
+    let a = start w .args in
+    let f : ℕ → ℕ = maskedSlot (a .op) (a .file .now) (a .words .now) in
+    let put : p .mask-word .last .0 ≡ sets (l .out) (40 + l .i) (table f (l .i) 64) =
+    p .mask-word .ensures ∙ ap (sets (l .out) (40 + l .i)) (word-of-slots (a .op) (a .file .now) (a .words .now) (l .i) (l .inv .0)) in
+    let left = sets-table-part f 40 (a .n) (l .i) 64 (l .out) (omega (arith, l .inv .1 .0, w .loop-test .taken)) in (
+      omega (arith, l .inv .0),
+      (
+        omega (arith, l .inv .1 .0, w .loop-test .taken),
+        ap length put ∙ length-sets (l .out) (40 + l .i) (table f (l .i) 64) ∙ l .inv .1 .1,
+        l .inv .1 .2 ∙ left ∙ ap (λ (d : List ℕ). sets d (40 + (l .i + 64)) (table f (l .i + 64) (a .n - (l .i + 64)))) (sym put),
+      ),
+    )
+
+loop2-holds : tie.Need-loop2-holds Inv-loop μ-loop Inv-loop2 μ-loop2
+loop2-holds c = (search needs, refl, refl)
+
+bit-of-requires : tie.Need-bit-of-requires Inv-loop μ-loop Inv-loop2 μ-loop2
+bit-of-requires c κs = omega (arith, mask-room (start2 c .pre .1 .0), c .loop2-test .taken)
+
+add-masked-byte : tie.Need-add-masked-byte Inv-loop μ-loop Inv-loop2 μ-loop2
+add-masked-byte c = search needs
+
+shared-slice-read-masked-byte : tie.Need-shared-slice-read-masked-byte Inv-loop μ-loop Inv-loop2 μ-loop2
+shared-slice-read-masked-byte c =
+    let w = c .before .before in
+    omega (arith, inside (start2 w), w .loop2-test .taken)
+
+masked-byte-requires : tie.Need-masked-byte-requires Inv-loop μ-loop Inv-loop2 μ-loop2
+masked-byte-requires c κs = search needs
+
+add-out : tie.Need-add-out Inv-loop μ-loop Inv-loop2 μ-loop2
+add-out c = search needs
+
+slice-write-out : tie.Need-slice-write-out Inv-loop μ-loop Inv-loop2 μ-loop2
+slice-write-out c =
+    let w = c .before .before .before in
+    let l = w .before in
+    omega (arith, start2 w .pre .1 .1, w .loop2-test .taken, l .loop2 .inv .1, l .before .before .loop .inv .1 .1)
+
+add-i-2 : tie.Need-add-i-2 Inv-loop μ-loop Inv-loop2 μ-loop2
+add-i-2 c = search needs
+
+loop2-less : tie.Need-loop2-less Inv-loop μ-loop Inv-loop2 μ-loop2
+loop2-less c = search needs
+
+loop2-again : tie.Need-loop2-again Inv-loop μ-loop Inv-loop2 μ-loop2
+loop2-again c =
+    let b = c .before .before in
+    let w = b .before in
+    let l = w .before .loop2 in
+    let a = start2 w .args in
+    let f : ℕ → ℕ = maskedSlot (a .op) (a .file .now) (a .words .now) in
+    let byte : c .masked-byte .result ≡ f (l .i) =
+    c .masked-byte .ensures ∙ ap (λ (z : ℕ). maskedByte (a .op) z (byteAt (a .file .now) (40 + l .i))) (b .bit-of .ensures) in
+    let more = sets-table-more f 40 (a .n) (l .i) (l .out) (w .loop2-test .taken) in
+    (omega (arith, w .loop2-test .taken), simp length-set (l .inv .1), l .inv .2 ∙ more ∙ rw byte)
+
+same-length : tie.Need-same-length Inv-loop μ-loop Inv-loop2 μ-loop2
 same-length c = search needs
 
-returns : tie.Need-returns
+returns : tie.Need-returns Inv-loop μ-loop Inv-loop2 μ-loop2
 returns c =
-    let m = c .before .before in
-    let b = m .before .before .before .before .before in
-    let known = b .before .before .before in
+    let l = c .before in
+    let k = l .before .before in
+    let known = k .before .before .before in
     let s = known .before .before in
     let a = s .args in
-    masked-primary (a .op) (a .file .now) (a .n) (a .k) (s .pre .0) (λ i. known .shared-slice-known .given i .fits) (a .words .now)
-    (a .out .now) _ _ (s .pre .1 .1) (b .put-bits .ensures) (rw (add-sub-cancel-left 40 (a .n)) at (m .mask-bytes .ensures))
+    let f : ℕ → ℕ = maskedSlot (a .op) (a .file .now) (a .words .now) in
+    sym
+    (ap (sets (a .out .now) 40)
+    (sym (masked-primary (a .op) (a .file .now) (a .words .now) (a .n) (a .k) (s .pre .0) (λ i. known .shared-slice-known .given i .fits)))
+    ∙ sets-table-start f 40 (a .n) (a .out .now)
+    ∙ k .loop .inv .1 .2
+    ∙ l .loop2 .inv .2
+    ∙ sets-table-end f 40 (a .n) (l .loop2 .i) (l .loop2 .out) (omega (arith, c .loop2-test .left)))
 
 pub put-primary-spec : {M : Type 1} → statement M
 put-primary-spec =
     tie.close
     (tie.spec
-    add-end
-    put-bits-requires
-    sub-mask-bytes
-    part-mask-bytes-start
-    part-mask-bytes-end
-    mask-bytes-requires
+    Inv-loop
+    μ-loop
+    Inv-loop2
+    μ-loop2
+    bit-rows-requires
+    loop-holds
+    sub-loop
+    mul-mask-word
+    shared-slice-read-mask-word
+    mask-word-requires
+    add-i
+    loop-less
+    loop-again
+    loop2-holds
+    bit-of-requires
+    add-masked-byte
+    shared-slice-read-masked-byte
+    masked-byte-requires
+    add-out
+    slice-write-out
+    add-i-2
+    loop2-less
+    loop2-again
     same-length
     returns)

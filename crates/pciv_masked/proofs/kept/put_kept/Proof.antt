@@ -1,27 +1,29 @@
--- Proves kept::put_kept. Invariant: the entries of slots from the least that entry j may have on are left. Falls: k - j.
-use mathlib.Core.Path.{_≡_, ap, _∙_}
-use Prim.Native.Nat.{ℕ, _+_, _-_, _≤_, _<_}
+-- Proves kept::put_kept. Invariant: the entries of the slots behind entry j - 1 are left. Falls: k - j.
+use Prim.Native.Nat.{ℕ, _+_, _-_, _*_, _≤_, _<_}
 use native.Mathlib.Omega.{arith}
+use lib.ListN.{length}
+use lib.Dec.{ltb}
+use Rattle.pciv_bytes.proofs.SumLaws.{flag-le}
+use Rattle.pciv_format.specs.Layout.{overflowCount}
 use Rattle.pciv_format.specs.Parts.{Parts, lowestSlot}
 use Rattle.pciv_format.specs.Check.{fileParts}
-use Rattle.pciv_format.specs.Mask.{maskValue}
 use Rattle.pciv_format.proofs.PartsLaws.{entry-good}
 use Rattle.pciv_build.proofs.EntriesLaws.{EntriesLeft, entries-start}
 use Rattle.pciv_map.proofs.MapLaws.{entry-inside}
 use Rattle.pciv_masked.specs.Masked.{maskedAt}
 use Rattle.pciv_masked.specs.declared.bytes.MaskedOp.the-variants.{Keep}
 use Rattle.pciv_masked.proofs.ByteLaws.{mask-room}
-use Rattle.pciv_masked.proofs.KeptLaws.{kept-room, kept-put, kept-skip, kept-written}
+use Rattle.pciv_masked.proofs.KeptLaws.{kept-room, kept-here, kept-more, kept-written}
 use borrow.Author.Needs.{needs}
 use Rattle.pciv_masked.proofs.kept.put_kept.Statement.{statement}
 use Rattle.pciv_masked.proofs.kept.put_kept.Tie as tie
 
 abbrev Inv-loop : tie.InvT-loop
-Inv-loop out₀ file n k words at₀ j₀ out at j =
+Inv-loop out₀ file n k words count at₀ end j₀ out at j =
     (j ≤ k) × EntriesLeft n (maskedAt Keep (fileParts file n k) words) out₀ (40 + n) (lowestSlot (fileParts file n k) j) out at
 
 abbrev μ-loop : tie.MeasureT-loop
-μ-loop out₀ file n k words at₀ j₀ out at j = k - j
+μ-loop out₀ file n k words count at₀ end j₀ out at j = k - j
 
 abbrev start : tie.In-loop Inv-loop μ-loop → tie.Start Inv-loop μ-loop
 start c = c .before .before .before .before .before
@@ -32,75 +34,82 @@ parts s = fileParts (s .args .file .now) (s .args .n) (s .args .k)
 bytes : (c : tie.In-loop Inv-loop μ-loop) → ((i : ℕ) → parts (start c) .byte i < 256)
 bytes c i = c .before .before .before .shared-slice-known .given (40 + i) .fits
 
--- the bit of the entry's slot
-tested : (c : tie.After-bit-of Inv-loop μ-loop)
-    → (let w = c .before .before .before in
-    c .bit-of .result ≡ maskValue (start w .args .words .now) (parts (start w) .slot (w .before .loop .j)))
-tested c =
-    let e = c .before .before in
-    c .bit-of .ensures ∙ ap (maskValue (start (e .before) .args .words .now)) (e .entry-slot .ensures)
+-- an entry is left
+more : (c : tie.In-loop Inv-loop μ-loop)
+    → (let s = start c in
+    c .before .loop .at < 40 + s .args .n + 12 * overflowCount (s .args .n) (maskedAt Keep (parts s) (s .args .words .now)))
+more c = omega (arith, c .loop-test .taken, start c .pre .1 .1 .0)
+
+inside : (c : tie.In-loop Inv-loop μ-loop) → c .before .loop .j < start c .args .k
+inside c =
+    let s = start c in
+    kept-here (parts s) (s .pre .0 .parts) (bytes c) (s .args .words .now) (c .before .loop .inv .0) (c .before .loop .inv .1) (more c)
+
+room : (c : tie.In-loop Inv-loop μ-loop) → c .before .loop .at + 12 ≤ length (c .before .loop .out)
+room c =
+    let s = start c in
+    kept-room (parts s) (s .pre .0 .parts) (bytes c) (s .args .words .now) (c .before .loop .inv .0) (c .before .loop .inv .1) (more c)
 
 add-at : tie.Need-add-at Inv-loop μ-loop
 add-at c = search needs
 
+mul-end : tie.Need-mul-end Inv-loop μ-loop
+mul-end c = search needs
+
+add-end : tie.Need-add-end Inv-loop μ-loop
+add-end c = search needs
+
 loop-holds : tie.Need-loop-holds Inv-loop μ-loop
 loop-holds c =
     let s = c .before .before .before in
-    (omega arith, entries-start (s .args .n) (maskedAt Keep (parts s) (s .args .words .now)) (s .args .out .now) (40 + s .args .n) (s .pre .1 .1))
+    let v = maskedAt Keep (parts s) (s .args .words .now) in
+    (omega arith, entries-start (s .args .n) v (s .args .out .now) (40 + s .args .n) (omega (arith, s .pre .1 .1)))
 
 entry-slot-requires : tie.Need-entry-slot-requires Inv-loop μ-loop
 entry-slot-requires c κs =
     let s = start c in
-    entry-inside (s .args .file .now) (s .args .n) (s .args .k) (s .pre .0) (c .before .loop .j) (c .loop-test .taken)
+    entry-inside (s .args .file .now) (s .args .n) (s .args .k) (s .pre .0) (c .before .loop .j) (inside c)
 
 entry-distance-requires : tie.Need-entry-distance-requires Inv-loop μ-loop
-entry-distance-requires c κs = entry-slot-requires (c .before) κs
+entry-distance-requires c κs = entry-slot-requires (c .before .before) κs
+
+put-entry-requires : tie.Need-put-entry-requires Inv-loop μ-loop
+put-entry-requires c κs = room (c .before .before .before)
 
 bit-of-requires : tie.Need-bit-of-requires Inv-loop μ-loop
 bit-of-requires c κs =
-    let e = c .before in
+    let e = c .before .before .before .before .before in
     let w = e .before in
     let s = start w in
-    let good = entry-good (parts s) (s .pre .0 .parts) (w .before .loop .j) (w .loop-test .taken) in
+    let good = entry-good (parts s) (s .pre .0 .parts) (w .before .loop .j) (inside w) in
     omega (arith, good .inside, e .entry-slot .ensures, mask-room (s .pre .1 .0))
 
-add-j : tie.Need-add-j Inv-loop μ-loop
-add-j c = search needs
+cast-at : tie.Need-cast-at Inv-loop μ-loop
+cast-at c = search needs
 
-put-entry-requires : tie.Need-put-entry-requires Inv-loop μ-loop
-put-entry-requires c κs =
-    let t = c .before in
-    let w = t .before .before .before .before in
-    let s = start w in
-    kept-room (parts s) (s .pre .0 .parts) (bytes w) (s .args .words .now) (w .loop-test .taken) (w .before .loop .inv .1)
-    (omega (arith, t .if1 .taken, tested (t .before)))
+mul-at : tie.Need-mul-at Inv-loop μ-loop
+mul-at c = omega (arith, flag-le (ltb 0 (c .bit-of .result)))
+
+add-at-2 : tie.Need-add-at-2 Inv-loop μ-loop
+add-at-2 c =
+    omega (arith, flag-le (ltb 0 (c .bit-of .result)), room (c .before .before .before .before .before .before .before))
+
+add-j : tie.Need-add-j Inv-loop μ-loop
+add-j c = omega (arith, inside (c .before .before .before .before .before .before .before))
 
 loop-less : tie.Need-loop-less Inv-loop μ-loop
-loop-less c = search needs
+loop-less c = omega (arith, inside (c .before .before .before .before .before .before .before))
 
 loop-again : tie.Need-loop-again Inv-loop μ-loop
 loop-again c =
-    let e = c .before .before in
-    let t = e .before .before in
-    let d = t .before .before in
-    let w = d .before .before in
+    let p = c .before .before .before in
+    let d = p .before in
+    let e = d .before .before in
+    let w = e .before in
     let s = start w in (
-      omega arith,
-      kept-put (parts s) (s .pre .0 .parts) (bytes w) (s .args .words .now) (w .loop-test .taken) (w .before .loop .inv .1)
-          (omega (arith, t .if1 .taken, tested (t .before))) _ _ _ _ (d .before .entry-slot .ensures) (d .entry-distance .ensures)
-          (e .put-entry .ensures .1) (e .put-entry .ensures .0),
-    )
-
-loop-less-2 : tie.Need-loop-less-2 Inv-loop μ-loop
-loop-less-2 c = search needs
-
-loop-again-2 : tie.Need-loop-again-2 Inv-loop μ-loop
-loop-again-2 c =
-    let w = c .before .before .before .before in
-    let s = start w in (
-      omega arith,
-      kept-skip (parts s) (s .pre .0 .parts) (bytes w) (s .args .words .now) (w .loop-test .taken) (w .before .loop .inv .1)
-          (omega (arith, c .if1 .left, tested (c .before))),
+      omega (arith, inside w),
+      kept-more (parts s) (s .pre .0 .parts) (bytes w) (s .args .words .now) (inside w) (w .before .loop .inv .1) (more w) _ _ _ _
+          (e .entry-slot .ensures) (d .entry-distance .ensures) (c .bit-of .ensures) (p .put-entry .ensures .1),
     )
 
 same-length : tie.Need-same-length Inv-loop μ-loop
@@ -108,11 +117,8 @@ same-length c = search needs
 
 returns : tie.Need-returns Inv-loop μ-loop
 returns c =
-    let l = c .before .loop in
-    let k = c .before .before .before in
-    let s = k .before .before in
-    kept-written (parts s) (s .pre .0 .parts) (λ i. k .shared-slice-known .given (40 + i) .fits) (s .args .words .now)
-    (l .inv .0) (c .loop-test .left) (l .inv .1)
+    let s = c .before .before .before .before .before in
+    kept-written (c .before .loop .inv .1) (omega (arith, c .loop-test .left, s .pre .1 .1 .0))
 
 pub put-kept-spec : {M : Type 1} → statement M
 put-kept-spec =
@@ -121,15 +127,18 @@ put-kept-spec =
     Inv-loop
     μ-loop
     add-at
+    mul-end
+    add-end
     loop-holds
     entry-slot-requires
     entry-distance-requires
-    bit-of-requires
-    add-j
     put-entry-requires
+    bit-of-requires
+    cast-at
+    mul-at
+    add-at-2
+    add-j
     loop-less
     loop-again
-    loop-less-2
-    loop-again-2
     same-length
     returns)

@@ -123,7 +123,7 @@ put-entries-requires c κs =
           fits (e .before),
           (
             holds-primary (s .args .n) (v s) _ _ (omega (arith, b .begin .kept .0, g .entries)) (p .put-primary .ensures),
-            omega (arith, p .put-primary .kept .0, b .begin .kept .0, g .entries, e .count-overflow .ensures),
+            (e .count-overflow .ensures, omega (arith, p .put-primary .kept .0, b .begin .kept .0, g .entries)),
           ),
         ),
       ),

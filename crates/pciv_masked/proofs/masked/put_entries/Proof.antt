@@ -1,8 +1,7 @@
 -- Proves masked::put_entries: in each case the entries are those of the case.
 use mathlib.Core.Path.{_≡_}
 use mathlib.Core.List.{List}
-use Prim.Native.Nat.{ℕ, _+_, _*_, _≤_}
-use lib.ListN.{length}
+use Prim.Native.Nat.{ℕ, _+_}
 use lib.Seq.{sets}
 use Rattle.pciv_format.specs.Layout.{overflowCount, overflowPart}
 use Rattle.pciv_format.specs.Parts.{Parts}
@@ -16,8 +15,8 @@ use Rattle.pciv_masked.proofs.masked.put_entries.Statement.{statement}
 use Rattle.pciv_masked.proofs.masked.put_entries.Tie as tie
 
 module _ (P : Parts) (ws : List ℕ) (n : ℕ) (d : List ℕ) {op case : MaskedOp} (e : op ≡ case) where
-  room-in-case : 40 + n + 12 * overflowCount n (maskedAt op P ws) ≤ length d → 40 + n + 12 * overflowCount n (maskedAt case P ws) ≤ length d
-  room-in-case room = rw (← e) room
+  count-in-case : (count : ℕ) → count ≡ overflowCount n (maskedAt op P ws) → count ≡ overflowCount n (maskedAt case P ws)
+  count-in-case count is = rw (← e) is
 
   fits-in-case : Fits n (maskedAt op P ws) → Fits n (maskedAt case P ws)
   fits-in-case fits = rw (← e) fits
@@ -38,7 +37,9 @@ put-kept-requires : tie.Need-put-kept-requires
 put-kept-requires c κs =
     let t = c .before in
     let s = t .before .before .before .before .before in
-    (s .pre .0, (s .pre .1 .0, room-in-case (parts s) (s .args .words .now) (s .args .n) (s .args .out .now) (t .enum-told .given .1) (s .pre .1 .1 .1 .1)))
+    let is = s .pre .1 .1 .1 .1 .0 in
+    let e = t .enum-told .given .1 in
+    (s .pre .0, (s .pre .1 .0, (count-in-case (parts s) (s .args .words .now) (s .args .n) (s .args .out .now) e _ is, s .pre .1 .1 .1 .1 .1)))
 
 enum-told-2 : tie.Need-enum-told-2
 enum-told-2 c = search needs
@@ -55,7 +56,10 @@ put-incremented-requires c κs =
       s .pre .0,
       (
         s .pre .1 .0,
-        (fits-in-case P ws n d e (s .pre .1 .1 .0), (holds-in-case P ws n d e (s .pre .1 .1 .1 .0), room-in-case P ws n d e (s .pre .1 .1 .1 .1))),
+        (
+          fits-in-case P ws n d e (s .pre .1 .1 .0),
+          (holds-in-case P ws n d e (s .pre .1 .1 .1 .0), (count-in-case P ws n d e _ (s .pre .1 .1 .1 .1 .0), s .pre .1 .1 .1 .1 .1)),
+        ),
       ),
     )
 

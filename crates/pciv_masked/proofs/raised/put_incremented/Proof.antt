@@ -1,22 +1,28 @@
--- Proves raised::put_incremented. Invariant: `Raising`. Falls: n - slot.
-use Prim.Native.Nat.{ℕ, _+_, _-_, _≤_, _<_}
+-- Proves raised::put_incremented. Invariant: `Raising`. Falls: end - at.
+use mathlib.Core.Path.{_≡_, refl, _∙_}
+use Prim.Native.Nat.{ℕ, _+_, _-_, _*_, _≤_, _<_}
 use native.Mathlib.Omega.{arith}
+use lib.ListN.{length}
+use Rattle.pciv_bytes.specs.LittleEndian.{get}
 use Rattle.pciv_bytes.proofs.SumLaws.{flag-le}
+use Rattle.pciv_format.specs.Layout.{overflowCount}
 use Rattle.pciv_format.specs.Parts.{Parts}
 use Rattle.pciv_format.specs.Check.{fileParts}
 use Rattle.pciv_format.specs.Mask.{maskHas}
-use Rattle.pciv_build.proofs.EntriesLaws.{entries-room}
+use Rattle.pciv_build.proofs.FillLaws.{same-count, fill-start, fill-over, fill-end}
+use Rattle.pciv_masked.specs.Masked.{maskedAt}
+use Rattle.pciv_masked.specs.declared.bytes.MaskedOp.the-variants.{Increment}
 use Rattle.pciv_masked.proofs.ByteLaws.{mask-room}
-use Rattle.pciv_masked.proofs.RaisedLaws.{Raising, raising-start, raising-more, raising-end}
+use Rattle.pciv_masked.proofs.RaisedLaws.{Raising, RaisingAt, raising-start, raising-next, raising-more}
 use borrow.Author.Needs.{needs}
 use Rattle.pciv_masked.proofs.raised.put_incremented.Statement.{statement}
 use Rattle.pciv_masked.proofs.raised.put_incremented.Tie as tie
 
 abbrev Inv-loop : tie.InvT-loop
-Inv-loop out₀ file n k words at₀ j₀ slot₀ out at j slot = Raising (fileParts file n k) words out₀ slot out at j
+Inv-loop out₀ file n k words count at₀ end j₀ out at j = Raising (fileParts file n k) words out₀ out at j
 
 abbrev μ-loop : tie.MeasureT-loop
-μ-loop out₀ file n k words at₀ j₀ slot₀ out at j slot = n - slot
+μ-loop out₀ file n k words count at₀ end j₀ out at j = end - at
 
 abbrev entry : tie.After-shared-slice-known2 Inv-loop μ-loop → tie.Start Inv-loop μ-loop
 entry c = c .before .before .before
@@ -24,90 +30,121 @@ entry c = c .before .before .before
 abbrev parts : tie.Start Inv-loop μ-loop → Parts
 parts s = fileParts (s .args .file .now) (s .args .n) (s .args .k)
 
+-- the distances of the result
+abbrev v : tie.Start Inv-loop μ-loop → ℕ → ℕ
+v s = maskedAt Increment (parts s) (s .args .words .now)
+
 bytes : (c : tie.After-shared-slice-known2 Inv-loop μ-loop) → ((i : ℕ) → parts (entry c) .byte i < 256)
 bytes c i = c .before .shared-slice-known .given (40 + i) .fits
 
-abbrev known : tie.In-loop Inv-loop μ-loop → tie.After-shared-slice-known2 Inv-loop μ-loop
-known c = c .before .before .before .before
+-- from the loop: where the map is known
+abbrev known : tie.At-loop Inv-loop μ-loop → tie.After-shared-slice-known2 Inv-loop μ-loop
+known c = c .before .before .before .before .before
 
-small : (c : tie.After-bit-of Inv-loop μ-loop) → c .bit-of .result ≤ 1
-small c =
-    let w = c .before .before .before in
-    omega (arith, c .bit-of .ensures, flag-le (maskHas (entry (known w) .args .words .now) (w .before .loop .slot)))
+room : (s : tie.Start Inv-loop μ-loop) → 40 + s .args .n + 12 * overflowCount (s .args .n) (v s) ≤ length (s .args .out .now)
+room s = omega (arith, s .pre .1 .1 .1 .1 .0, s .pre .1 .1 .1 .1 .1)
+
+-- the cursor at the next slot in overflow
+next-at : (c : tie.In-loop Inv-loop μ-loop)
+    → (let l = c .before .loop in
+    let s = entry (known (c .before)) in
+    (slot : ℕ) → slot ≡ get 8 (l .out) (l .at) → RaisingAt (parts s) (s .args .words .now) (l .inv .from) (l .out) (l .at) (l .j) slot)
+next-at c slot is =
+    let l = c .before .loop in
+    let k = known (c .before) in
+    let s = entry k in
+    raising-next (parts s) (s .args .words .now) _ (s .pre .0 .parts) (bytes k) (l .out) (l .at) (l .j) (l .inv)
+    (omega (arith, c .loop-test .taken, s .pre .1 .1 .1 .1 .0)) slot is
+
+put-slots-requires : tie.Need-put-slots-requires Inv-loop μ-loop
+put-slots-requires c κs =
+    let s = entry (c .before) in
+    omega (arith, same-count (s .args .n) (v s) (s .args .out .now) (s .pre .1 .1 .1 .0), room s)
 
 add-at : tie.Need-add-at Inv-loop μ-loop
 add-at c = search needs
 
-next-full-requires : tie.Need-next-full-requires Inv-loop μ-loop
-next-full-requires c κs =
-    let s = entry (c .before) in
-    (omega arith, omega (arith, s .pre .1 .1 .1 .1))
+mul-end : tie.Need-mul-end Inv-loop μ-loop
+mul-end c = search needs
+
+add-end : tie.Need-add-end Inv-loop μ-loop
+add-end c = search needs
 
 loop-holds : tie.Need-loop-holds Inv-loop μ-loop
 loop-holds c =
-    let k = c .before .before in
-    let s = entry k in
-    raising-start (parts s) (s .pre .0 .parts) (bytes k) (s .args .words .now) (s .args .out .now) (s .pre .1 .1 .1 .0) (c .next-full .result)
-    (s .pre .1 .1 .1 .1) (c .next-full .ensures)
+    let p = c .before .before in
+    let s = entry (p .before .before) in
+    raising-start (parts s) (s .args .words .now) _ _
+    (fill-start (s .args .n) (v s) (s .args .out .now) _ (s .pre .1 .1 .1 .0) (room s) (p .put-slots .ensures) (s .pre .0 .header .small))
+
+-- and at the slot that was read
+here : (c : tie.After-get64 Inv-loop μ-loop)
+    → (let d = c .before .before in
+    let l = d .before .loop in
+    let s = entry (known (d .before)) in
+    RaisingAt (parts s) (s .args .words .now) (l .inv .from) (l .out) (l .at) (l .j) (c .get64 .result))
+here c = next-at (c .before .before) (c .get64 .result) (c .get64 .ensures)
+
+get64-requires : tie.Need-get64-requires Inv-loop μ-loop
+get64-requires c κs =
+    let d = c .before in
+    let l = d .before .loop in
+    omega (arith, next-at d (get 8 (l .out) (l .at)) refl .next .room)
 
 take-at-requires : tie.Need-take-at-requires Inv-loop μ-loop
-take-at-requires c κs = (entry (known c) .pre .0, (c .loop-test .taken, c .before .loop .inv .cursor))
+take-at-requires c κs =
+    let d = c .before .before in
+    (entry (known (d .before)) .pre .0, (here c .next .inside, here c .cursor))
 
 bit-of-requires : tie.Need-bit-of-requires Inv-loop μ-loop
 bit-of-requires c κs =
-    let w = c .before .before in
-    omega (arith, w .loop-test .taken, mask-room (entry (known w) .pre .1 .0))
+    let g = c .before .before in
+    let s = entry (known (g .before .before .before)) in
+    omega (arith, here g .next .inside, mask-room (s .pre .1 .0))
 
 cast-put-entry : tie.Need-cast-put-entry Inv-loop μ-loop
-cast-put-entry c = omega (arith, small c)
+cast-put-entry c =
+    let g = c .before .before .before in
+    let s = entry (known (g .before .before .before)) in
+    omega (arith, c .bit-of .ensures, flag-le (maskHas (s .args .words .now) (g .get64 .result)))
 
 add-put-entry : tie.Need-add-put-entry Inv-loop μ-loop
 add-put-entry c =
     let b = c .before in
     let x = b .before .before in
-    let w = x .before in
-    omega (arith, entry (known w) .pre .1 .1 .0 _ (w .loop-test .taken), x .take-at .ensures .is, b .bit-of .ensures)
+    let g = x .before in
+    let s = entry (known (g .before .before .before)) in
+    omega (arith, s .pre .1 .1 .0 _ (here g .next .inside), x .take-at .ensures .is, b .bit-of .ensures)
 
 put-entry-requires : tie.Need-put-entry-requires Inv-loop μ-loop
-put-entry-requires c κs =
-    let w = c .before .before .before .before in
-    entries-room (w .before .loop .inv .left) (w .loop-test .taken) (w .before .loop .inv .full (w .loop-test .taken))
-
-add-next-full : tie.Need-add-next-full Inv-loop μ-loop
-add-next-full c = search needs
-
-next-full-requires-2 : tie.Need-next-full-requires-2 Inv-loop μ-loop
-next-full-requires-2 c κs =
-    let e = c .before .before .before in
-    let w = e .before .before .before .before .before in
-    (omega arith, omega (arith, e .put-entry .kept .0, w .before .loop .inv .left .size, entry (known w) .pre .1 .1 .1 .1))
+put-entry-requires c κs = here (c .before .before .before .before) .next .room
 
 loop-less : tie.Need-loop-less Inv-loop μ-loop
 loop-less c =
-    let w = c .before .before .before .before .before .before .before .before .before in
-    omega (arith, c .next-full2 .ensures .before .low, w .loop-test .taken)
+    let e = c .before .before in
+    let d = e .before .before .before .before .before .before .before in
+    omega (arith, e .put-entry .ensures .0, d .loop-test .taken)
 
 loop-again : tie.Need-loop-again Inv-loop μ-loop
 loop-again c =
-    let e = c .before .before .before .before in
+    let e = c .before .before in
     let b = e .before .before in
     let x = b .before .before in
-    let w = x .before in
-    let k = known w in
-    let s = entry k in
-    raising-more (parts s) (s .pre .0 .parts) (bytes k) (s .args .words .now) (s .args .out .now) (s .pre .1 .1 .1 .0) _ _ _ _ _ _ _ _ _
-    (w .before .loop .inv) (w .loop-test .taken) (x .take-at .ensures) (b .bit-of .ensures) (e .put-entry .ensures .1) (e .put-entry .ensures .0)
-    (c .next-full2 .ensures)
+    let g = x .before in
+    let d = g .before .before in
+    let s = entry (known (d .before)) in
+    raising-more (parts s) (s .args .words .now) _ _ _ _ _ _ _ _ _ (d .before .loop .inv) (here g) (x .take-at .ensures)
+    (b .bit-of .ensures) (e .put-entry .ensures .1) (e .put-entry .ensures .0)
 
 same-length : tie.Need-same-length Inv-loop μ-loop
 same-length c = search needs
 
 returns : tie.Need-returns Inv-loop μ-loop
 returns c =
-    let k = c .before .before .before .before in
-    let s = entry k in
-    raising-end (parts s) (s .pre .0 .parts) (bytes k) (s .args .words .now) (s .args .out .now) (s .pre .1 .1 .1 .0) _ _ _ _
-    (c .before .loop .inv) (c .loop-test .left)
+    let p = c .before .before .before .before in
+    let s = entry (known (c .before)) in
+    fill-end (c .before .loop .inv .fill) (omega (arith, c .loop-test .left, s .pre .1 .1 .1 .1 .0))
+    ∙ fill-over (s .args .n) (v s) (s .args .out .now) _ (s .pre .1 .1 .1 .0) (room s) (p .put-slots .ensures)
 
 pub put-incremented-spec : {M : Type 1} → statement M
 put-incremented-spec =
@@ -115,16 +152,17 @@ put-incremented-spec =
     (tie.spec
     Inv-loop
     μ-loop
+    put-slots-requires
     add-at
-    next-full-requires
+    mul-end
+    add-end
     loop-holds
+    get64-requires
     take-at-requires
     bit-of-requires
     cast-put-entry
     add-put-entry
     put-entry-requires
-    add-next-full
-    next-full-requires-2
     loop-less
     loop-again
     same-length
