@@ -1,6 +1,6 @@
 -- Entries for slots whose distances are not known yet, written in the order of the slots.
 --   BlanksLeft      the invariant: the entries of the slots xs are left
---   -start, -more, -part, -skip, -end    before the first; one entry on, several; none; after the last
+--   -start, -more, -part, -end    before the first; one entry on, several; after the last
 --   blanks-room     there is room for the next ones
 --   blanks-before   what stands before the entries stays as it was
 --   slots-same, word-same    the slots with primary byte 255, and their word, where the primary bytes stay
@@ -8,12 +8,11 @@
 --   slots-word      the same for a word, of which only some bits may be slots
 --   slots-end       none left
 -- Axioms: none.
-use mathlib.Core.Path.{_≡_, refl, sym, ap, subst, _∙_}
-use Prim.Native.Nat.{ℕ, zero, suc, _+_, _-_, _*_, _≤_, _<_, min}
+use mathlib.Core.Path.{_≡_, refl, sym, ap, _∙_}
+use Prim.Native.Nat.{ℕ, _+_, _-_, _*_, _≤_, _<_, min}
 use native.Mathlib.Nat.{le-refl}
 use native.Mathlib.Omega.{arith}
 use native.Mathlib.Decide.{decLe}
-use mathlib.Core.Bool.{Bool, false}
 use mathlib.Core.List.{List, [], _∷_, _++_, append-nil}
 use lib.ListN.{length, getD, length-append}
 use lib.Seq.{sets, length-sets}
@@ -77,9 +76,6 @@ module _ {d₀ : List ℕ} {p₀ : ℕ} {xs₀ d : List ℕ} {p : ℕ} {xs : Lis
       → p' ≡ p + 12 → BlanksLeft d₀ p₀ xs₀ d' p' zs
   blanks-more s zs split d' p' put next =
       blanks-part (s ∷ []) zs split d' p' (put ∙ ap (sets d p) (sym (blanks-one s))) next
-
-  pub blanks-skip : (zs : List ℕ) → xs ≡ zs → BlanksLeft d₀ p₀ xs₀ d p zs
-  blanks-skip zs same = subst (λ (l : List ℕ). BlanksLeft d₀ p₀ xs₀ d p l) same e
 
   pub blanks-end : xs ≡ [] → (p ≡ p₀ + 12 * length xs₀) × (d ≡ sets d₀ p₀ (blankEntries xs₀))
   blanks-end none = (omega (arith, e .count, ap length none), sym (e .rest ∙ rw none (blanks-nil d p)))

@@ -1,5 +1,5 @@
 // The slots in overflow, found by the primary bytes that stand in a buffer: each gets its overflow entry, whose
-// distance the caller fills in. The bytes of a group of slots become the bits of words, which the compiler does many
+// distance the caller fills in. The bytes of a block of slots become the bits of words, which the compiler does many
 // bytes at a time, and the walk goes from one set bit to the next.
 ghost use mathlib.Core.Path.{_≡_};
 ghost use Prim.Native.Nat.{_+_, _-_, _*_, _≤_, min};
@@ -12,16 +12,22 @@ use pciv_flags::flags_into;
 use pciv_format::HEADER_LEN;
 use pciv_format::SENTINEL;
 
-// The words of a group, and its slots, one for each bit.
+// The words of a block, and its slots, one for each bit.
 const WORDS: usize = 64;
-const GROUP: usize = 4096;
+
+const BLOCK: usize = 4096;
 
 // Finds which of the slots from `from` up to `to` have primary byte 255, a bit for each.
 fn find_full(words: &mut [u64], file: &[u8], from: usize, to: usize)
     requires { ⌜ (from ≤ to) × (40 + to ≤ length (now file)) × (to ≤ from + 64 * length (now words)) ⌝ }
     ensures { λ _. ⌜ TellFull (now (words .exit)) (now (file .entry)) from to ⌝ }
 {
-    flags_into(&file[HEADER_LEN + from..HEADER_LEN + to], SENTINEL, true, words);
+    flags_into(
+        &file[HEADER_LEN + from..HEADER_LEN + to],
+        SENTINEL,
+        true,
+        words,
+    );
 }
 
 // Writes the entries of the slots that a word tells, those from `from` on and below `to`, and answers the place after
@@ -46,7 +52,7 @@ fn put_word(out: &mut [u8], place: usize, from: usize, to: usize, flags: u64) ->
     next
 }
 
-// The same for all words of a group.
+// The same for all words of a block.
 fn put_words(out: &mut [u8], place: usize, from: usize, to: usize, words: &[u64]) -> usize
     requires { ⌜ TellFull (now words) (now out) from to ⌝ }
     requires { ⌜ (from ≤ to) × (40 + to ≤ place) × (to ≤ from + 64 * length (now words)) ⌝ }
@@ -65,9 +71,9 @@ fn put_words(out: &mut [u8], place: usize, from: usize, to: usize, words: &[u64]
     next
 }
 
-// Writes the entries of those slots from `from` up to `to`, a group at most, whose primary byte is 255, and answers the
+// Writes the entries of those slots from `from` up to `to`, a block at most, whose primary byte is 255, and answers the
 // place after them.
-fn put_group(out: &mut [u8], place: usize, from: usize, to: usize) -> usize
+fn put_block(out: &mut [u8], place: usize, from: usize, to: usize) -> usize
     requires { ⌜ (from ≤ to) × (to ≤ from + 4096) × (40 + to ≤ place) ⌝ }
     requires { ⌜ place + 12 * length (fullSlots (now out) from (to - from)) ≤ length (now out) ⌝ }
     ensures next { λ r. ⌜ r ≡ place + 12 * length (fullSlots (now (out .entry)) from (to - from)) ⌝ }
@@ -85,9 +91,9 @@ pub fn put_slots(out: &mut [u8], n: usize)
 {
     let mut place = HEADER_LEN + n;
     let mut i = 0;
-    while GROUP <= n - i {
-        place = put_group(out, place, i, i + GROUP);
-        i += GROUP;
+    while BLOCK <= n - i {
+        place = put_block(out, place, i, i + BLOCK);
+        i += BLOCK;
     }
-    put_group(out, place, i, n);
+    put_block(out, place, i, n);
 }

@@ -3,7 +3,7 @@ use mathlib.Core.Path.{_≡_}
 use Prim.Native.Nat.{ℕ, _+_, _-_, _*_, _≤_}
 use native.Mathlib.Nat.{sub-zero}
 use native.Mathlib.Omega.{arith}
-use mathlib.Core.List.{List, _++_}
+use mathlib.Core.List.{_++_}
 use lib.ListN.{length}
 use Rattle.pciv_build.specs.Slots.{fullSlots}
 use Rattle.pciv_build.proofs.SlotsLaws.{BlanksLeft, blanks-start, blanks-room, blanks-before, blanks-part, blanks-end, slots-part, slots-end}
@@ -51,11 +51,11 @@ loop-holds c = rw (sub-zero (c .before .args .n)) (omega arith, blanks-start _ _
 sub-loop : tie.Need-sub-loop Inv-loop μ-loop
 sub-loop c = search needs
 
-add-put-group : tie.Need-add-put-group Inv-loop μ-loop
-add-put-group c = search needs
+add-put-block : tie.Need-add-put-block Inv-loop μ-loop
+add-put-block c = search needs
 
-put-group-requires : tie.Need-put-group-requires Inv-loop μ-loop
-put-group-requires c κs =
+put-block-requires : tie.Need-put-block-requires Inv-loop μ-loop
+put-block-requires c κs =
     let l = c .before .before in
     let all : l .loop .i + 4096 - l .loop .i ≡ 4096 = omega arith in
     ((omega arith, omega arith, omega (arith, l .loop .inv .1 .low)), rw all (room l 4096 (omega arith)))
@@ -72,12 +72,12 @@ loop-again c =
     let l = put .before .before .before in
     let all : l .loop .i + 4096 - l .loop .i ≡ 4096 = omega arith in (
       omega arith,
-      blanks-part (l .loop .inv .1) _ _ (split l 4096 (omega arith)) _ _ (rw all at (put .put-group .ensures .1))
-          (rw all at (put .put-group .ensures .0)),
+      blanks-part (l .loop .inv .1) _ _ (split l 4096 (omega arith)) _ _ (rw all at (put .put-block .ensures .1))
+          (rw all at (put .put-block .ensures .0)),
     )
 
-put-group-requires-2 : tie.Need-put-group-requires-2 Inv-loop μ-loop
-put-group-requires-2 c κs =
+put-block-requires-2 : tie.Need-put-block-requires-2 Inv-loop μ-loop
+put-block-requires-2 c κs =
     let l = c .before .before in
     let h = l .loop .inv .0 in
     ((h, omega arith, l .loop .inv .1 .low), room l (entry l .args .n - l .loop .i) (omega (arith, h)))
@@ -92,8 +92,8 @@ returns c =
     let a = entry l .args in
     let rest : ℕ = a .n - l .loop .i in
     blanks-end
-    (blanks-part (l .loop .inv .1) _ _ (split l rest (omega (arith, l .loop .inv .0))) _ _ (put .put-group2 .ensures .1)
-    (put .put-group2 .ensures .0))
+    (blanks-part (l .loop .inv .1) _ _ (split l rest (omega (arith, l .loop .inv .0))) _ _ (put .put-block2 .ensures .1)
+    (put .put-block2 .ensures .0))
     (slots-end (a .out .now) (a .n) (l .loop .i + rest) (omega (arith, l .loop .inv .0))) .1
 
 pub put-slots-spec : {M : Type 1} → statement M
@@ -105,11 +105,11 @@ put-slots-spec =
     add-place
     loop-holds
     sub-loop
-    add-put-group
-    put-group-requires
+    add-put-block
+    put-block-requires
     add-i
     loop-less
     loop-again
-    put-group-requires-2
+    put-block-requires-2
     same-length
     returns)

@@ -1,11 +1,12 @@
 -- Proves slots::put_words. Invariant: the entries of the slots from `slot` on are left, the first of which word w tells.
 -- Falls: to - slot.
-use mathlib.Core.Path.{_≡_, sym, ap, _∙_}
+use mathlib.Core.Path.{_≡_, sym, _∙_}
 use Prim.Native.Nat.{ℕ, _+_, _-_, _*_, _≤_, _<_, min}
 use native.Mathlib.Omega.{arith}
 use mathlib.Core.List.{List, _++_}
-use lib.ListN.{length}
+use lib.ListN.{getD}
 use Rattle.pciv_bytes.specs.Counts.{byteAt}
+use Rattle.pciv_format.specs.Mask.{word}
 use Rattle.pciv_build.specs.Slots.{isFull, fullSlots}
 use Rattle.pciv_build.proofs.SlotsLaws.{BlanksLeft, blanks-start, blanks-room, blanks-before, blanks-part, blanks-end, word-same, slots-word, slots-end}
 use borrow.Author.Needs.{needs}
@@ -31,6 +32,16 @@ kept : (c : tie.In-loop Inv-loop μ-loop)
     → (let l = c .before .loop in
     (j : ℕ) → l .slot ≤ j → j < l .slot + count (c .before) → byteAt (l .out) (40 + j) ≡ byteAt (entry (c .before) .args .out .now) (40 + j))
 kept c j h₁ h₂ = blanks-before (c .before .loop .inv .1) (40 + j) (omega (arith, c .loop-test .taken, entry (c .before) .pre .1 .0 .1))
+
+-- so the word tells them still
+told : (c : tie.In-loop Inv-loop μ-loop)
+    → (let l = c .before .loop in
+    getD (entry (c .before) .args .words .now) (l .w) 0 ≡ word (isFull (l .out)) (l .slot) (count (c .before)))
+told c =
+    let l = c .before .loop in
+    let s = entry (c .before) in
+    (rw (sym (l .inv .0)) at (s .pre .0 (l .w) (omega (arith, l .inv .0, c .loop-test .taken))))
+    ∙ word-same (s .args .out .now) (l .out) (l .slot) (count (c .before)) (kept c)
 
 -- the slots that are left: those of the next word, and then the others
 split : (c : tie.In-loop Inv-loop μ-loop)
@@ -58,9 +69,8 @@ put-word-requires c κs =
     let l = d .before .loop in
     let s = entry (d .before) in
     let a = s .args in
-    let k : ℕ = count (d .before) in
-    let flags = s .pre .0 (l .w) (omega (arith, l .inv .0, d .loop-test .taken)) in (
-      (rw (sym (l .inv .0)) at flags) ∙ word-same (a .out .now) (l .out) (l .slot) k (kept d),
+    let k : ℕ = count (d .before) in (
+      told d,
       (
         (omega (arith, d .loop-test .taken), omega (arith, l .inv .1 .low, s .pre .1 .0 .1)),
         blanks-room (l .inv .1) (fullSlots (l .out) (l .slot) k) (fullSlots (a .out .now) (l .slot + 64) (a .to - (l .slot + 64)))
@@ -82,7 +92,10 @@ loop-again c =
     let p = c .before .before in
     let d = p .before .before .before in
     let l = d .before .loop in
-    (omega (arith, l .inv .0), blanks-part (l .inv .1) _ _ (split d) _ _ (p .put-word .ensures .1) (p .put-word .ensures .0))
+    let ys : List ℕ = fullSlots (l .out) (l .slot) (count (d .before)) in (
+      omega (arith, l .inv .0),
+      blanks-part (l .inv .1) ys _ (split d) (p .put-word .last .0) _ (p .put-word .ensures .1) (p .put-word .ensures .0),
+    )
 
 same-length : tie.Need-same-length Inv-loop μ-loop
 same-length c = search needs

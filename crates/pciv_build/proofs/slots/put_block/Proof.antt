@@ -1,8 +1,8 @@
--- Proves slots::put_group: what the words tell is what is written.
+-- Proves slots::put_block: what the words tell is what is written.
 use native.Mathlib.Omega.{arith}
 use borrow.Author.Needs.{needs}
-use Rattle.pciv_build.proofs.slots.put_group.Statement.{statement}
-use Rattle.pciv_build.proofs.slots.put_group.Tie as tie
+use Rattle.pciv_build.proofs.slots.put_block.Statement.{statement}
+use Rattle.pciv_build.proofs.slots.put_block.Tie as tie
 
 slice-aggregate-find-full : tie.Need-slice-aggregate-find-full
 slice-aggregate-find-full c = search needs
@@ -25,8 +25,8 @@ same-length c = search needs
 returns : tie.Need-returns
 returns c = search needs
 
-pub put-group-spec : {M : Type 1} → statement M
-put-group-spec =
+pub put-block-spec : {M : Type 1} → statement M
+put-block-spec =
     tie.close
     (tie.spec
     slice-aggregate-find-full
