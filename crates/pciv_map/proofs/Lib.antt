@@ -4,3 +4,4 @@ pub mod EntryLaws
 pub mod PatchLaws
 pub mod MapLaws
 pub mod CursorLaws
+pub mod EightLaws

@@ -20,7 +20,10 @@ use pciv_format::FileAnswer;
 use pciv_format::HEADER_LEN;
 use pciv_format::NumberAnswer;
 use pciv_format::Refusal;
+use pciv_format::SENTINEL;
 use pciv_format::SLOT_OUT_OF_RANGE;
+use pciv_map::eight::distances_few;
+use pciv_map::eight::distances8;
 use pciv_map::lookup::distance_at;
 use pciv_map::scan::scan_into;
 use pciv_map::totals::readings_of;
@@ -88,18 +91,29 @@ fn first_outside(slots: &[usize], n: usize) -> usize
     i
 }
 
-// The distances at the slots of a list, which are all below n.
+// The distances at the slots of a list, which are all below n. The primary bytes are written first; the places of
+// those that are in overflow wait until there are eight.
 fn distances_into(file: &[u8], n: usize, k: usize, slots: &[usize], out: &mut [u32])
     requires { ⌜ CheckedMap (now file) n k ⌝ }
     requires { ⌜ ((i : ℕ) → i < length (now slots) → getD (now slots) i 0 < n) ⌝ }
     requires { ⌜ length (now slots) ≤ length (now out) ⌝ }
     ensures { λ _. ⌜ now (out .exit) ≡ sets (now (out .entry)) 0 (map (valueOf (fileParts (now (file .entry)) n k)) (now (slots .entry))) ⌝ }
 {
+    let mut places = [0usize; 8];
+    let mut waiting = 0;
     let mut i = 0;
     while i < slots.len() {
-        out[i] = distance_at(file, n, k, slots[i]);
+        let byte = file[HEADER_LEN + slots[i]];
+        out[i] = byte as u32;
+        places[waiting] = i;
+        waiting += (byte == SENTINEL) as usize;
         i += 1;
+        if waiting == 8 {
+            distances8(out, file, n, k, slots, &places);
+            waiting = 0;
+        }
     }
+    distances_few(out, file, n, k, slots, &places, waiting);
 }
 
 // The distances at a list of slots, to the front of the caller's list; answers how many.
