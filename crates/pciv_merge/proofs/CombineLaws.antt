@@ -2,7 +2,7 @@
 --   shrinks-minimum, -difference    the result is never above the first distance
 --   SameBytes o p          the primary byte of a result of o is p of the primary bytes
 --   same-minimum, -maximum
---   combined-primary       so the primary array of a combination is p of the two primary arrays
+--   combined-parts         so the primary array of a combination is p of the two primary arrays; its entries follow
 --   combined-count         and its slots in overflow are those where that is 255
 --   SameInline o p         the same where the first distance is stored inline
 --   same-difference
@@ -26,7 +26,7 @@ use Rattle.pciv_bytes.specs.declared.pairs.ByteOp.the-variants.{Min, Max, Sub}
 use Rattle.pciv_bytes.proofs.RangesLaws.{length-table, getD-table, table-cong}
 use Rattle.pciv_bytes.proofs.SumLaws.{sumFrom-cong}
 use Rattle.pciv_bytes.proofs.WriteLaws.{getD-sets}
-use Rattle.pciv_format.specs.Layout.{inOverflow, primaryByte, primary, overflowCount}
+use Rattle.pciv_format.specs.Layout.{inOverflow, primaryByte, primary, overflowCount, overflowPart}
 use Rattle.pciv_format.specs.Parts.{Parts, valueOf, SoundParts}
 use Rattle.pciv_format.specs.Check.{fileParts}
 use Rattle.pciv_format.specs.Arith.{slotOp}
@@ -36,7 +36,7 @@ use Rattle.pciv_format.proofs.PartsLaws.{primaryByte-overflow, primaryByte-inli
 use Rattle.pciv_map.proofs.MapLaws.{primaryOf, primary-length, primary-at}
 use Rattle.pciv_build.proofs.EntriesLaws.{overflowCount-sum}
 use Rattle.pciv_check.specs.Pair.{CheckedPair}
-use Rattle.pciv_merge.specs.Merge.{combinedOf, combinedBytes, Shrinks, InlineRight}
+use Rattle.pciv_merge.specs.Merge.{combinedOf, combinedBytes, partsPut, Shrinks, InlineRight}
 
 pub shrinks-minimum : Shrinks Minimum
 shrinks-minimum x y = omega arith
@@ -78,11 +78,19 @@ module _ (o : SlotOp) (p : ByteOp) (same : SameBytes o p) (A B : Parts) (n : A .
       same (valueOf A i) (valueOf B i)
       ∙ ap₂ (byteOp p) (primaryByte-valueOf A s first i h) (primaryByte-valueOf B t second i (omega arith))
 
-  pub combined-primary : primary (A .n) (combinedOf o A B) ≡ table (combinedBytes p A B) 0 (A .n)
+  combined-primary : primary (A .n) (combinedOf o A B) ≡ table (combinedBytes p A B) 0 (A .n)
   unfolding primary
   combined-primary =
       table-cong (λ (i : ℕ). primaryByte (combinedOf o A B i)) (combinedBytes p A B) 0 (A .n)
       (λ i h. combined-byte i (omega arith))
+
+  -- with the overflow entries behind it
+  pub combined-parts : (d d₁ d₂ : List ℕ) → d₁ ≡ sets d 40 (table (combinedBytes p A B) 0 (A .n))
+      → d₂ ≡ sets d₁ (40 + A .n) (overflowPart (A .n) (combinedOf o A B)) → d₂ ≡ partsPut (A .n) (combinedOf o A B) d
+  combined-parts d d₁ d₂ first second =
+      second
+      ∙ ap (λ (l : List ℕ). sets l (40 + A .n) (overflowPart (A .n) (combinedOf o A B)))
+      (first ∙ ap (sets d 40) (sym combined-primary))
 
   pub combined-count : sumFrom (λ (i : ℕ). flag (eqb (combinedBytes p A B i) 255)) 0 (A .n) ≡ overflowCount (A .n) (combinedOf o A B)
   combined-count =

@@ -2,6 +2,7 @@
 --   combinedOf o A B i       the combined distance at slot i
 --   combinedBytes o A B i    the operation o on the primary bytes of slot i
 --   resultOf o a b n ka kb   the result of a routine on two files
+--   partsPut n v d           the buffer d with the primary array and the overflow entries of v in their places
 --   combinedInto o .. room   the file of the combination into a buffer of `room` bytes: its summary, or refusal 12
 --   combinedBuffer o .. out  the buffer after that
 --   Shrinks o                the result is never above the first distance
@@ -13,9 +14,10 @@ use mathlib.Core.Path.{_≡_}
 use Prim.Native.Nat.{ℕ, _+_, _≤_, _<_}
 use mathlib.Core.List.{List}
 use lib.ListN.{length, getD}
+use lib.Seq.{sets}
 use Rattle.pciv_bytes.specs.Pairs.{byteOp}
 use Rattle.pciv_bytes.specs.declared.pairs.ByteOp.{ByteOp}
-use Rattle.pciv_format.specs.Layout.{primaryByte}
+use Rattle.pciv_format.specs.Layout.{primaryByte, primary, overflowPart}
 use Rattle.pciv_format.specs.Refusals.{Outcome}
 use Rattle.pciv_format.specs.Parts.{Parts, lowestSlot, valueOf}
 use Rattle.pciv_format.specs.Check.{fileParts}
@@ -43,6 +45,9 @@ slotOpOf Difference = SlotOps.Difference
 
 abbrev pub resultOf : MergeOp → List ℕ → List ℕ → ℕ → ℕ → ℕ → ℕ → ℕ
 resultOf o a b n ka kb = combinedOf (slotOpOf o) (fileParts a n ka) (fileParts b n kb)
+
+abbrev pub partsPut : ℕ → (ℕ → ℕ) → List ℕ → List ℕ
+partsPut n v d = sets (sets d 40 (primary n v)) (40 + n) (overflowPart n v)
 
 abbrev pub combinedInto : MergeOp → List ℕ → List ℕ → ℕ → ℕ → ℕ → ℕ → Outcome Summary
 combinedInto o a b n ka kb room = fileInto n (resultOf o a b n ka kb) room

@@ -3,16 +3,15 @@
 ghost use mathlib.Core.Path.{_≡_};
 ghost use Prim.Native.Nat.{_+_, _*_, _≤_};
 ghost use lib.ListN.{length};
-ghost use lib.Seq.{sets};
-ghost use Rattle.pciv_format.specs.Layout.{primary, overflowCount, overflowPart};
+ghost use Rattle.pciv_format.specs.Layout.{overflowCount};
 ghost use Rattle.pciv_format.specs.Refusals.{fileAnswer};
 ghost use Rattle.pciv_check.specs.Pair.{CheckedPair};
-ghost use Rattle.pciv_merge.specs.Merge.{resultOf, combinedInto, combinedBuffer};
+ghost use Rattle.pciv_merge.specs.Merge.{resultOf, partsPut, combinedInto, combinedBuffer};
 use crate::both::count_both;
 use crate::joint::put_joint;
 use crate::led::count_led;
-use crate::led::mend_led;
 use crate::led::put_led;
+use crate::led::settle_led;
 use crate::primary::put_primary;
 use pciv_build::begin;
 use pciv_build::finish;
@@ -40,33 +39,26 @@ fn count_overflow(op: MergeOp, a: &[u8], b: &[u8], n: usize, ka: usize, kb: usiz
     }
 }
 
-// Writes the primary array of the result.
-fn put_bytes(out: &mut [u8], op: MergeOp, a: &[u8], b: &[u8], n: usize, ka: usize, kb: usize)
-    requires { ⌜ CheckedPair (now a) (now b) n ka kb ⌝ }
-    requires { ⌜ 40 + n ≤ length (now out) ⌝ }
-    ensures { λ _. ⌜ now (out .exit) ≡ sets (now (out .entry)) 40 (primary n (resultOf op (now (a .entry)) (now (b .entry)) n ka kb)) ⌝ }
-{
-    match op {
-        MergeOp::Minimum => put_primary(out, ByteOp::Min, a, b, n, ka, kb),
-        MergeOp::Maximum => put_primary(out, ByteOp::Max, a, b, n, ka, kb),
-        MergeOp::Difference => {
-            put_primary(out, ByteOp::Sub, a, b, n, ka, kb);
-            mend_led(out, SlotOp::Difference, a, b, n, ka, kb);
-        }
-    }
-}
-
-// Writes the overflow entries of the result.
-fn put_entries(out: &mut [u8], op: MergeOp, a: &[u8], b: &[u8], n: usize, ka: usize, kb: usize)
+// Writes the primary array and the overflow entries of the result.
+fn put_parts(out: &mut [u8], op: MergeOp, a: &[u8], b: &[u8], n: usize, ka: usize, kb: usize)
     requires { ⌜ CheckedPair (now a) (now b) n ka kb ⌝ }
     requires { ⌜ 40 + n + 12 * overflowCount n (resultOf op (now a) (now b) n ka kb) ≤ length (now out) ⌝ }
-    ensures { λ _. ⌜ now (out .exit) ≡ sets (now (out .entry)) (40 + n) (overflowPart n (resultOf op (now (a .entry)) (now (b .entry)) n ka kb)) ⌝ }
+    ensures { λ _. ⌜ now (out .exit) ≡ partsPut n (resultOf op (now (a .entry)) (now (b .entry)) n ka kb) (now (out .entry)) ⌝ }
 {
     let from = HEADER_LEN + n;
     match op {
-        MergeOp::Minimum => put_led(out, SlotOp::Minimum, a, b, n, ka, kb, from),
-        MergeOp::Maximum => put_joint(out, a, b, n, ka, kb, from),
-        MergeOp::Difference => put_led(out, SlotOp::Difference, a, b, n, ka, kb, from),
+        MergeOp::Minimum => {
+            put_primary(out, ByteOp::Min, a, b, n, ka, kb);
+            put_led(out, SlotOp::Minimum, a, b, n, ka, kb, from);
+        }
+        MergeOp::Maximum => {
+            put_primary(out, ByteOp::Max, a, b, n, ka, kb);
+            put_joint(out, a, b, n, ka, kb, from);
+        }
+        MergeOp::Difference => {
+            put_primary(out, ByteOp::Sub, a, b, n, ka, kb);
+            settle_led(out, SlotOp::Difference, a, b, n, ka, kb);
+        }
     }
 }
 
@@ -89,8 +81,7 @@ pub fn combine_into(
     match begun {
         FileAnswer::Refused(r) => FileAnswer::Refused(r),
         FileAnswer::Done(s) => {
-            put_bytes(out, op, a, b, n, ka, kb);
-            put_entries(out, op, a, b, n, ka, kb);
+            put_parts(out, op, a, b, n, ka, kb);
             finish(out, n, k);
             FileAnswer::Done(s)
         }

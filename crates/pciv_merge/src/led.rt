@@ -4,11 +4,11 @@ ghost use mathlib.Core.Path.{_≡_};
 ghost use Prim.Native.Nat.{_+_, _*_, _≤_, _<_};
 ghost use lib.ListN.{length, getD};
 ghost use lib.Seq.{sets};
-ghost use Rattle.pciv_format.specs.Layout.{primary, overflowCount, overflowPart};
+ghost use Rattle.pciv_format.specs.Layout.{overflowCount, overflowPart};
 ghost use Rattle.pciv_format.specs.Parts.{lowestSlot, entryOf};
 ghost use Rattle.pciv_format.specs.Check.{fileParts, CheckedMap};
 ghost use Rattle.pciv_check.specs.Pair.{CheckedPair};
-ghost use Rattle.pciv_merge.specs.Merge.{combinedOf, Shrinks, Before, FoundAt, CombinedAt, InlineRight};
+ghost use Rattle.pciv_merge.specs.Merge.{combinedOf, partsPut, Shrinks, Before, FoundAt, CombinedAt, InlineRight};
 use crate::slots::slot_op;
 use pciv_build::primary_byte;
 use pciv_build::put_entry;
@@ -143,20 +143,27 @@ pub fn put_led(
     }
 }
 
-// Puts the primary bytes right where the first map is in overflow; the others are right.
-pub fn mend_led(out: &mut [u8], op: SlotOp, a: &[u8], b: &[u8], n: usize, ka: usize, kb: usize)
+// Puts the primary bytes right where the first map is in overflow, the others are right, and writes the overflow entries
+// of the result behind them.
+pub fn settle_led(out: &mut [u8], op: SlotOp, a: &[u8], b: &[u8], n: usize, ka: usize, kb: usize)
     requires { ⌜ CheckedPair (now a) (now b) n ka kb ⌝ }
     requires { ⌜ Shrinks op ⌝ }
     requires { ⌜ InlineRight (fileParts (now a) n ka) (combinedOf op (fileParts (now a) n ka) (fileParts (now b) n kb)) (now out) ⌝ }
-    ensures { λ _. ⌜ now (out .exit) ≡ sets (now (out .entry)) 40 (primary n (combinedOf op (fileParts (now (a .entry)) n ka) (fileParts (now (b .entry)) n kb))) ⌝ }
+    requires { ⌜ 40 + n + 12 * overflowCount n (combinedOf op (fileParts (now a) n ka) (fileParts (now b) n kb)) ≤ length (now out) ⌝ }
+    ensures { λ _. ⌜ now (out .exit) ≡ partsPut n (combinedOf op (fileParts (now (a .entry)) n ka) (fileParts (now (b .entry)) n kb)) (now (out .entry)) ⌝ }
 {
+    let mut at = HEADER_LEN + n;
     let mut t: usize = 0;
     let mut j: usize = 0;
     while j < ka {
         let found = combine_entry(op, a, b, n, ka, kb, j, t);
         let slot = found.slot;
-        out[HEADER_LEN + slot] = primary_byte(found.distance);
+        let distance = found.distance;
+        out[HEADER_LEN + slot] = primary_byte(distance);
         t = found.next;
         j += 1;
+        if 255 <= distance {
+            at = put_entry(out, at, slot, distance);
+        }
     }
 }

@@ -1,5 +1,5 @@
 -- Proves combine::combine_into: the parts of the file, one after another.
-use mathlib.Core.Path.{_≡_, sym, ap, _∙_}
+use mathlib.Core.Path.{_≡_, refl, sym, ap, _∙_}
 use Prim.Native.Nat.{ℕ, _+_, _*_, _≤_, _<_}
 use native.Mathlib.Omega.{arith}
 use lib.ListN.{length}
@@ -50,32 +50,23 @@ enum-known-begun c = search needs
 enum-known-begun-2 : tie.Need-enum-known-begun-2
 enum-known-begun-2 c = search needs
 
-put-bytes-requires : tie.Need-put-bytes-requires
-put-bytes-requires c κs =
+put-parts-requires : tie.Need-put-parts-requires
+put-parts-requires c κs =
     let t = c .before .before in
-    let b = t .before .before .before .before in
-    let g = b .before .before .before .before .before .before in
-    (g .pre, omega (arith, ready t .entries, b .begin .kept .0))
-
-put-entries-requires : tie.Need-put-entries-requires
-put-entries-requires c κs =
-    let p = c .before .before .before in
-    let t = p .before .before .before in
     let b = t .before .before .before .before in
     let k = b .before .before in
     let g = k .before .before .before .before in
-    (g .pre, omega (arith, ready t .entries, k .count-overflow .ensures, b .begin .kept .0, p .put-bytes .kept .0))
+    (g .pre, omega (arith, ready t .entries, k .count-overflow .ensures, b .begin .kept .0))
 
 finish-requires : tie.Need-finish-requires
 finish-requires c κs =
-    let l = c .before .before .before in
-    let p = l .before .before .before .before in
+    let p = c .before .before .before in
     let t = p .before .before .before in
     let b = t .before .before .before .before in
     let k = b .before .before in (
       k .before .before .before .before .pre .first .header .small,
       few k,
-      omega (arith, ready t .fits, b .begin .kept .0, p .put-bytes .kept .0, l .put-entries .kept .0),
+      omega (arith, ready t .fits, b .begin .kept .0, p .put-parts .kept .0),
     )
 
 same-length : tie.Need-same-length
@@ -100,8 +91,7 @@ same-length-2 c = search needs
 returns-2 : tie.Need-returns-2
 returns-2 c =
     let f = c .before .before in
-    let l = f .before .before .before .before in
-    let p = l .before .before .before .before in
+    let p = f .before .before .before .before in
     let t = p .before .before .before in
     let b = t .before .before .before .before in
     let k = b .before .before in
@@ -110,7 +100,7 @@ returns-2 c =
     let count = k .count-overflow .ensures in (
       ap fileAnswer (sym (started t) ∙ begin-is (a .n) _ (v g) count (length (a .out .now))),
       built-done (a .n) _ (v g) count (g .pre .first .header .small) (a .out .now) _ _ _ _ _ (started t)
-          (b .begin .ensures .1) (p .put-bytes .ensures) (l .put-entries .ensures) (f .finish .ensures),
+          (b .begin .ensures .1) refl (p .put-parts .ensures) (f .finish .ensures),
     )
 
 pub combine-into-spec : {M : Type 1} → statement M
@@ -121,8 +111,7 @@ combine-into-spec =
     begin-requires
     enum-known-begun
     enum-known-begun-2
-    put-bytes-requires
-    put-entries-requires
+    put-parts-requires
     finish-requires
     same-length
     returns
