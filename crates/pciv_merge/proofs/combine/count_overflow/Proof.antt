@@ -8,7 +8,7 @@ use Rattle.pciv_format.specs.Layout.{overflowCount}
 use Rattle.pciv_format.specs.Check.{fileParts}
 use Rattle.pciv_merge.specs.Merge.{resultOf}
 use Rattle.pciv_merge.specs.declared.combine.MergeOp.{MergeOp}
-use Rattle.pciv_merge.specs.declared.combine.MergeOp.the-variants.{Minimum, Maximum}
+use Rattle.pciv_merge.specs.declared.combine.MergeOp.the-variants.{Maximum}
 use Rattle.pciv_merge.proofs.CombineLaws.{shrinks-difference}
 use Rattle.pciv_merge.proofs.BothLaws.{extremes-count}
 use Rattle.pciv_merge.proofs.combine.count_overflow.Statement.{statement}

@@ -1,9 +1,8 @@
 -- Proves led::settle_led. Invariant: the primary bytes are right where the first map is stored inline, and at the
 -- slots of its first j entries; the overflow entries of later slots are left to write. Falls: ka - j.
-use mathlib.Core.Path.{_≡_, ap, _∙_}
+use mathlib.Core.Path.{ap, _∙_}
 use Prim.Native.Nat.{ℕ, _+_, _-_, _≤_, _<_}
 use native.Mathlib.Omega.{arith}
-use lib.ListN.{length}
 use borrow.Author.Needs.{needs}
 use Rattle.pciv_format.specs.Layout.{primaryByte}
 use Rattle.pciv_format.specs.Parts.{Parts}
