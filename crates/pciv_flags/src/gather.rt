@@ -6,7 +6,6 @@ ghost use lib.ListN.{length};
 ghost use lib.Dec.{ltb};
 ghost use Rattle.pciv_bytes.specs.Ranges.{flag};
 ghost use Rattle.pciv_flags.specs.Flags.{isBelow, spread, Gathered};
-use crate::Pair;
 use pciv_bytes::little_endian::get64;
 
 // The weight of a flag that is set.
@@ -25,6 +24,12 @@ fn lane(a: &[u8], i: usize, limit: u8) -> u8
         + weigh(a[i + 16], limit, 4)
         + weigh(a[i + 32], limit, 16)
         + weigh(a[i + 48], limit, 64)
+}
+
+// Two words.
+pub(crate) struct Pair {
+    pub(crate) first: u64,
+    pub(crate) second: u64,
 }
 
 // The flags of the 128 bytes from i on, in two words: of the sixteen lanes of each, the last eight fill the bits that the

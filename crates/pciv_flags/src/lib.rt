@@ -10,14 +10,9 @@ ghost use lib.ListN.{length};
 ghost use lib.Seq.{sets};
 ghost use Rattle.pciv_format.specs.Mask.{maskLen, word, maskOf};
 ghost use Rattle.pciv_flags.specs.Flags.{passesAt};
+use crate::gather::Pair;
 use crate::gather::gather;
 use crate::transpose::transpose;
-
-// Two words.
-pub struct Pair {
-    pub first: u64,
-    pub second: u64,
-}
 
 // All 64 bits of a word.
 const ALL_BITS: u64 = 0xFFFF_FFFF_FFFF_FFFF;
@@ -49,7 +44,7 @@ fn least(x: usize, y: usize) -> usize
 }
 
 // The two words of the 128 bytes from i on.
-pub fn full_words(a: &[u8], i: usize, limit: u8, negated: bool) -> Pair
+fn full_words(a: &[u8], i: usize, limit: u8, negated: bool) -> Pair
     requires { ⌜ i + 128 ≤ length (now a) ⌝ }
     ensures { λ r. ⌜ (r .first ≡ word (passesAt (now (a .entry)) limit negated) i 64) × (r .second ≡ word (passesAt (now (a .entry)) limit negated) (i + 64) 64) ⌝ }
 {

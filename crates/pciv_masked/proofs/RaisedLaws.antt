@@ -1,13 +1,12 @@
 -- A map with 1 added where a mask is 1.
 --   FineTo          no slot below the least that entry j may have is too large; -start, -more, -found, -all
---   picked-high     the set slots with byte 254 are among those with a byte from 254 on
---   word-raised, pair-raised    what is picked in a word, and in two, as a part of a sum over all slots
+--   word-raised     what is picked in a word, as a part of a sum over all slots
 --   raised-le       at most one for each slot
 --   raised-count    the slots in overflow are the map's own and those that come to it
 --   Raising         the walk that writes the entries: those of slots from `from` on are left, and the cursor is there
 --   RaisingAt       and at the next slot in overflow; -start, -next, -more
 -- Axioms: none.
-use mathlib.Core.Path.{_≡_, refl, sym, ap, ap₂, _∙_}
+use mathlib.Core.Path.{_≡_, refl, sym, ap, _∙_}
 use Prim.Native.Nat.{ℕ, zero, suc, _+_, _-_, _*_, _≤_, _<_}
 use native.Mathlib.Nat.{sub-zero}
 use native.Mathlib.Numerals.{add-one}
@@ -17,9 +16,8 @@ use mathlib.Core.Bool.{Bool, true, false}
 use mathlib.Core.List.{List, _++_}
 use lib.ListN.{length, getD}
 use lib.Seq.{sets}
-use lib.Bits.{bitAnd}
 use lib.Dec.{eqb, ltb}
-use borrow.Author.Tests.{le-leb, lt-leb, ltb-true, not-false, lt-ltb, le-ltb, eq-eqb, ne-eqb}
+use borrow.Author.Tests.{le-leb, lt-leb, lt-ltb, le-ltb, eq-eqb, ne-eqb}
 use Rattle.pciv_bytes.specs.Ranges.{flag, firstBelow, sumFrom}
 use Rattle.pciv_bytes.specs.LittleEndian.{Bytes, le, get}
 use Rattle.pciv_bytes.specs.Counts.{byteAt, byteIs}
@@ -28,7 +26,7 @@ use Rattle.pciv_bytes.proofs.SumLaws.{flag-le, sumFrom-split, sumFrom-le}
 use Rattle.pciv_format.specs.Layout.{maxDistance, inOverflow, primaryByte, overflowCount}
 use Rattle.pciv_format.specs.Parts.{Parts, lowestSlot, valueOf, SoundParts}
 use Rattle.pciv_format.specs.Check.{fileParts, CheckedMap}
-use Rattle.pciv_format.specs.Mask.{word, maskHas, maskValue}
+use Rattle.pciv_format.specs.Mask.{maskHas, maskValue}
 use Rattle.pciv_format.proofs.PartsLaws.{entry-good, valueOf-slot, primaryByte-valueOf, overflowCount-is}
 use Rattle.pciv_build.proofs.EntriesLaws.{overflowCount-sum}
 use Rattle.pciv_build.proofs.FillLaws.{Filling, Next, fill-next, fill-more}
@@ -38,13 +36,12 @@ use Rattle.pciv_map.proofs.EntryLaws.{gap-value, gap-inline}
 use Rattle.pciv_map.proofs.CursorLaws.{cursor-start, cursor-gap}
 use Rattle.pciv_map.proofs.MapLaws.{primaryOf, primary-at}
 use Rattle.pciv_addition.proofs.BytesLaws.{primaryByte-min}
-use Rattle.pciv_flags.specs.Flags.{passesAt}
 use Rattle.pciv_words.specs.Words.{IsMask}
 use Rattle.pciv_words.proofs.MaskLaws.{flag-maskHas}
 use Rattle.pciv_masked.specs.Masked.{maskedAt, raisedAt, picked}
 use Rattle.pciv_masked.specs.declared.bytes.MaskedOp.the-variants.{Increment}
 use Rattle.pciv_masked.proofs.ByteLaws.{mask-room}
-use Rattle.pciv_masked.proofs.WalkLaws.{picked-sum, picked-and}
+use Rattle.pciv_masked.proofs.WalkLaws.{picked-sum}
 
 -- ---- refusal 11
 
@@ -111,15 +108,6 @@ flag-product-le : (a b : Bool) → flag a * flag b ≤ 1
 flag-product-le true b = omega (arith, flag-le b)
 flag-product-le false b = omega arith
 
--- a byte below 254 is not 254
-high-only : (xs : List ℕ) (j : ℕ) → passesAt xs 254 true j ≡ false → byteIs xs 254 j ≡ 0
-high-only xs j low =
-    ap flag (ne-eqb (byteAt xs j) 254 (λ q. omega (arith, ltb-true (byteAt xs j) 254 (not-false (ltb (byteAt xs j) 254) low))))
-
-pub picked-high : (xs : List ℕ) (i x : ℕ)
-    → picked (byteIs xs 254) i 64 (bitAnd x (word (passesAt xs 254 true) i 64)) ≡ picked (byteIs xs 254) i 64 x
-picked-high xs i x = picked-and (byteIs xs 254) (passesAt xs 254 true) (high-only xs) 64 i x
-
 module _ (xs ws : List ℕ) where
   raised-le-one : (i : ℕ) → raisedAt xs ws i ≤ 1
   raised-le-one i = flag-product-le (maskHas ws i) (eqb (byteAt xs i) 254)
@@ -131,18 +119,6 @@ module _ (xs ws : List ℕ) where
   word-raised w =
       picked-sum (byteIs xs 254) (raisedAt xs ws) 64 (64 * w) (getD ws w 0)
       (λ t h. ap (λ (b : ℕ). b * byteIs xs 254 (64 * w + t)) (flag-maskHas ws w t h))
-
-  -- the same of two words
-  pub pair-raised : (w : ℕ)
-      → picked (byteIs xs 254) (64 * w) 64 (getD ws w 0) + picked (byteIs xs 254) (64 * w + 64) 64 (getD ws (w + 1) 0)
-      ≡ sumFrom (raisedAt xs ws) (64 * w) (64 * (w + 2) - 64 * w)
-  pair-raised w =
-      let f : ℕ → ℕ = raisedAt xs ws in
-      let next : 64 * w + 64 ≡ 64 * (w + 1) = omega arith in
-      let one : 64 * (w + 1) - 64 * w ≡ 64 = omega arith in
-      let two : 64 * (w + 2) - 64 * (w + 1) ≡ 64 = omega arith in
-      rw next (ap₂ (λ (a b : ℕ). a + b) (word-raised w) (word-raised (w + 1)))
-      ∙ sym (rw (one, two) at (sumFrom-split f (64 * w) (64 * (w + 1)) (64 * (w + 2)) (omega arith) (omega arith)))
 
 sumFrom-plus : (f g h : ℕ → ℕ) (c i : ℕ) → ((j : ℕ) → i ≤ j → j < i + c → f j ≡ g j + h j) → sumFrom f i c ≡ sumFrom g i c + sumFrom h i c
 unfolding sumFrom

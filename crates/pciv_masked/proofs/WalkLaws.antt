@@ -2,28 +2,27 @@
 -- without it.
 --   trailing-bit      the bit at that place is set
 --   picked-lowest     what is picked at it, and at the bits that are left
---   picked-none       nothing is picked of no bits
+--   picked-none, -zero    nothing is picked of no bits, and of zeros alone
 --   picked-le         at most one is picked for each bit
 --   picked-sum        what is picked, as a sum over all places
---   picked-and        bits may be left out where nothing is picked
 --   below-less, below-mask    the set bits that are left, and those of a mask, stay below a bound
 -- Axioms: none.
 use mathlib.Core.Path.{_≡_, refl, sym, ap, ap₂, _∙_}
 use Prim.Native.Nat.{ℕ, zero, suc, _+_, _-_, _*_, _/_, _%_, _^_, _≤_, _<_, min}
-use native.Mathlib.Nat.{pow-suc, add-zero, add-sub-cancel-left}
+use native.Mathlib.Nat.{pow-suc, add-zero}
 use native.Mathlib.Omega.{arith}
 use native.Mathlib.Decide.{decLe}
-use mathlib.Core.Bool.{Bool, true, false}
+use mathlib.Core.Bool.{true}
 use mathlib.Core.List.{List}
 use lib.ListN.{getD}
 use lib.Bits.{bitAnd, and-step, and-self}
 use lib.Count.{trailingZeros, under}
 use borrow.Author.Tests.{eq-eqb}
-use Rattle.pciv_bytes.specs.Ranges.{flag, sumFrom}
+use Rattle.pciv_bytes.specs.Ranges.{sumFrom}
 use Rattle.pciv_bytes.proofs.RangesLaws.{true-false}
-use Rattle.pciv_format.specs.Mask.{bitAt, maskHas, word}
+use Rattle.pciv_format.specs.Mask.{bitAt, maskHas}
 use Rattle.pciv_words.specs.Words.{Words, IsMask}
-use Rattle.pciv_words.proofs.BitLaws.{bitAt-le, bitAt-lowest, bitAt-suc, bitAt-and, bitAt-word, bitAt-past}
+use Rattle.pciv_words.proofs.BitLaws.{bitAt-le, bitAt-lowest, bitAt-suc, bitAt-and, bitAt-past}
 use Rattle.pciv_words.proofs.MaskLaws.{maskHas-bit}
 use Rattle.pciv_masked.specs.Masked.{picked, SetBelow}
 
@@ -89,6 +88,13 @@ module _ (g : ℕ → ℕ) where
   picked-none zero i = refl
   picked-none (suc c) i = omega (arith, picked-none c (suc i))
 
+  -- where every g is 0
+  pub picked-zero : (c i x : ℕ) → ((j : ℕ) → i ≤ j → j < i + c → g j ≡ 0) → picked g i c x ≡ 0
+  unfolding picked
+  picked-zero zero i x none = refl
+  picked-zero (suc c) i x none =
+      rw (none i (omega arith) (omega arith)) (omega (arith, picked-zero c (suc i) (x / 2) (λ j h₁ h₂. none j (omega arith) (omega arith))))
+
   pub picked-le : ((j : ℕ) → g j ≤ 1) → (c i x : ℕ) → picked g i c x ≤ c
   unfolding picked
   picked-le each zero i x = omega arith
@@ -110,25 +116,6 @@ module _ (g : ℕ → ℕ) where
       (let e : suc i + t ≡ i + suc t = omega arith in
       rw e (same (suc t) (omega arith) ∙ ap (λ (b : ℕ). b * g (i + suc t)) (bitAt-suc x t)))) in
       ap₂ (λ (a b : ℕ). a + b) first rest
-
--- a bit that is left out does not count where g is 0
-and-times : (a x : ℕ) → a ≤ 1 → (b : Bool) → (b ≡ false → x ≡ 0) → min a (flag b) * x ≡ a * x
-and-times a x le true none = let e : min a 1 ≡ a = omega arith in rw e
-and-times a x le false none = rw (none refl) (omega arith)
-
--- the bits where p holds alone, where g is 0 elsewhere
-pub picked-and : (g : ℕ → ℕ) (p : ℕ → Bool) → ((j : ℕ) → p j ≡ false → g j ≡ 0) → (c i x : ℕ)
-    → picked g i c (bitAnd x (word p i c)) ≡ picked g i c x
-picked-and g p none c i x =
-    let f : ℕ → ℕ = λ j. bitAt x (j - i) * g j in
-    let at : (t : ℕ) → f (i + t) ≡ bitAt x t * g (i + t) = λ t. ap (λ (s : ℕ). bitAt x s * g (i + t)) (add-sub-cancel-left i t) in
-    picked-sum g f c i (bitAnd x (word p i c))
-    (λ t h.
-    at t
-    ∙ sym
-    (ap (λ (b : ℕ). b * g (i + t)) (bitAt-and x (word p i c) t ∙ ap (min (bitAt x t)) (bitAt-word p i c t h))
-    ∙ and-times (bitAt x t) (g (i + t)) (bitAt-le x t) (p (i + t)) (none (i + t))))
-    ∙ sym (picked-sum g f c i x (λ t h. at t))
 
 -- ---- the places of the set bits
 

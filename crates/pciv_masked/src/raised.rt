@@ -16,8 +16,8 @@ ghost use Rattle.pciv_masked.specs.declared.bytes.MaskedOp.the-variants.
 use crate::bits::bit_of;
 use pciv_build::put_entry;
 use pciv_build::slots::put_slots;
+use pciv_bytes::find::any_byte;
 use pciv_bytes::little_endian::get64;
-use pciv_flags::full_words;
 use pciv_format::HEADER_LEN;
 use pciv_map::cursor::take_at;
 use pciv_map::entries::entry_distance;
@@ -62,18 +62,20 @@ fn count_set(bytes: &[u8], from: usize, word: u64) -> usize
     count
 }
 
-// How many of the set slots of two words, from slot `from` on, have byte 254: only those are walked whose bytes are 254 or
-// 255.
-fn count_pair(bytes: &[u8], from: usize, first: u64, second: u64) -> usize
-    requires { ⌜ from + 128 ≤ length (now bytes) ⌝ }
-    requires { ⌜ SetBelow (length (now bytes)) from first × SetBelow (length (now bytes)) (from + 64) second ⌝ }
-    ensures { λ r. ⌜ r ≡ picked (byteIs (now (bytes .entry)) 254) from 64 first + picked (byteIs (now (bytes .entry)) 254) (from + 64) 64 second ⌝ }
+// The same; a word none of whose slots has that byte is passed at once.
+fn count_word(bytes: &[u8], from: usize, word: u64) -> usize
+    requires { ⌜ (from ≤ length (now bytes)) × SetBelow (length (now bytes)) from word ⌝ }
+    ensures { λ r. ⌜ r ≡ picked (byteIs (now (bytes .entry)) 254) from 64 word ⌝ }
 {
-    let high = full_words(bytes, from, INLINE_MAX, true);
-    count_set(bytes, from, first & high.first) + count_set(bytes, from + 64, second & high.second)
+    if 64 <= bytes.len() - from {
+        if !any_byte(bytes, from, from + 64, INLINE_MAX) {
+            return 0;
+        }
+    }
+    count_set(bytes, from, word)
 }
 
-// How many set slots have byte 254: two words at a time, and then what is left.
+// How many set slots have byte 254.
 fn count_raised(bytes: &[u8], words: &[u64]) -> usize
     requires { ⌜ IsMask (length (now bytes)) (now words) ⌝ }
     requires { ⌜ length (now bytes) ≤ 1048576 ⌝ }
@@ -81,12 +83,8 @@ fn count_raised(bytes: &[u8], words: &[u64]) -> usize
 {
     let mut count: usize = 0;
     let mut w = 0;
-    while 128 <= bytes.len() - 64 * w {
-        count += count_pair(bytes, 64 * w, words[w], words[w + 1]);
-        w += 2;
-    }
     while w < words.len() {
-        count += count_set(bytes, 64 * w, words[w]);
+        count += count_word(bytes, 64 * w, words[w]);
         w += 1;
     }
     count
