@@ -12,9 +12,9 @@ use pciv_flags::flags_into;
 use pciv_format::HEADER_LEN;
 use pciv_format::SENTINEL;
 
-// The words of a block, and its slots, one for each bit.
+// The words of a block.
 const WORDS: usize = 64;
-
+// The slots of a block: one for each bit.
 const BLOCK: usize = 4096;
 
 // Finds which of the slots from `from` up to `to` have primary byte 255, a bit for each.
