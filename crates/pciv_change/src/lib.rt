@@ -31,10 +31,11 @@ enum Side {
     Reduced,
 }
 
-// How many differences of bytes are made at once: a list of them stays in the fastest memory.
+// Differences of bytes are made in parts of this many, as 16-bit numbers in a list of their own and then as 64-bit
+// numbers: one instruction makes eight of the former, and none makes several of the latter from bytes.
 const PART: usize = 1024;
 
-// How many of the differences that are left are made next.
+// How many of those that are left are in the next part.
 fn part_len(left: usize) -> usize
     ensures { λ r. ⌜ (r ≤ left) × (r ≤ 1024) × (0 < left → 0 < r) ⌝ }
 {
@@ -63,11 +64,11 @@ fn raised_differences(out: &mut [u16], a: &[u8], b: &[u8], from: usize, count: u
     }
 }
 
-// The difference that is 255 less.
+// The difference, 255 less than the raised one.
 fn lowered(raised: u16) -> i64
     ensures { λ r. ⌜ r ≡ pos raised -ℤ pos 255 ⌝ }
 {
-    (raised as i64) - (SENTINEL as i64)
+    (raised as i64) - 255
 }
 
 // The differences of the first `count` raised ones, to out from `at` on.

@@ -1,5 +1,4 @@
 -- Proves pciv_change::lowered: the raised difference is small, and so is the difference.
-use mathlib.Core.Path.{_≡_}
 use native.Mathlib.Omega.{arith}
 use lib.IntN.{pos, _-ℤ_}
 use mir.Syntax.{w64}
@@ -16,9 +15,6 @@ fits c = record { sfits = omega (arith, mag-sub (pos (c .args .raised)) 255) }
 cast-result : tie.Need-cast-result
 cast-result c = search needs
 
-cast-result-2 : tie.Need-cast-result-2
-cast-result-2 c = search needs
-
 sub-result : tie.Need-sub-result
 sub-result c = rw (toZ-pos w64 {n = c .args .raised} (omega arith)) (fits c)
 
@@ -26,4 +22,4 @@ returns : tie.Need-returns
 returns c = rw (toZ-pos w64 {n = c .args .raised} (omega arith)) (toZ-ofZ (fits c))
 
 pub lowered-spec : {M : Type 1} → statement M
-lowered-spec = tie.close (tie.spec cast-result cast-result-2 sub-result returns)
+lowered-spec = tie.close (tie.spec cast-result sub-result returns)
