@@ -7,7 +7,7 @@ use lib.ListN.{length, getD, take, drop, length-set}
 use borrow.Author.Needs.{needs}
 use Rattle.pciv_format.specs.Parts.{valueOf}
 use Rattle.pciv_format.specs.Check.{fileParts}
-use Rattle.pciv_map.specs.Eight.{FarPlace, Eight, setsAt}
+use Rattle.pciv_map.specs.Eight.{FarPlace, setsAt}
 use Rattle.pciv_map.proofs.EightLaws.{holds-value, setsAt-more, setsAt-end}
 use Rattle.pciv_map.proofs.MapLaws.{entry-inside}
 use Rattle.pciv_map.proofs.eight.distances8.Statement.{statement}
