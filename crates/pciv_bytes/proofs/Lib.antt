@@ -6,4 +6,3 @@ pub mod JoinedLaws
 pub mod LittleEndianLaws
 pub mod WriteLaws
 pub mod AnyLaws
-pub mod FindLaws

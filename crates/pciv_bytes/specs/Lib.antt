@@ -4,4 +4,3 @@ pub mod Counts
 pub mod Any
 pub mod Pairs
 pub mod Extremes
-pub mod Find

@@ -32,7 +32,7 @@ pub(crate) fn passing(test: Test, x: u8) -> u8
 }
 
 // How many of the bytes from `from` up to `to` pass the test.
-pub fn count_part(test: Test, a: &[u8], from: usize, to: usize) -> u8
+fn count_part(test: Test, a: &[u8], from: usize, to: usize) -> u8
     requires { ⌜ Part (now a) from to ⌝ }
     ensures { λ r. ⌜ r ≡ sumFrom (testAt test (now (a .entry))) from (to - from) ⌝ }
 {
