@@ -23,18 +23,24 @@ const MINIMUM: Kernel = Kernel::new("smaller bytes", "pminub load16 store16 !byt
 const MAXIMUM: Kernel = Kernel::new("larger bytes", "pmaxub load16 store16 !byte");
 const ADD: Kernel = Kernel::new("bytes added", "paddusb load16 store16 !byte");
 const SUBTRACT: Kernel = Kernel::new("bytes subtracted", "psubusb load16 store16 !byte");
+// Also for the maximum: slots in overflow in both maps, which the entries of both count twice.
 const COUNT_MINIMUM: Kernel = Kernel::blocks(
     "count of smaller bytes in overflow",
     "pminub pcmpeqb psubb|paddb|psadbw|por|pmovmskb load16 !byte",
 );
-// The count of bytes that are not below another has these instructions too, and the check reaches it.
-const COUNT_MAXIMUM: Kernel = Kernel::blocks(
-    "count of larger bytes in overflow",
-    "own pmaxub pcmpeqb psubb|paddb|psadbw|por|pmovmskb load16 !byte",
-);
 const COUNT_SUMS: Kernel = Kernel::blocks(
     "count of sums in overflow",
     "paddusb pcmpeqb psubb|paddb|psadbw|por|pmovmskb load16 !byte",
+);
+
+// Differences of bytes in 16 bits, then in 64.
+const DIFFERENCES: Kernel = Kernel::new(
+    "differences of bytes",
+    "punpcklbw|punpckhbw psubw|paddw load8 !byte",
+);
+const WIDEN_DIFFERENCES: Kernel = Kernel::new(
+    "differences widened",
+    "punpckldq|punpckhdq|punpcklwd|punpckhwd|pshufd psubq|paddq store16",
 );
 
 const FLAGS: Kernel = Kernel::new(
@@ -71,7 +77,7 @@ const JACCARD: Kernel = Kernel::blocks(
 );
 
 /// The exported routines and the loops that each has to have. Loops over overflow entries are not
-/// among them, nor the bytes of `pciv_signed_difference`: these are worked on one by one.
+/// among them: these are worked on one by one.
 pub const ROUTINES: &[Routine] = &[
     ("pciv_check", &[COUNT]),
     ("pciv_primary_span", &[COUNT]),
@@ -84,11 +90,14 @@ pub const ROUTINES: &[Routine] = &[
     ("pciv_close", &[COUNT, COPY]),
     ("pciv_close_entries", &[COUNT, COPY]),
     ("pciv_minimum", &[COUNT, COUNT_MINIMUM, MINIMUM]),
-    ("pciv_maximum", &[COUNT, COUNT_MAXIMUM, MAXIMUM]),
+    ("pciv_maximum", &[COUNT, COUNT_MINIMUM, MAXIMUM]),
     ("pciv_sum_maps", &[COUNT, COUNT_SUMS, ADD, SLOTS]),
     ("pciv_difference", &[COUNT, SUBTRACT]),
     ("pciv_shift", &[COUNT, ADD, SUBTRACT, SLOTS]),
-    ("pciv_signed_difference", &[COUNT]),
+    (
+        "pciv_signed_difference",
+        &[COUNT, DIFFERENCES, WIDEN_DIFFERENCES],
+    ),
     ("pciv_mask_below", &[COUNT, FLAGS]),
     ("pciv_mask_at_most", &[COUNT, FLAGS]),
     ("pciv_mask_above", &[COUNT, FLAGS]),
