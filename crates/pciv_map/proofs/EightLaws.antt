@@ -21,7 +21,7 @@ use Rattle.pciv_bytes.specs.Ranges.{flag}
 use Rattle.pciv_bytes.proofs.WriteLaws.{set-before-sets}
 use Rattle.pciv_format.specs.Parts.{Parts, valueOf, SoundParts}
 use Rattle.pciv_format.proofs.PartsLaws.{slots-rise, slot-entry, valueOf-slot}
-use Rattle.pciv_map.specs.Eight.{FarPlace, Holds, Eight, setsAt}
+use Rattle.pciv_map.specs.Eight.{OverflowPlace, Holds, Eight, setsAt}
 use Rattle.pciv_map.proofs.LookupLaws.{slots-sorted}
 
 -- ---- a test without a branch
@@ -81,13 +81,13 @@ module _ (P : Parts) (sound : SoundParts P) where
       ]
 
   -- a slot in overflow has an entry
-  pub far-some : (xs : List ℕ) (b p : ℕ) → FarPlace P xs b p → 0 < P .k
+  pub far-some : (xs : List ℕ) (b p : ℕ) → OverflowPlace P xs b p → 0 < P .k
   far-some xs b p f =
       let q = slot-entry P sound (getD xs p 0) (f .inside) (f .far) in
       omega (arith, q .1)
 
   -- and where one entry is left, that is it
-  pub holds-value : (xs : List ℕ) (b p lo : ℕ) → FarPlace P xs b p → Holds P (getD xs p 0) lo 1
+  pub holds-value : (xs : List ℕ) (b p lo : ℕ) → OverflowPlace P xs b p → Holds P (getD xs p 0) lo 1
       → (lo < P .k) × (valueOf P (getD xs p 0) ≡ P .distance lo)
   holds-value xs b p lo f w =
       let q = slot-entry P sound (getD xs p 0) (f .inside) (f .far) in

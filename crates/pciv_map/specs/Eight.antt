@@ -1,8 +1,8 @@
 -- Slots in overflow that stand at places of a list, and searches for eight of them among the overflow entries.
---   FarPlaces P xs b ps c     the first c places of ps are below b, and the slots of xs there are in overflow
---   Holds P s lo len          the entry of slot s is among the len entries from lo on
---   Eight P xs ps los len     so it is for the slots at eight places, each from its number in los on
---   setsAt g ps d             the list d with g p at each place p
+--   OverflowPlaces P xs b ps c    the first c places of ps are below b, and the slots of xs there are in overflow
+--   Holds P s lo len              the entry of slot s is among the len entries from lo on
+--   Eight P xs ps los len         so it is for the slots at eight places, each from its number in los on
+--   setsAt g ps d                 the list d with g p at each place p
 -- Laws are in proofs/EightLaws.antt. Axioms: none.
 use mathlib.Core.Path.{_≡_}
 use mathlib.Core.List.{List, [], _∷_}
@@ -10,14 +10,14 @@ use Prim.Native.Nat.{ℕ, _+_, _≤_, _<_}
 use lib.ListN.{length, getD, set}
 use Rattle.pciv_format.specs.Parts.{Parts}
 
-pub record FarPlace (P : Parts) (xs : List ℕ) (b p : ℕ) : Type 0 where
+pub record OverflowPlace (P : Parts) (xs : List ℕ) (b p : ℕ) : Type 0 where
   pub before : p < b
   pub inside : getD xs p 0 < P .n
   pub far : P .byte (getD xs p 0) ≡ 255
 
-pub record FarPlaces (P : Parts) (xs : List ℕ) (b : ℕ) (ps : List ℕ) (c : ℕ) : Type 0 where
+pub record OverflowPlaces (P : Parts) (xs : List ℕ) (b : ℕ) (ps : List ℕ) (c : ℕ) : Type 0 where
   pub long : c ≤ length ps
-  pub each : (q : ℕ) → q < c → FarPlace P xs b (getD ps q 0)
+  pub each : (q : ℕ) → q < c → OverflowPlace P xs b (getD ps q 0)
 
 pub record Holds (P : Parts) (s lo len : ℕ) : Type 0 where
   pub within : lo + len ≤ P .k

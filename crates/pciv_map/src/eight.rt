@@ -8,7 +8,7 @@ ghost use lib.ListN.{length, getD, take};
 ghost use Rattle.pciv_bytes.specs.Ranges.{flag};
 ghost use Rattle.pciv_format.specs.Parts.{valueOf};
 ghost use Rattle.pciv_format.specs.Check.{fileParts, CheckedMap};
-ghost use Rattle.pciv_map.specs.Eight.{Eight, FarPlaces, setsAt};
+ghost use Rattle.pciv_map.specs.Eight.{Eight, OverflowPlaces, setsAt};
 use crate::entries::entry_distance;
 use crate::entries::entry_slot;
 use crate::lookup::distance_at;
@@ -35,7 +35,7 @@ fn halve8(
     len: usize,
 )
     requires { ⌜ CheckedMap (now file) n k ⌝ }
-    requires { ⌜ FarPlaces (fileParts (now file) n k) (now slots) (length (now slots)) (now places) 8 ⌝ }
+    requires { ⌜ OverflowPlaces (fileParts (now file) n k) (now slots) (length (now slots)) (now places) 8 ⌝ }
     requires { ⌜ (0 < len) × Eight (fileParts (now file) n k) (now slots) (now places) (now first) len ⌝ }
     ensures { λ _. ⌜ Eight (fileParts (now (file .entry)) n k) (now (slots .entry)) (now (places .entry)) (now (first .exit)) (len - len / 2) ⌝ }
 {
@@ -52,7 +52,7 @@ fn halve8(
 // The entries of eight slots.
 fn entries8(file: &[u8], n: usize, k: usize, slots: &[usize], places: &[usize; 8]) -> [usize; 8]
     requires { ⌜ CheckedMap (now file) n k ⌝ }
-    requires { ⌜ FarPlaces (fileParts (now file) n k) (now slots) (length (now slots)) (now places) 8 ⌝ }
+    requires { ⌜ OverflowPlaces (fileParts (now file) n k) (now slots) (length (now slots)) (now places) 8 ⌝ }
     ensures { λ r. ⌜ Eight (fileParts (now (file .entry)) n k) (now (slots .entry)) (now (places .entry)) r 1 ⌝ }
 {
     let mut first = [0usize; 8];
@@ -74,7 +74,7 @@ pub fn distances8(
     places: &[usize; 8],
 )
     requires { ⌜ CheckedMap (now file) n k ⌝ }
-    requires { ⌜ FarPlaces (fileParts (now file) n k) (now slots) (length (now slots)) (now places) 8 ⌝ }
+    requires { ⌜ OverflowPlaces (fileParts (now file) n k) (now slots) (length (now slots)) (now places) 8 ⌝ }
     requires { ⌜ length (now slots) ≤ length (now out) ⌝ }
     ensures { λ _. ⌜ now (out .exit) ≡ setsAt (λ (p : ℕ). valueOf (fileParts (now (file .entry)) n k) (getD (now (slots .entry)) p 0)) (take 8 (now (places .entry))) (now (out .entry)) ⌝ }
 {
@@ -98,7 +98,7 @@ pub fn distances_few(
     count: usize,
 )
     requires { ⌜ CheckedMap (now file) n k ⌝ }
-    requires { ⌜ (count ≤ 8) × FarPlaces (fileParts (now file) n k) (now slots) (length (now slots)) (now places) count ⌝ }
+    requires { ⌜ (count ≤ 8) × OverflowPlaces (fileParts (now file) n k) (now slots) (length (now slots)) (now places) count ⌝ }
     requires { ⌜ length (now slots) ≤ length (now out) ⌝ }
     ensures { λ _. ⌜ now (out .exit) ≡ setsAt (λ (p : ℕ). valueOf (fileParts (now (file .entry)) n k) (getD (now (slots .entry)) p 0)) (take count (now (places .entry))) (now (out .entry)) ⌝ }
 {

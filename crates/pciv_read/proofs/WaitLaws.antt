@@ -20,7 +20,7 @@ use Rattle.pciv_bytes.specs.Ranges.{flag}
 use Rattle.pciv_bytes.proofs.WriteLaws.{sets-copy-more, sets-copy-end, set-before-sets}
 use Rattle.pciv_format.specs.Parts.{Parts, valueOf, SoundParts}
 use Rattle.pciv_format.proofs.PartsLaws.{valueOf-inline}
-use Rattle.pciv_map.specs.Eight.{FarPlace, FarPlaces, setsAt}
+use Rattle.pciv_map.specs.Eight.{OverflowPlace, OverflowPlaces, setsAt}
 use Rattle.pciv_map.proofs.EightLaws.{setsAt-last, setsAt-sets, setsAt-none}
 
 abbrev pub distanceAt : Parts → List ℕ → ℕ → ℕ
@@ -30,11 +30,11 @@ pub record Waits (P : Parts) (xs d₀ d ps : List ℕ) (c i : ℕ) : Type 0 wher
   pub reached : i ≤ length xs
   pub same : length d ≡ length d₀
   pub eight : length ps ≡ 8
-  pub far : FarPlaces P xs i ps c
+  pub far : OverflowPlaces P xs i ps c
   pub rest : sets d₀ 0 (map (valueOf P) xs)
       ≡ setsAt (distanceAt P xs) (take c ps) (sets d i (drop i (map (valueOf P) xs)))
 
-far-later : {P : Parts} {xs : List ℕ} {b b' p p' : ℕ} → p' ≡ p → b ≤ b' → FarPlace P xs b p → FarPlace P xs b' p'
+far-later : {P : Parts} {xs : List ℕ} {b b' p p' : ℕ} → p' ≡ p → b ≤ b' → OverflowPlace P xs b p → OverflowPlace P xs b' p'
 far-later e h f = rw e (record { before = omega (arith, f .before); inside = f .inside; far = f .far })
 
 module _ (P : Parts) (sound : SoundParts P) (xs d₀ : List ℕ) (inside : (i : ℕ) → i < length xs → getD xs i 0 < P .n) where
@@ -50,7 +50,7 @@ module _ (P : Parts) (sound : SoundParts P) (xs d₀ : List ℕ) (inside : (i : 
 
   module _ (d ps : List ℕ) (c i : ℕ) (w : Waits P xs d₀ d ps c i) where
     -- the places before the next one
-    far-kept : (q : ℕ) → q < c → FarPlace P xs (i + 1) (getD (set ps c i) q 0)
+    far-kept : (q : ℕ) → q < c → OverflowPlace P xs (i + 1) (getD (set ps c i) q 0)
     far-kept q h = far-later (getD-set-other ps c q i 0 (λ e. omega arith)) (omega arith) (w .far .each q h)
 
     module _ (few : c < 8) (more : i < length xs) where
@@ -111,7 +111,7 @@ module _ (P : Parts) (sound : SoundParts P) (xs d₀ : List ℕ) (inside : (i : 
             | no h ↦ rw (ne-eqb x 255 (λ e. omega arith), add-zero c) (waits-inline x is (omega arith))
           ]
 
-    pub waits-places : FarPlaces P xs (length xs) ps c
+    pub waits-places : OverflowPlaces P xs (length xs) ps c
     waits-places = record { long = w .far .long; each = λ q h. far-later refl (w .reached) (w .far .each q h) }
 
     -- the places are filled

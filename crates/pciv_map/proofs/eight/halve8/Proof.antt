@@ -7,7 +7,7 @@ use lib.ListN.{length, getD, length-set}
 use borrow.Author.Needs.{needs}
 use Rattle.pciv_format.specs.Check.{fileParts}
 use Rattle.pciv_format.proofs.PartsLaws.{entry-good}
-use Rattle.pciv_map.specs.Eight.{FarPlace, Holds}
+use Rattle.pciv_map.specs.Eight.{OverflowPlace, Holds}
 use Rattle.pciv_map.proofs.EightLaws.{Halving, halving-more, holds-halve}
 use Rattle.pciv_map.proofs.MapLaws.{entry-inside}
 use Rattle.pciv_map.proofs.eight.halve8.Statement.{statement}
@@ -26,7 +26,7 @@ entered c = c .before .before .before .before
 
 -- the slot that is searched for
 far : (c : tie.In-loop Inv-loop μ-loop) → (let a = entered c .args in
-    FarPlace (fileParts (a .file .now) (a .n) (a .k)) (a .slots .now) (length (a .slots .now))
+    OverflowPlace (fileParts (a .file .now) (a .n) (a .k)) (a .slots .now) (length (a .slots .now))
     (getD (a .places .now) (c .before .loop .q) 0))
 far c = entered c .pre .1 .0 .each (c .before .loop .q) (omega (arith, c .loop-test .taken))
 
