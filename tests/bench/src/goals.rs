@@ -31,6 +31,9 @@ pub fn scenes() -> impl Iterator<Item = Scene> {
     maps.into_iter().map(scene)
 }
 
+/// What two runs differ by at least.
+const NOISE: f64 = 0.01;
+
 /// What is divided by what.
 #[derive(Clone, Copy)]
 enum Of {
@@ -56,8 +59,8 @@ impl Of {
 
     fn is_met(self, ratio: f64, goal: f64) -> bool {
         match self {
-            Of::Independent | Of::Flat => ratio >= goal,
-            Of::Memcpy | Of::ByHand => ratio <= goal,
+            Of::Independent | Of::Flat => ratio >= goal * (1.0 - NOISE),
+            Of::Memcpy | Of::ByHand => ratio <= goal * (1.0 + NOISE),
         }
     }
 
@@ -243,8 +246,102 @@ fn before(goal: &Goal) -> Option<f64> {
         .find_map(|line| line.strip_prefix(&key)?.parse().ok())
 }
 
-/// Why goals are not met, by the call they are about.
-const REASONS: [(&str, &str); 0] = [];
+/// What stands in the way of goals that are not met, by the call they are about, and what was tried.
+const REASONS: [(&str, &str); 20] = [
+    (
+        "check",
+        "the count of bytes 255 takes three instructions for 16 bytes, the entries 13 each; the copy uses wider registers. Tests \
+         of entries without a branch were slower.",
+    ),
+    (
+        "sum",
+        "bytes become 16-bit numbers before they are added, two instructions for eight; SSE2's `psadbw`, which would add 16 at \
+         once, is not what the compiler makes of a sum.",
+    ),
+    (
+        "readings",
+        "the count runs at the speed of the second-level cache; OpenCV counts a flat array with AVX2.",
+    ),
+    (
+        "mask_below 200",
+        "92 instructions for 128 slots, all of them packed: no loop becomes SSE2's `pmovmskb`, so flags are gathered by \
+         weights and turned by three rounds of shifts. The independent program takes 1.5 ns a slot; a sixtieth of that \
+         is 40 GB/s, and a plain count of bytes reaches 60.",
+    ),
+    (
+        "minimum",
+        "two checks are half of the call. The bytes are written as fast as a copy; what is left are the entries.",
+    ),
+    (
+        "maximum",
+        "a merge of 15,728 entries, some 2.5 ns each, without a branch; two checks are a third of the call. A first loop while \
+         both maps have entries, and copies after it, would take 4 microseconds off.",
+    ),
+    (
+        "difference",
+        "a walk over the first map's entries that looks into the second map. Entries written without a branch were slower.",
+    ),
+    (
+        "shift by -50",
+        "half of the time is the one pass that writes the bytes, the rest three walks over 7,864 entries.",
+    ),
+    (
+        "sum_maps, few to overflow",
+        "two passes over the bytes (a count first, since a refused call may write nothing, then the sums), mask words of the \
+         result, a walk over their set bits, and a walk that fills in 18,000 distances, of which each branch is guessed wrong \
+         every other time. Filling in without a branch takes 18 microseconds off here and doubles the time where half \
+         of the sums are in overflow; one loop for slots and distances was slower.",
+    ),
+    (
+        "sum_maps, half to overflow",
+        "400,000 entries of 12 bytes, 2.2 ns each: a slot is written, read again and its distance filled in. One loop for both \
+         would be faster here and slower where few sums are in overflow.",
+    ),
+    (
+        "shift by 10",
+        "as the sum: the entries of 38,000 slots are found, written and filled in one by one.",
+    ),
+    (
+        "increment_masked",
+        "as the sum, and a count of the set slots with byte 254 before it. A count by mask words of bytes from 254 on gained 10 \
+         microseconds, and cost the masks of a map more, whose kernel was then no longer compiled into its loop.",
+    ),
+    (
+        "keep_masked",
+        "the mask becomes bytes by the table of 256 rows, eight at a time, before 16 bytes are combined at once; then the \
+         entries. The check is a quarter of the call.",
+    ),
+    (
+        "bray_curtis",
+        "sums of smaller and larger bytes take 60 microseconds of the call, in 16-bit numbers; other blocks gained 2 and \
+         other sums 5.",
+    ),
+    (
+        "jaccard at 200",
+        "13 instructions for 16 slots of two maps, all of them packed.",
+    ),
+    (
+        "scan",
+        "widening takes as long as filling the list with a constant; the entries are then put in, where the list is no longer \
+         in the first-level cache. Putting them in block by block gained nothing.",
+    ),
+    (
+        "signed_difference",
+        "eight bytes are written for each slot.",
+    ),
+    (
+        "write",
+        "two passes over 32-bit distances, a count and the bytes, take two thirds of the call.",
+    ),
+    (
+        "of these ns a slot, no check",
+        "eight searches in step; the entries of a map with 10 % in overflow do not fit the cache beside the map.",
+    ),
+    (
+        "edit, into and out",
+        "the check, and 12 bytes moved for each entry behind the slot.",
+    ),
+];
 
 /// The table of goals, and what stands in the way of those that are not met.
 pub fn section(tables: &[Table], more: &[Table]) -> String {

@@ -43,8 +43,8 @@ const GOALS: &str = "
 
 At 1,024 by 768 with 1 % in overflow, scattered, unless a row says otherwise. The checks of the files are left out on both
 sides, by taking off the times of the check, unless a row says that they are included. `best flat` is the best of flat Rust,
-numpy and OpenCV. `before` is what `bench goals` printed for the library before its kernels were made faster, on the same kind
-of machine.
+numpy and OpenCV. `before` is what `bench goals` printed for the library before its kernels were made faster, on the same
+machine (`tests/bench/before.tsv`). A ratio within 1 % of its goal counts as met. The goals were set on another machine.
 
 ";
 
