@@ -24,11 +24,20 @@ const USUAL: Maps = (10, Spread::Scattered);
 const MANY: Maps = (100, Spread::Scattered);
 const MANY_CLUSTERED: Maps = (100, Spread::Clustered);
 
+const MAPS: [Maps; 3] = [USUAL, MANY, MANY_CLUSTERED];
+
 /// The scenes that goals are about.
 pub fn scenes() -> impl Iterator<Item = Scene> {
-    let maps = [USUAL, MANY, MANY_CLUSTERED];
     let scene = |(share, spread)| Scene::new(SIZE, share, spread);
-    maps.into_iter().map(scene)
+    MAPS.into_iter().map(scene)
+}
+
+/// How many times over the calls of a scene are timed.
+pub fn passes(scene: &Scene) -> usize {
+    match scene.size == SIZE && MAPS.contains(&(scene.share, scene.spread)) {
+        true => 4,
+        false => 2,
+    }
 }
 
 /// What two runs differ by at least.

@@ -69,9 +69,8 @@ fn main() {
         }
         Some("goals") => {
             let python = Python::start(root);
-            let tables: Vec<Table> = goals::scenes()
-                .map(|scene| timed(&scene, python.as_ref()))
-                .collect();
+            let scenes = goals::scenes();
+            let tables: Vec<Table> = scenes.map(|scene| timed(&scene, python.as_ref())).collect();
             print!("{}", goals::lines(&tables));
         }
         _ => {
@@ -116,7 +115,17 @@ fn said<'a>(scene: &Scene, python: Option<&'a Python>) -> Table<'a> {
     table
 }
 
+/// The table of a scene: the best times of several passes over all calls, since a machine is slow now
+/// and then for longer than a call's rounds.
 fn timed<'a>(scene: &Scene, python: Option<&'a Python>) -> Table<'a> {
+    let mut table = one_pass(scene, python);
+    for _ in 1..goals::passes(scene) {
+        table.keep_best(&one_pass(scene, python));
+    }
+    table
+}
+
+fn one_pass<'a>(scene: &Scene, python: Option<&'a Python>) -> Table<'a> {
     let mut table = Table::new(scene, python);
     reading(&mut table, &scene.a);
     lookups(&mut table, scene);

@@ -102,8 +102,8 @@ their input nor that a sum is a distance. For `write`, a flat array is copied; f
 entries. Calls that flat arrays do not have, such as the check, have no such time.
 {MEMCPY}
 
-Times are microseconds a call, one thread, the best of {ROUNDS} rounds in which the contestants take turns. A turn starts with a
-call that is not timed, so that buffers are warm. Overflow slots are scattered at random. All but numpy, OpenCV and memcpy are
+Times are microseconds a call, one thread, the best of {ROUNDS} rounds in which the contestants take turns, in each of two passes
+over all calls, four for the maps that goals are about. A turn starts with a call that is not timed, so that buffers are warm. Overflow slots are scattered at random. All but numpy, OpenCV and memcpy are
 compiled for every x86-64 processor, without AVX. Before they are timed, numpy and OpenCV have to give the same results as flat
 Rust, which is tested against the library (`cargo test -p bench`). Only ratios within a row say something: one above 1 is in
 favour of the library, but for the last one, where less is better.

@@ -132,6 +132,20 @@ impl<'a> Table<'a> {
         }
     }
 
+    /// Takes over the times of another pass over the same calls that are better.
+    pub fn keep_best(&mut self, other: &Table) {
+        let least = |a: &mut Option<f64>, b: Option<f64>| *a = a.zip(b).map(|(a, b)| a.min(b));
+        for (row, again) in self.rows.iter_mut().zip(&other.rows) {
+            assert_eq!(row.call, again.call);
+            row.library = row.library.min(again.library);
+            least(&mut row.reference, again.reference);
+            least(&mut row.flat, again.flat);
+            least(&mut row.numpy, again.numpy);
+            least(&mut row.opencv, again.opencv);
+            least(&mut row.memcpy, again.memcpy);
+        }
+    }
+
     /// The row of a call.
     pub fn find(&self, call: &str) -> Option<&Row> {
         self.rows.iter().find(|row| row.call == call)
