@@ -35,8 +35,8 @@ pub fn scenes() -> impl Iterator<Item = Scene> {
 /// How many times over the calls of a scene are timed.
 pub fn passes(scene: &Scene) -> usize {
     match scene.size == SIZE && MAPS.contains(&(scene.share, scene.spread)) {
-        true => 4,
-        false => 2,
+        true => 2,
+        false => 1,
     }
 }
 
@@ -256,7 +256,7 @@ fn before(goal: &Goal) -> Option<f64> {
 }
 
 /// What stands in the way of goals that are not met, by the call they are about, and what was tried.
-const REASONS: [(&str, &str); 20] = [
+const REASONS: [(&str, &str); 21] = [
     (
         "check",
         "the count of bytes 255 takes three instructions for 16 bytes, the entries 13 each; the copy uses wider registers. Tests \
@@ -349,6 +349,10 @@ const REASONS: [(&str, &str); 20] = [
     (
         "edit, into and out",
         "the check, and 12 bytes moved for each entry behind the slot.",
+    ),
+    (
+        "mask_not",
+        "the independent program's loop is compiled to the same instructions; the difference is noise.",
     ),
 ];
 

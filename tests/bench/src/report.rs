@@ -45,6 +45,9 @@ At 1,024 by 768 with 1 % in overflow, scattered, unless a row says otherwise. Th
 sides, by taking off the times of the check, unless a row says that they are included. `best flat` is the best of flat Rust,
 numpy and OpenCV. `before` is what `bench goals` printed for the library before its kernels were made faster, on the same
 machine (`tests/bench/before.tsv`). A ratio within 1 % of its goal counts as met. The goals were set on another machine.
+The independent program's check is compiled in one of two ways from build to build, and takes some 300 or 490 microseconds;
+ratios to it that include checks, and those before and after, differ by that too. The library's check is the same before and
+after.
 
 ";
 
@@ -102,8 +105,8 @@ their input nor that a sum is a distance. For `write`, a flat array is copied; f
 entries. Calls that flat arrays do not have, such as the check, have no such time.
 {MEMCPY}
 
-Times are microseconds a call, one thread, the best of {ROUNDS} rounds in which the contestants take turns, in each of two passes
-over all calls, four for the maps that goals are about. A turn starts with a call that is not timed, so that buffers are warm. Overflow slots are scattered at random. All but numpy, OpenCV and memcpy are
+Times are microseconds a call, one thread, the best of {ROUNDS} rounds in which the contestants take turns, in each of two
+passes over all calls for the maps that goals are about. A turn starts with a call that is not timed, so that buffers are warm. Overflow slots are scattered at random. All but numpy, OpenCV and memcpy are
 compiled for every x86-64 processor, without AVX. Before they are timed, numpy and OpenCV have to give the same results as flat
 Rust, which is tested against the library (`cargo test -p bench`). Only ratios within a row say something: one above 1 is in
 favour of the library, but for the last one, where less is better.
