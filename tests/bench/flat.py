@@ -110,7 +110,7 @@ def with_numpy(s):
         "sum": lambda: total(a),
         "readings": lambda: int(np.count_nonzero(a)),
         "lookup": lambda: int(a[s.asked[0]]),
-        "lookup_list of 20,000": lambda: np.take(a, s.asked, out=s.asked_out, mode="clip"),
+        "lookup_list of 16,000": lambda: np.take(a, s.asked, out=s.asked_out, mode="clip"),
         "write": lambda: copied(out, a),
         "close": close,
         "close_entries": close,

@@ -213,7 +213,7 @@ fn lookups(table: &mut Table, scene: &Scene) {
     ]));
     table.push(call, times);
 
-    let call = "lookup_list of 20,000";
+    let call = "lookup_list of 16,000";
     let mut many = |out: &mut [u32]| flat::lookup_list(list, black_box(slots), out);
     let mut flat_list = Flat::Distances(&mut many);
     table.compare_results(call, &mut flat_list);

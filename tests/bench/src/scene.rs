@@ -6,7 +6,7 @@ use compare::rng::Rng;
 /// Edits of a list of edits.
 pub const LIST_LEN: usize = 1_000;
 /// Slots of a list of lookups: more than a processor keeps in mind from one call to the next.
-pub const ASKED_LEN: usize = 20_000;
+pub const ASKED_LEN: usize = 16_000;
 /// Neighbouring slots that are in overflow together where they are clustered.
 const RUN: usize = 256;
 

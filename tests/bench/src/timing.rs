@@ -3,7 +3,7 @@
 use std::hint::black_box;
 use std::time::{Duration, Instant};
 
-pub const ROUNDS: u32 = 100;
+pub const ROUNDS: u32 = 50;
 /// A round of a contestant takes at least about this long, so that the clock does not matter.
 const ROUND_TIME: Duration = Duration::from_micros(200);
 
