@@ -259,13 +259,11 @@ fn before(goal: &Goal) -> Option<f64> {
 const REASONS: [(&str, &str); 21] = [
     (
         "check",
-        "the count of bytes 255 takes three instructions for 16 bytes, the entries 13 each; the copy uses wider registers. Tests \
-         of entries without a branch were slower.",
+        "the count of bytes 255 takes three instructions for 16 bytes, the entries 13 each; the copy uses wider registers. Tests of entries without a branch were slower.",
     ),
     (
         "sum",
-        "bytes become 16-bit numbers before they are added, two instructions for eight; SSE2's `psadbw`, which would add 16 at \
-         once, is not what the compiler makes of a sum.",
+        "bytes become 16-bit numbers before they are added, two instructions for eight; SSE2's `psadbw`, which would add 16 at once, is not what the compiler makes of a sum.",
     ),
     (
         "readings",
@@ -273,18 +271,15 @@ const REASONS: [(&str, &str); 21] = [
     ),
     (
         "mask_below 200",
-        "92 instructions for 128 slots, all of them packed: no loop becomes SSE2's `pmovmskb`, so flags are gathered by \
-         weights and turned by three rounds of shifts. The independent program takes 1.5 ns a slot; a sixtieth of that \
-         is 40 GB/s, and a plain count of bytes reaches 60.",
+        "92 instructions for 128 slots, all of them packed: no loop becomes SSE2's `pmovmskb`, so flags are gathered by weights and turned by three rounds of shifts.",
     ),
     (
         "minimum",
-        "two checks are half of the call. The bytes are written as fast as a copy; what is left are the entries.",
+        "two checks take a large part of the call; then come a count by the entries, one pass over the bytes, and the entries.",
     ),
     (
         "maximum",
-        "a merge of 15,728 entries, some 2.5 ns each, without a branch; two checks are a third of the call. A first loop while \
-         both maps have entries, and copies after it, would take 4 microseconds off.",
+        "a merge of the entries of both maps, one by one and without a branch, beside two checks. A first loop while both maps have entries, and copies after it, was tried in a trial program and gains little.",
     ),
     (
         "difference",
@@ -292,38 +287,31 @@ const REASONS: [(&str, &str); 21] = [
     ),
     (
         "shift by -50",
-        "half of the time is the one pass that writes the bytes, the rest three walks over 7,864 entries.",
+        "half of the time is the one pass that writes the bytes, the rest three walks over the entries.",
     ),
     (
         "sum_maps, few to overflow",
-        "two passes over the bytes (a count first, since a refused call may write nothing, then the sums), mask words of the \
-         result, a walk over their set bits, and a walk that fills in 18,000 distances, of which each branch is guessed wrong \
-         every other time. Filling in without a branch takes 18 microseconds off here and doubles the time where half \
-         of the sums are in overflow; one loop for slots and distances was slower.",
+        "two passes over the bytes (a count first, since a refused call may write nothing, then the sums), mask words of the result, a walk over their set bits, and a walk that fills in the distances, of which each branch is guessed wrong every other time. Filling in without a branch was faster here and much slower where half of the sums are in overflow; one loop for slots and distances was slower.",
     ),
     (
         "sum_maps, half to overflow",
-        "400,000 entries of 12 bytes, 2.2 ns each: a slot is written, read again and its distance filled in. One loop for both \
-         would be faster here and slower where few sums are in overflow.",
+        "an entry of 12 bytes for every other slot: a slot is written, read again and its distance filled in. One loop for both would be faster here and slower where few sums are in overflow.",
     ),
     (
         "shift by 10",
-        "as the sum: the entries of 38,000 slots are found, written and filled in one by one.",
+        "as the sum: the entries are found, written and filled in one by one.",
     ),
     (
         "increment_masked",
-        "as the sum, and a count of the set slots with byte 254 before it. A count by mask words of bytes from 254 on gained 10 \
-         microseconds, and cost the masks of a map more, whose kernel was then no longer compiled into its loop.",
+        "as the sum, and a count of the set slots with byte 254 before it. A count by mask words of bytes from 254 on gained little, and cost the masks of a map more, whose kernel was then no longer compiled into its loop.",
     ),
     (
         "keep_masked",
-        "the mask becomes bytes by the table of 256 rows, eight at a time, before 16 bytes are combined at once; then the \
-         entries. The check is a quarter of the call.",
+        "the mask becomes bytes by the table of 256 rows, eight at a time, before 16 bytes are combined at once; then the entries. The check is a quarter of the call.",
     ),
     (
         "bray_curtis",
-        "sums of smaller and larger bytes take 60 microseconds of the call, in 16-bit numbers; other blocks gained 2 and \
-         other sums 5.",
+        "sums of smaller and larger bytes, in 16-bit numbers; other blocks and other sums gained little.",
     ),
     (
         "jaccard at 200",
@@ -331,8 +319,7 @@ const REASONS: [(&str, &str); 21] = [
     ),
     (
         "scan",
-        "widening takes as long as filling the list with a constant; the entries are then put in, where the list is no longer \
-         in the first-level cache. Putting them in block by block gained nothing.",
+        "widening takes as long as filling the list with a constant; the entries are then put in, where the list is no longer in the first-level cache. Putting them in block by block gained nothing.",
     ),
     (
         "signed_difference",

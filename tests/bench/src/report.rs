@@ -44,7 +44,7 @@ const GOALS: &str = "
 At 1,024 by 768 with 1 % in overflow, scattered, unless a row says otherwise. The checks of the files are left out on both
 sides, by taking off the times of the check, unless a row says that they are included. `best flat` is the best of flat Rust,
 numpy and OpenCV. `before` is what `bench goals` printed for the library before its kernels were made faster, on the same
-machine (`tests/bench/before.tsv`). A ratio within 1 % of its goal counts as met. The goals were set on another machine.
+machine (`tests/bench/before.tsv`; twice as many rounds, lists of 20,000 lookups). A ratio within 1 % of its goal counts as met. The goals were set on another machine.
 The independent program's check is compiled in one of two ways from build to build, and takes some 300 or 490 microseconds;
 ratios to it that include checks, and those before and after, differ by that too. The library's check is the same before and
 after.
