@@ -44,8 +44,8 @@ module _ (bytes : List ℕ) (lowest slot distance : ℕ) where
   pub wrongEntry-byte : slot < length bytes → lowest ≤ slot → 255 ≤ distance
       → wrongEntry bytes lowest slot distance ≡ not (eqb (at bytes slot) 255)
   unfolding wrongEntry
-  wrongEntry-byte inside above far =
-      rw (lt-leb (length bytes) slot inside, le-ltb slot lowest above, le-ltb distance 255 far)
+  wrongEntry-byte inside above overflows =
+      rw (lt-leb (length bytes) slot inside, le-ltb slot lowest above, le-ltb distance 255 overflows)
 
 -- ---- two lists of entries
 
@@ -107,7 +107,7 @@ module _ (bytes slots distances : List ℕ) where
         (record {
           inside = rw s at (g .inside);
           above = rw (lowest-is j h, ← s) (g .above);
-          far = omega arith;
+          overflows = omega arith;
           marked = rw s at (g .marked);
         })
 

@@ -1,5 +1,5 @@
 -- The primary bytes of the result.
---   mask-room            the words of a mask have all of its slots
+--   mask-covers            the words of a mask have all of its slots
 --   masked-byte-is       what a bit makes of a primary byte is the primary byte of what it makes of the distance
 --   maskedSlot op b ws i     what becomes of the primary byte of slot i in the file b
 --   word-of-slots, masked-primary    64 slots are a word; all slots are the primary bytes
@@ -28,8 +28,8 @@ use Rattle.pciv_masked.specs.declared.bytes.MaskedOp.{MaskedOp}
 use Rattle.pciv_masked.specs.declared.bytes.MaskedOp.the-variants.{Keep, Increment}
 use Rattle.pciv_masked.proofs.RowLaws.{slot-bit}
 
-pub mask-room : {n : ℕ} {ws : List ℕ} → IsMask n ws → n ≤ 64 * length ws
-mask-room m = omega (arith, m .count)
+pub mask-covers : {n : ℕ} {ws : List ℕ} → IsMask n ws → n ≤ 64 * length ws
+mask-covers m = omega (arith, m .count)
 
 pub masked-byte-is : (op : MaskedOp) (b : Bool) (x : ℕ) → maskedByte op (flag b) (primaryByte x) ≡ primaryByte (maskedOf op b x)
 masked-byte-is Keep true x = refl

@@ -59,7 +59,7 @@ row-of-word x j =
 
 -- the bits of a word as they stand in 64 bytes
 pub word-bit : (d b : List ℕ) (x j : ℕ) → 64 ≤ length d → b ≡ sets d 0 (table (bitAt x) 0 64) → j < 64 → byteAt b j ≡ bitAt x j
-word-bit d b x j room is h =
+word-bit d b x j space is h =
     let l : length (table (bitAt x) 0 64) ≡ 64 = length-table (bitAt x) 0 64 in
     ap₂ byteAt is (sym (zero-add j))
     ∙ sets-at d (table (bitAt x) 0 64) 0 j 0 (omega arith) (omega arith)

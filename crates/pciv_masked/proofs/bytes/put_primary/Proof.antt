@@ -12,7 +12,7 @@ use Rattle.pciv_bytes.proofs.WriteLaws.{sets-table-start, sets-table-more, sets
 use Rattle.pciv_map.proofs.MapLaws.{primary-inside}
 use Rattle.pciv_masked.specs.Masked.{maskedByte}
 use Rattle.pciv_masked.specs.declared.bytes.MaskedOp.{MaskedOp}
-use Rattle.pciv_masked.proofs.ByteLaws.{mask-room, maskedSlot, word-of-slots, masked-primary}
+use Rattle.pciv_masked.proofs.ByteLaws.{mask-covers, maskedSlot, word-of-slots, masked-primary}
 use borrow.Author.Needs.{needs}
 use Rattle.pciv_masked.proofs.bytes.put_primary.Statement.{statement}
 use Rattle.pciv_masked.proofs.bytes.put_primary.Tie as tie
@@ -59,7 +59,7 @@ mul-mask-word c = search needs
 shared-slice-read-mask-word : tie.Need-shared-slice-read-mask-word Inv-loop μ-loop Inv-loop2 μ-loop2
 shared-slice-read-mask-word c =
     let w = c .before .before .before in
-    omega (arith, w .before .loop .inv .1 .0, w .loop-test .taken, mask-room (start w .pre .1 .0))
+    omega (arith, w .before .loop .inv .1 .0, w .loop-test .taken, mask-covers (start w .pre .1 .0))
 
 mask-word-requires : tie.Need-mask-word-requires Inv-loop μ-loop Inv-loop2 μ-loop2
 mask-word-requires c κs =
@@ -101,7 +101,7 @@ loop2-holds : tie.Need-loop2-holds Inv-loop μ-loop Inv-loop2 μ-loop2
 loop2-holds c = (search needs, refl, refl)
 
 bit-of-requires : tie.Need-bit-of-requires Inv-loop μ-loop Inv-loop2 μ-loop2
-bit-of-requires c κs = omega (arith, mask-room (start2 c .pre .1 .0), c .loop2-test .taken)
+bit-of-requires c κs = omega (arith, mask-covers (start2 c .pre .1 .0), c .loop2-test .taken)
 
 add-masked-byte : tie.Need-add-masked-byte Inv-loop μ-loop Inv-loop2 μ-loop2
 add-masked-byte c = search needs
