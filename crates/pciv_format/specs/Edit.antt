@@ -126,7 +126,8 @@ bufferOf z b₀ = fileOf (z .list) ++ (replicate (z .filled - length (fileOf (z 
 
 -- ---- each edit of a run
 
--- x is the plain editor's list; b and editBuffer b e are the buffer just before and just after the edit
+-- x is the plain editor's list; b and editBuffer b e are the buffer just before and just after the edit, which is
+-- accepted or refused as the plain editor says
 pub record StepLimits (R : ℕ) (x b : List ℕ) (e : Edit) : Type 0 where
   -- the edit gets the whole buffer
   pub whole : length b ≡ R
@@ -143,10 +144,11 @@ pub record StepLimits (R : ℕ) (x b : List ℕ) (e : Edit) : Type 0 where
   pub freed : (s : Summary) → plainOutcome x R e ≡ done s
       → (i : ℕ) → length (fileOf (edited x e)) ≤ i → i < length (fileOf x) → getD (editBuffer b e) i 0 ≡ 0
   -- bytes past both lengths stay
-  pub past : (i : ℕ) → length (fileOf x) ≤ i → length (fileOf (edited x e)) ≤ i → getD (editBuffer b e) i 0 ≡ getD b i 0
+  pub past : (i : ℕ) → length (fileOf x) ≤ i → length (fileOf (edited x e)) ≤ i
+      → getD (editBuffer b e) i 0 ≡ getD b i 0
   -- an edit to the same distance changes nothing
   pub same : e .distance ≡ at x (e .slot) → editBuffer b e ≡ b
-  -- the buffer stays as long as it is, accepted or refused
+  -- the buffer stays as long as it is
   pub lengthStays : length (editBuffer b e) ≡ length b
 
 -- each edit's limits, with the plain editor's list and the buffer as the edits before it left them
