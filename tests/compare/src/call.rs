@@ -179,9 +179,9 @@ impl Judge {
     ) {
         let mut wanted = Guarded::dirty(capacity);
         let mut got = wanted.clone();
-        let answer = reference(wanted.lent());
+        let answer = reference(wanted.contents_mut());
         self.value(call, answer, |out, refusal| {
-            library(got.lent(), out, refusal)
+            library(got.contents_mut(), out, refusal)
         });
         self.same_guarded(call, "buffer", &wanted, &got);
     }
@@ -224,12 +224,12 @@ impl<E: Dirty + Clone> Guarded<E> {
     /// A buffer that holds these elements.
     pub fn with(contents: &[E]) -> Guarded<E> {
         let mut guarded = Guarded::dirty(contents.len());
-        guarded.lent().clone_from_slice(contents);
+        guarded.contents_mut().clone_from_slice(contents);
         guarded
     }
 
     /// What a call gets.
-    pub fn lent(&mut self) -> &mut [E] {
+    pub fn contents_mut(&mut self) -> &mut [E] {
         &mut self.memory[self.range.clone()]
     }
 
