@@ -8,7 +8,7 @@ use crate::read_only::ReadOnly;
 use compare::rng::Rng;
 use pciv::raw;
 
-/// A file that the library reads, and where its answers are judged.
+/// A file that the library only reads, and the judge of its answers.
 pub struct Trial<'a> {
     judge: &'a mut Judge,
     file: ReadOnly<u8>,

@@ -539,8 +539,8 @@ impl Subject for EntryFewer {
         format!("slot {} out of overflow and into it", self.slot)
     }
 
-    /// 86,959 bytes are too few to go from 4,097 entries to 4,096, and 86,960 are enough. From 4,096
-    /// to 4,097 the file becomes shorter, and the bytes up to the old length become 0.
+    /// 86,959 bytes are too few to go from 4,097 entries to 4,096, and 86,960 are enough. From
+    /// 4,096 to 4,097 the file becomes shorter, and the bytes up to the old length become 0.
     fn compare(&self, judge: &mut Judge, _: &mut Rng) {
         let mut list = self.list.clone();
         let (slot, distance) = (self.slot as u64, list[self.slot]);

@@ -29,10 +29,12 @@ fn main() {
         }
     };
     judge(TABLE, first_line(&table));
-    judge(TABLE, same_names(&names_of(folder), &lines));
+    judge(TABLE, unique(&lines));
+    let in_readme = names_in(&text(&folder.join(README)));
+    judge("files and lines", same_names(&names_of(folder), &lines));
     judge(
-        README,
-        same_names(&names_in(&text(&folder.join(README))), &lines),
+        "rows of the README and lines",
+        same_names(&in_readme, &lines),
     );
     for (name, fields) in &lines {
         let file = fs::read(folder.join(name)).unwrap_or_default();
@@ -81,14 +83,22 @@ fn names_in(readme: &str) -> BTreeSet<String> {
         .collect()
 }
 
-/// Each name has one line, and each line one of the names.
+fn unique(lines: &[(&str, Vec<&str>)]) -> Verdict {
+    same("names", lines.len(), in_lines(lines).len())
+}
+
+/// Each name has a line, and each line one of the names.
 fn same_names(names: &BTreeSet<String>, lines: &[(&str, Vec<&str>)]) -> Verdict {
-    let in_table: BTreeSet<String> = lines.iter().map(|(name, _)| name.to_string()).collect();
-    let odd: Vec<_> = names.symmetric_difference(&in_table).collect();
-    match odd.is_empty() && in_table.len() == lines.len() {
+    let lines = in_lines(lines);
+    let odd: Vec<_> = names.symmetric_difference(&lines).collect();
+    match odd.is_empty() {
         true => Ok(()),
-        false => Err(format!("not in both, or twice in {TABLE}: {odd:?}")),
+        false => Err(format!("not in both: {odd:?}")),
     }
+}
+
+fn in_lines(lines: &[(&str, Vec<&str>)]) -> BTreeSet<String> {
+    lines.iter().map(|(name, _)| name.to_string()).collect()
 }
 
 /// What a line says of its file.
@@ -166,7 +176,7 @@ impl Contents {
         same("scan", Ok(self.summary.n), pciv::scan(file, &mut list))?;
         let wide = || list.iter().copied().map(u64::from);
         same("first", self.first, wide().next())?;
-        same("last", self.last, wide().last())?;
+        same("last", self.last, wide().next_back())?;
         same("sum of the scan", self.sum, wide().sum())?;
         let readings = wide().filter(|&distance| distance > 0).count();
         same("readings of the scan", self.readings, readings as u64)?;
@@ -195,8 +205,9 @@ fn refused(refusal: Refusal, file: &[u8]) -> Verdict {
     same("length of primary", 0, pciv::primary(file).len())
 }
 
-/// The name's verdict, numbers and place are those of the line: `good-WHAT.pciv`, where `K-overflow`,
-/// `step-S` and `no-index` have meaning, or `bad-NN-WHAT.pciv`, `bad-NN-place-P-WHAT.pciv`.
+/// The name's verdict, numbers and place are those of the line: `good-WHAT.pciv`, where
+/// `K-overflow`, `step-S` and `no-index` have meaning, or `bad-NN-WHAT.pciv`,
+/// `bad-NN-place-P-WHAT.pciv`.
 fn agrees(name: &str, line: &Line) -> Verdict {
     let stem = name.strip_suffix(".pciv").ok_or("not a .pciv file")?;
     let words: Vec<&str> = stem.split('-').collect();
