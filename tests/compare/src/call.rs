@@ -76,7 +76,7 @@ impl Dirty for Summary {
     }
 }
 
-/// An answer of the reference.
+/// An answer of the reference, or one that is written down.
 pub type Answer<T> = Result<T, reference::Refusal>;
 
 /// The reference's summary in the library's type.
@@ -110,7 +110,7 @@ struct Outcome<T> {
     result: T,
 }
 
-/// The outcome that the reference's answer asks for.
+/// The outcome that an answer asks for.
 fn expected<T: Dirty>(answer: Answer<T>) -> Outcome<T> {
     match answer {
         Ok(result) => Outcome {
