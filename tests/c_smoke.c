@@ -521,6 +521,35 @@ static void test_edit(const uint8_t *file)
     EXPECT(memcmp(buffer + 56, zeros, 12) == 0 && is_dirty(buffer + MAP_LEN, 4));
 }
 
+/* The edit of slot 1 to 255 makes the file 80 bytes long: a buffer of 79 is refused and stays as it
+   is, one of 80 is enough. */
+static void test_edit_capacity(const uint8_t *file)
+{
+    static const uint8_t edited[80] = {
+        'P', 'C', 'I', 'V', 0, 0, 0, 0,              /* "PCIV", zeros */
+        4, 0, 0, 0, 0, 0, 0, 0,                      /* n */
+        3, 0, 0, 0, 0, 0, 0, 0,                      /* k */
+        0, 0, 0, 0, 0, 0, 0, 0,                      /* m */
+        0, 0, 0, 0, 0, 0, 0, 0,                      /* step */
+        0, 255, 255, 255,                            /* primary array */
+        1, 0, 0, 0, 0, 0, 0, 0, 0xFF, 0x00, 0, 0,    /* slot 1: 255 */
+        2, 0, 0, 0, 0, 0, 0, 0, 0xFF, 0x00, 0, 0,    /* slot 2: 255 */
+        3, 0, 0, 0, 0, 0, 0, 0, 0x2C, 0x01, 0, 0     /* slot 3: 300 */
+    };
+    uint8_t buffer[80];
+    pciv_summary summary;
+    pciv_refusal refusal;
+    memset(buffer, DIRTY, sizeof buffer);
+    memcpy(buffer, file, MAP_LEN);
+    memset(&summary, DIRTY, sizeof summary);
+    EXPECT(pciv_edit(buffer, 79, 1, 255, &summary, &refusal) == PCIV_BUFFER_TOO_SMALL);
+    EXPECT(is_refusal(&refusal, 12, 0, 0) && is_dirty(&summary, sizeof summary));
+    EXPECT(memcmp(buffer, file, MAP_LEN) == 0 && is_dirty(buffer + MAP_LEN, 80 - MAP_LEN));
+    EXPECT(pciv_edit(buffer, 80, 1, 255, &summary, &refusal) == PCIV_OK);
+    EXPECT(is_refusal(&refusal, 0, 0, 0) && is_summary(&summary, 4, 3, 80));
+    EXPECT(memcmp(buffer, edited, 80) == 0);
+}
+
 static void test_edit_list(const uint8_t *file)
 {
     static const uint64_t slots[] = {2, N, 0};
@@ -606,6 +635,7 @@ int main(void)
     test_masks(file, other);
     test_figures(file, other);
     test_edit(file);
+    test_edit_capacity(file);
     test_edit_list(file);
     test_report(file);
     test_damage(file, 0, 'p', PCIV_BAD_MAGIC, 0);

@@ -1,6 +1,6 @@
 #!/bin/sh
 # Builds and runs the C and Rust side: header, C and C++ programs, what is shipped, Rust tests, interface, vectorised loops,
-# comparison, the fuzzer's corpus, report program.
+# comparison, test vectors, the fuzzer's corpus, report program.
 # Wants libpciv_c.a in PCIV_LIB_DIR (default target/staticlib) and the report program at PCIV_REPORT
 # (default target/bin/report); relative paths start at the repository's root.
 set -u
@@ -118,6 +118,14 @@ interface() {
     "$programs/interface" "$dist/lib/libpciv_c.a" "$dist/lib/libpciv_c.so"
 }
 
+# The test vectors: made anew they are the same, and the library gives their answers.
+vectors() {
+    rm -rf "$work/vectors" &&
+        "$programs/make_vectors" "$work/vectors" &&
+        diff -r -x README.md tests/vectors "$work/vectors" &&
+        "$programs/vectors" tests/vectors
+}
+
 report_program() {
     "$programs/make_report_inputs" "$work/report" && sh tests/report.sh "$report" "$work/report"
 }
@@ -138,6 +146,7 @@ part readme readme
 part interface interface
 part kernels "$programs/kernels" "$PCIV_LIB_DIR/libpciv_c.a"
 part compare "$programs/compare"
+part vectors vectors
 part corpus "$programs/corpus" replay tests/fuzz/corpus.txt
 part report report_program
 
