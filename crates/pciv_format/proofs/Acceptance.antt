@@ -6,7 +6,6 @@
 --   accepted-is-file  an accepted file is the file of the list that it is read as, which is within the limits,
 --                     and the answer is that list's summary
 --   accepted-iff      so a file is accepted exactly when it is the file of some list within the limits
---   file-lookup, file-sum, file-readings, file-threshold    the routines on a list's file answer that list's own
 --   fileOf-inj        two lists within the limits with one file are one list: it is read as no other
 use mathlib.Core.Path.{_≡_, refl, sym, ap, _∙_}
 use mathlib.Core.Logic.{_↔_}
@@ -34,11 +33,13 @@ use Rattle.pciv_format.proofs.FileLaws.{file-checked, file-value}
 use Rattle.pciv_format.proofs.ExactLaws.{checked-value-le, checked-count, checked-file}
 use Rattle.pciv_format.proofs.ReadLaws.{length-listOf, at-listOf}
 
+module _ (n : ℕ) (v : ℕ → ℕ) (few : n ≤ maxSlots) (each : (i : ℕ) → i < n → v i ≤ maxDistance) where
+  pub file-table-accepted : (mp : ℕ) → checkFile mp (file n v) ≡ done (summary n v)
+  unfolding summary
+  file-table-accepted mp = checkFile-done mp (file n v) n (overflowCount n v) (file-checked n v few each) (length-file n v)
+
 pub file-accepted : (mp : ℕ) (xs : List ℕ) → Limits xs → checkFile mp (fileOf xs) ≡ done (summaryOf xs)
-unfolding summary
-file-accepted mp xs l =
-    let n : ℕ = length xs in
-    checkFile-done mp (fileOf xs) n (overflowCount n (at xs)) (file-checked n (at xs) (l .count) (l .each)) (length-file n (at xs))
+file-accepted mp xs l = file-table-accepted (length xs) (at xs) (l .count) (l .each) mp
 
 pub file-read : (xs : List ℕ) → Limits xs → listOf (fileOf xs) ≡ xs
 file-read xs l =
@@ -104,26 +105,3 @@ accepted-iff mp b bytes = (
 
 pub fileOf-inj : (xs ys : List ℕ) → Limits xs → Limits ys → fileOf xs ≡ fileOf ys → xs ≡ ys
 fileOf-inj xs ys l m e = sym (file-read xs l) ∙ ap listOf e ∙ file-read ys m
-
--- ---- the reading routines on the file of a list
-
-module _ (xs : List ℕ) (l : Limits xs) where
-  pub file-lookup : (slot : ℕ) → slot < length xs → lookupOutcome (fileOf xs) slot ≡ done (at xs slot)
-  unfolding lookupOutcome summary countsOf
-  file-lookup slot h = rw (file-accepted 1 xs l, file-read xs l, lt-leb (length xs) slot h)
-
-  pub file-sum : sumOutcome (fileOf xs) ≡ done (total xs)
-  unfolding sumOutcome
-  file-sum = rw (file-accepted 1 xs l, file-read xs l)
-
-  pub file-readings : readingsOutcome (fileOf xs) ≡ done (readings xs)
-  unfolding readingsOutcome
-  file-readings = rw (file-accepted 1 xs l, file-read xs l)
-
-  -- the mask of a list's file is the mask of the list
-  pub file-threshold : (c : Comparison) (t : ℕ) (out : List ℕ) → maskLen (length xs) ≤ length out
-      → thresholdWords c (fileOf xs) t out
-      ≡ maskOf (length xs) (λ i. holds c (at xs i) t) ++ drop (length (maskOf (length xs) (λ i. holds c (at xs i) t))) out
-  unfolding thresholdWords summary countsOf
-  file-threshold c t out fits =
-      rw (file-accepted 1 xs l, file-read xs l, le-ltb (length out) (maskLen (length xs)) fits)
