@@ -1,8 +1,15 @@
--- The routines on the files of lists: for lists within the limits and every other argument, the answer and what the
--- caller's buffer or list holds afterwards are those of the arithmetic on the lists, refusals included.
-use mathlib.Core.Path.{_≡_, refl, sym, ap, ap₂, _∙_}
+-- Every routine on the files of lists (docs/PROMISES.md, "Routines"): for lists within the limits and any other
+-- arguments, its answer and what the caller's buffer or list holds afterwards are those of the arithmetic on the
+-- lists, refusals 9 to 13 included. Nothing on a right-hand side reads a file.
+--   Writes             what a routine answers and leaves, whatever buffer or list it gets
+--   file-X, front-X    a law for each routine X; front-X for a buffer with a list's file at its front
+--   file-pair          the check of two files and refusal 10; file-select, file-masked: once for several routines
+--   WritesMap, X-read  what a routine X writes as a map is accepted with X's answer and is read as the list of results
+--   map-read           that, once for all of them
+-- Check is `file-accepted` (Acceptance.antt), and of a buffer `front-check` (FrontLaws.antt). The routines on masks
+-- alone (and, or, xor, complement, set_bits, map_of_mask) are given no file: their definitions are on the words.
+use mathlib.Core.Path.{_≡_, refl, sym, ap, _∙_}
 use Prim.Native.Nat.{ℕ, _+_, _*_, _≤_, _<_, min}
-use native.Mathlib.Omega.{arith}
 use mathlib.Core.Bool.{Bool, not, _||_, xor}
 use mathlib.Core.List.{List, _++_, map}
 use lib.ListN.{length, take, drop}
@@ -12,16 +19,26 @@ use lib.IntN.{ℤ}
 use borrow.Author.Tests.{ltb-false}
 use Rattle.pciv_bytes.specs.Ranges.{table}
 use Rattle.pciv_bytes.specs.LittleEndian.{Bytes}
-use Rattle.pciv_format.specs.Layout.{maxSlots, maxDistance, primary, overflowSlots, overflowCount, overflowPart, indexPart, header, file, countsOf, summary, at, fileOf, summaryOf, Limits}
-use Rattle.pciv_format.specs.Refusals.{Outcome, done, refuse, refuseIf, refuseFirst, andThen, written}
+use Rattle.pciv_format.specs.Layout.{maxSlots, maxDistance, primary, overflowCount, header, file}
+use Rattle.pciv_format.specs.Layout.{countsOf, summary, at, fileOf, summaryOf, Limits}
+use Rattle.pciv_format.specs.Refusals.{Outcome, done, refuse, refuseIf, refuseFirst, written}
 use Rattle.pciv_format.specs.Parts.{Parts, badEntry, badSlot, valueOf, SoundParts}
 use Rattle.pciv_format.specs.Check.{checkFile}
-use Rattle.pciv_format.specs.Read.{listOf, primaryPart, lookupOutcome, itemsInto, lookupListOutcome, lookupListBuffer, scanOutcome, scanBuffer, total, readings, sumOutcome, readingsOutcome}
-use Rattle.pciv_format.specs.Write.{fileInto, mapInto, fileBuffer, writeOutcome, writeBuffer, closeParts, closeOutcome, closeBuffer}
-use Rattle.pciv_format.specs.Mask.{maskLen, maskHas, maskOf, badMask, holds, isNear, selectOutcome, selectWords, thresholdOutcome, thresholdWords, nearMaskOutcome, nearMaskWords, maskValue, mapOfMaskOutcome, mapOfMaskBuffer, maskedOutcome, maskedBuffer, keptIf, keepMaskedOutcome, keepMaskedBuffer, plusIf, incrementMaskedOutcome, incrementMaskedBuffer}
-use Rattle.pciv_format.specs.Arith.{pairOutcome, combinedAt, combineMapsOutcome, combineMapsBuffer, shiftedBy, shiftOutcome, shiftBuffer, signedDifferences, signedDifferenceOutcome, signedDifferenceList}
+use Rattle.pciv_format.specs.Read.{listOf, primaryPart, lookupOutcome, itemsInto, lookupListOutcome, lookupListBuffer}
+use Rattle.pciv_format.specs.Read.{scanOutcome, scanBuffer, total, readings, sumOutcome, readingsOutcome}
+use Rattle.pciv_format.specs.Write.{fileInto, mapInto, writeOutcome, writeBuffer, closeParts, closeOutcome, closeBuffer}
+use Rattle.pciv_format.specs.Mask.{maskLen, maskHas, maskOf, badMask, holds, isNear, selectOutcome, selectWords}
+use Rattle.pciv_format.specs.Mask.{thresholdOutcome, thresholdWords, nearMaskOutcome, nearMaskWords}
+use Rattle.pciv_format.specs.Mask.{maskValue, mapOfMaskOutcome, mapOfMaskBuffer, maskedOutcome, maskedBuffer}
+use Rattle.pciv_format.specs.Mask.{keptIf, keepMaskedOutcome, keepMaskedBuffer}
+use Rattle.pciv_format.specs.Mask.{plusIf, incrementMaskedOutcome, incrementMaskedBuffer}
+use Rattle.pciv_format.specs.Arith.{pairOutcome, combinedAt, combineMapsOutcome, combineMapsBuffer}
+use Rattle.pciv_format.specs.Arith.{shiftedBy, shiftOutcome, shiftBuffer}
+use Rattle.pciv_format.specs.Arith.{signedDifferences, signedDifferenceOutcome, signedDifferenceList}
 use Rattle.pciv_format.specs.Figures.{quotient, distanceBetween, brayCurtisOutcome, countAt, jaccardOutcome}
-use Rattle.pciv_format.specs.Edit.{Edit, edited, plainOutcome, editOutcome, replaced, ifAccepted, editBuffer, plainStart, plainRun, plainOutcomes, bufferOf, answerLen, allCells, editsOf, editListOutcome, editListBuffer, editListAnswers}
+use Rattle.pciv_format.specs.Edit.{Edit, edited, plainOutcome, editOutcome, replaced, ifAccepted, editBuffer}
+use Rattle.pciv_format.specs.Edit.{plainStart, plainRun, plainOutcomes, bufferOf, answerLen, allCells, editsOf}
+use Rattle.pciv_format.specs.Edit.{editListOutcome, editListBuffer, editListAnswers}
 use Rattle.pciv_format.specs.Report.{textOf, reportText, reportOutcome, reportBuffer}
 use Rattle.pciv_format.specs.declared.Summary.{Summary}
 use Rattle.pciv_format.specs.declared.SlotOp.{SlotOp}
@@ -30,28 +47,30 @@ use Rattle.pciv_format.proofs.PartsLaws.{valueOf-le}
 use Rattle.pciv_format.proofs.RefusalsLaws.{refuseIf-done, refuseFirst-done}
 use Rattle.pciv_format.proofs.LayoutLaws.{length-header, length-primary, length-file}
 use Rattle.pciv_format.proofs.FileLaws.{file-header}
-use Rattle.pciv_format.proofs.Acceptance.{file-table-accepted, file-accepted, file-read, file-table-read}
+use Rattle.pciv_format.proofs.Acceptance.{file-accepted, file-read, file-table, summary-table, table-limits}
 use Rattle.pciv_format.proofs.FrontLaws.{front-check, front-list}
 
 module _ {A B : Type 0} where
-  -- for every buffer or list: the answer is o of its capacity, and f stands at its front afterwards, or it is
-  -- unchanged where o refuses
+  -- for every buffer or list: the answer is o of its capacity, and afterwards f stands at its front and the rest is
+  -- unchanged, or all of it where o refuses
   abbrev pub Writes : (ℕ → Outcome A) → (List B → List B) → (ℕ → Outcome A) → List B → Type 0
   Writes outcome after o f =
       (out : List B) → (outcome (length out) ≡ o (length out)) × (after out ≡ written (o (length out)) f out)
 
--- ---- reading one file
+-- ---- reading
 
 primary-part : (n : ℕ) (v : ℕ → ℕ) → take n (drop 40 (file n v)) ≡ primary n v
 unfolding file
 primary-part n v =
-    ap (take n) (drop-at (header n (overflowCount n v)) _ 40 (length-header n _)) ∙ take-at (primary n v) _ n (length-primary n v)
+    ap (take n) (drop-at (header n (overflowCount n v)) _ 40 (length-header n _))
+    ∙ take-at (primary n v) _ n (length-primary n v)
 
 module _ (xs : List ℕ) (l : Limits xs) where
   pub file-primary : primaryPart (fileOf xs) ≡ primary (length xs) (at xs)
   unfolding primaryPart
   file-primary =
-      rw (file-accepted 1 xs l, file-header (length xs) (at xs) (l .count) (l .each) .nIs) (primary-part (length xs) (at xs))
+      rw (file-accepted 1 xs l, file-header (length xs) (at xs) (l .count) (l .each) .nIs)
+      (primary-part (length xs) (at xs))
 
   pub file-lookup : (slot : ℕ)
       → lookupOutcome (fileOf xs) slot ≡ refuseIf (leb (length xs) slot) (refuse 9 0 0) (done (at xs slot))
@@ -79,6 +98,7 @@ module _ (xs : List ℕ) (l : Limits xs) where
 
   -- ---- masks of a map
 
+  -- of the slots whose distance passes the test p
   pub file-select : (p : ℕ → Bool)
       → Writes (selectOutcome (fileOf xs)) (selectWords p (fileOf xs)) (itemsInto (maskLen (length xs)))
       (maskOf (length xs) (λ i. p (at xs i)))
@@ -99,36 +119,39 @@ module _ (xs : List ℕ) (l : Limits xs) where
 
 -- ---- maps from one file
 
--- the distance of a masked map at slot i
+-- the distance of a shifted map, and of a masked one, at slot i
+abbrev pub shiftedAt : ℤ → List ℕ → ℕ → ℕ
+shiftedAt d xs i = shiftedBy d (at xs i)
+
 abbrev pub maskedAt : (Bool → ℕ → ℕ) → List ℕ → List ℕ → ℕ → ℕ
 maskedAt f ws xs i = f (maskHas ws i) (at xs i)
 
--- refusal 13, then what follows
-abbrev pub ifMask : List ℕ → List ℕ → Outcome Summary → Outcome Summary
-ifMask ws xs o = refuseIf (badMask (length xs) ws) (refuse 13 0 0) o
+-- the masked map into a buffer of c bytes: refusals 13, 11 and 12
+abbrev pub maskedInto : (Bool → ℕ → ℕ) → List ℕ → List ℕ → ℕ → Outcome Summary
+maskedInto f ws xs c = refuseIf (badMask (length xs) ws) (refuse 13 0 0) (mapInto (length xs) (maskedAt f ws xs) c)
 
 module _ (xs : List ℕ) (l : Limits xs) where
   pub file-shift : (d : ℤ)
-      → Writes (shiftOutcome (fileOf xs) d) (shiftBuffer (fileOf xs) d)
-      (mapInto (length xs) (λ i. shiftedBy d (at xs i))) (file (length xs) (λ i. shiftedBy d (at xs i)))
+      → Writes (shiftOutcome (fileOf xs) d) (shiftBuffer (fileOf xs) d) (mapInto (length xs) (shiftedAt d xs))
+      (file (length xs) (shiftedAt d xs))
   unfolding shiftOutcome shiftBuffer summary countsOf
   file-shift d out = rw (file-accepted 1 xs l, file-read xs l) (refl, refl)
 
   pub file-masked : (f : Bool → ℕ → ℕ) (ws : List ℕ)
-      → Writes (maskedOutcome f (fileOf xs) ws) (maskedBuffer f (fileOf xs) ws)
-      (λ c. ifMask ws xs (mapInto (length xs) (maskedAt f ws xs) c)) (file (length xs) (maskedAt f ws xs))
+      → Writes (maskedOutcome f (fileOf xs) ws) (maskedBuffer f (fileOf xs) ws) (maskedInto f ws xs)
+      (file (length xs) (maskedAt f ws xs))
   unfolding summary countsOf
   file-masked f ws out = rw (file-accepted 1 xs l, file-read xs l) (refl, refl)
 
   pub file-keepMasked : (ws : List ℕ)
-      → Writes (keepMaskedOutcome (fileOf xs) ws) (keepMaskedBuffer (fileOf xs) ws)
-      (λ c. ifMask ws xs (mapInto (length xs) (maskedAt keptIf ws xs) c)) (file (length xs) (maskedAt keptIf ws xs))
+      → Writes (keepMaskedOutcome (fileOf xs) ws) (keepMaskedBuffer (fileOf xs) ws) (maskedInto keptIf ws xs)
+      (file (length xs) (maskedAt keptIf ws xs))
   unfolding keepMaskedOutcome keepMaskedBuffer
   file-keepMasked = file-masked keptIf
 
   pub file-incrementMasked : (ws : List ℕ)
-      → Writes (incrementMaskedOutcome (fileOf xs) ws) (incrementMaskedBuffer (fileOf xs) ws)
-      (λ c. ifMask ws xs (mapInto (length xs) (maskedAt plusIf ws xs) c)) (file (length xs) (maskedAt plusIf ws xs))
+      → Writes (incrementMaskedOutcome (fileOf xs) ws) (incrementMaskedBuffer (fileOf xs) ws) (maskedInto plusIf ws xs)
+      (file (length xs) (maskedAt plusIf ws xs))
   unfolding incrementMaskedOutcome incrementMaskedBuffer
   file-incrementMasked = file-masked plusIf
 
@@ -136,40 +159,41 @@ module _ (xs : List ℕ) (l : Limits xs) where
 
 -- refusal 10, then what follows
 module _ {A : Type 0} where
-  abbrev pub ifEqual : List ℕ → List ℕ → Outcome A → Outcome A
-  ifEqual xs ys o = refuseIf (not (eqb (length xs) (length ys))) (refuse 10 0 0) o
+  abbrev pub refuseSizes : List ℕ → List ℕ → Outcome A → Outcome A
+  refuseSizes xs ys o = refuseIf (not (eqb (length xs) (length ys))) (refuse 10 0 0) o
 
 module _ (xs ys : List ℕ) (l : Limits xs) (m : Limits ys) where
   pub file-pair : {A : Type 0} (next : ℕ → Outcome A)
-      → pairOutcome (fileOf xs) (fileOf ys) next ≡ ifEqual xs ys (next (length xs))
+      → pairOutcome (fileOf xs) (fileOf ys) next ≡ refuseSizes xs ys (next (length xs))
   unfolding summary countsOf
   file-pair next = rw (file-accepted 1 xs l, file-accepted 2 ys m)
 
   pub file-combineMaps : (o : SlotOp)
       → Writes (combineMapsOutcome o (fileOf xs) (fileOf ys)) (combineMapsBuffer o (fileOf xs) (fileOf ys))
-      (λ c. ifEqual xs ys (mapInto (length xs) (combinedAt o xs ys) c)) (file (length xs) (combinedAt o xs ys))
-  unfolding combineMapsOutcome combineMapsBuffer summary countsOf
-  file-combineMaps o out = rw (file-accepted 1 xs l, file-accepted 2 ys m, file-read xs l, file-read ys m) (refl, refl)
+      (λ c. refuseSizes xs ys (mapInto (length xs) (combinedAt o xs ys) c)) (file (length xs) (combinedAt o xs ys))
+  unfolding combineMapsOutcome combineMapsBuffer
+  file-combineMaps o out =
+      rw (file-read xs l, file-read ys m, file-pair (λ n. mapInto n (combinedAt o xs ys) (length out))) (refl, refl)
 
   pub file-signedDifference :
       Writes (signedDifferenceOutcome (fileOf xs) (fileOf ys)) (signedDifferenceList (fileOf xs) (fileOf ys))
-      (λ c. ifEqual xs ys (itemsInto (length xs) c)) (signedDifferences xs ys)
-  unfolding signedDifferenceOutcome signedDifferenceList summary countsOf
-  file-signedDifference out = rw (file-accepted 1 xs l, file-accepted 2 ys m, file-read xs l, file-read ys m) (refl, refl)
+      (λ c. refuseSizes xs ys (itemsInto (length xs) c)) (signedDifferences xs ys)
+  unfolding signedDifferenceOutcome signedDifferenceList
+  file-signedDifference out = rw (file-read xs l, file-read ys m, file-pair (λ n. itemsInto n (length out))) (refl, refl)
 
   pub file-brayCurtis : brayCurtisOutcome (fileOf xs) (fileOf ys)
-      ≡ ifEqual xs ys (done (quotient (distanceBetween xs ys) (total xs + total ys)))
-  unfolding brayCurtisOutcome summary countsOf
-  file-brayCurtis = rw (file-accepted 1 xs l, file-accepted 2 ys m, file-read xs l, file-read ys m)
+      ≡ refuseSizes xs ys (done (quotient (distanceBetween xs ys) (total xs + total ys)))
+  unfolding brayCurtisOutcome
+  file-brayCurtis = rw (file-read xs l, file-read ys m) (file-pair _)
 
-  pub file-jaccard : (t : ℕ)
-      → jaccardOutcome t (fileOf xs) (fileOf ys) ≡ ifEqual xs ys (done (quotient (countAt xor t xs ys) (countAt _||_ t xs ys)))
-  unfolding jaccardOutcome summary countsOf
-  file-jaccard t = rw (file-accepted 1 xs l, file-accepted 2 ys m, file-read xs l, file-read ys m)
+  pub file-jaccard : (t : ℕ) → jaccardOutcome t (fileOf xs) (fileOf ys)
+      ≡ refuseSizes xs ys (done (quotient (countAt xor t xs ys) (countAt _||_ t xs ys)))
+  unfolding jaccardOutcome
+  file-jaccard t = rw (file-read xs l, file-read ys m) (file-pair _)
 
 -- ---- the report
 
--- a file of more than 65,536 bytes is refused
+-- the text of a list: of a file of more than 65,536 bytes it tells refusal 12
 abbrev pub reportOf : List ℕ → List ℕ
 reportOf xs = textOf (refuseIf (ltb 65536 (summaryOf xs .len)) (refuse 12 0 0) (done (summaryOf xs))) xs
 
@@ -178,13 +202,14 @@ module _ (xs : List ℕ) (l : Limits xs) where
   unfolding reportText summary countsOf
   file-reportText = rw (file-accepted 1 xs l, file-read xs l, length-file (length xs) (at xs))
 
-  pub file-report : Writes (reportOutcome (fileOf xs)) (reportBuffer (fileOf xs)) (itemsInto (length (reportOf xs))) (reportOf xs)
+  pub file-report :
+      Writes (reportOutcome (fileOf xs)) (reportBuffer (fileOf xs)) (itemsInto (length (reportOf xs))) (reportOf xs)
   unfolding reportOutcome reportBuffer
   file-report out = rw file-reportText (refl, refl)
 
 -- ---- the editor, on a buffer with the file of xs at its front and any bytes t behind it
 
--- one position without an edit, then 12
+-- the answers of a run into a list of c numbers: refusals 9 and 12
 abbrev pub runInto : List ℕ → List ℕ → ℕ → Outcome ℕ
 runInto slots distances c =
     refuseIf (not (eqb (length slots) (length distances))) (refuse 9 0 (min (length slots) (length distances)))
@@ -213,57 +238,64 @@ module _ (xs t : List ℕ) (l : Limits xs) where
 
 -- ---- what is read from a written map
 
--- the file at the front of b, as long as s says, is accepted with the counts s, and is read as zs
+-- the file at the front of b, as long as s says, is accepted with the counts s and is read as zs
 pub record ReadAs (b : List ℕ) (s : Summary) (zs : List ℕ) : Type 0 where
   pub accepted : (mp : ℕ) → checkFile mp (take (s .len) b) ≡ done s
   pub read : listOf (take (s .len) b) ≡ zs
 
--- a routine that writes a map: where its answer is done with s, the buffer has the file of zs with these counts
+-- where the answer is done with s, that file stands in the buffer
 abbrev pub WritesMap : (ℕ → Outcome Summary) → (List ℕ → List ℕ) → List ℕ → Type 0
 WritesMap outcome after zs = (out : List ℕ) (s : Summary) → outcome (length out) ≡ done s → ReadAs (after out) s zs
 
--- n slots with distances v can be written, and their file has the counts s
-pub record Written (n : ℕ) (v : ℕ → ℕ) (s : Summary) : Type 0 where
+pub front-read : (zs t : List ℕ) → Limits zs → ReadAs (fileOf zs ++ t) (summaryOf zs) zs
+unfolding summary countsOf
+front-read zs t l =
+    let front : take (summaryOf zs .len) (fileOf zs ++ t) ≡ fileOf zs =
+    take-at (fileOf zs) t (summaryOf zs .len) (length-file (length zs) (at zs)) in
+    record { accepted = λ mp. ap (checkFile mp) front ∙ file-accepted mp zs l; read = ap listOf front ∙ file-read zs l }
+
+-- n slots with distances v are within the limits, and s are the counts of their file
+pub record Writable (n : ℕ) (v : ℕ → ℕ) (s : Summary) : Type 0 where
   pub few : n ≤ maxSlots
   pub each : (i : ℕ) → i < n → v i ≤ maxDistance
   pub counts : summary n v ≡ s
 
 module _ (n : ℕ) (v : ℕ → ℕ) where
-  pub written-read : (s : Summary) → Written n v s → (t : List ℕ) → ReadAs (file n v ++ t) s (table v 0 n)
-  unfolding summary countsOf
-  written-read s w t =
-      let front : take (summary n v .len) (file n v ++ t) ≡ file n v = take-at (file n v) t (summary n v .len) (length-file n v) in
-      rw (← w .counts)
-      (record {
-        accepted = λ mp. ap (checkFile mp) front ∙ file-table-accepted n v (w .few) (w .each) mp;
-        read = ap listOf front ∙ file-table-read n v (w .few) (w .each);
-      })
-
-  fileInto-done : n ≤ maxSlots → ((i : ℕ) → i < n → v i ≤ maxDistance) → (c : ℕ) (s : Summary) → fileInto n v c ≡ done s → Written n v s
+  fileInto-done : n ≤ maxSlots → ((i : ℕ) → i < n → v i ≤ maxDistance) → (c : ℕ) (s : Summary) → fileInto n v c ≡ done s
+      → Writable n v s
   fileInto-done few each c s e =
       let is : done (summary n v) ≡ done s = refuseIf-done (ltb c (length (file n v))) _ _ s e .1 in
       record { few = few; each = each; counts = cc }
 
-  mapInto-done : n ≤ maxSlots → (c : ℕ) (s : Summary) → mapInto n v c ≡ done s → Written n v s
+  mapInto-done : n ≤ maxSlots → (c : ℕ) (s : Summary) → mapInto n v c ≡ done s → Writable n v s
   mapInto-done few c s e =
       let g = refuseFirst-done 11 0 (λ (i : ℕ). ltb maxDistance (v i)) n (fileInto n v c) s e in
       fileInto-done few (λ i h. ltb-false maxDistance (v i) (g .0 i h)) c s (g .1)
 
-  -- after the answer o of a routine that wrote this map where the arithmetic o' on lists says so
+  -- after a routine whose answer o and buffer `after` are those of o', the arithmetic on lists
   pub map-read : {o o' : Outcome Summary} {after : List ℕ} (out : List ℕ) (s : Summary)
-      → (o ≡ o') × (after ≡ written o' (file n v) out) → (o' ≡ done s → Written n v s) → o ≡ done s
+      → (o ≡ o') × (after ≡ written o' (file n v) out) → (o' ≡ done s → Writable n v s) → o ≡ done s
       → ReadAs after s (table v 0 n)
-  map-read out s w last e =
-      let is = sym (w .0) ∙ e in
-      rw (w .1, is) (written-read s (last is) (drop (length (file n v)) out))
+  map-read out s law last e =
+      let is = sym (law .0) ∙ e in
+      let w = last is in
+      rw (law .1, is, ← w .counts, file-table n v, summary-table n v)
+      (front-read (table v 0 n) _ (table-limits n v (w .few) (w .each)))
 
 module _ (xs : List ℕ) (l : Limits xs) where
+  pub write-read : WritesMap (writeOutcome xs) (writeBuffer xs) xs
+  unfolding writeOutcome writeBuffer
+  write-read out s e =
+      let w =
+      fileInto-done (length xs) (at xs) (l .count) (l .each) (length out) s
+      (refuseIf-done (ltb maxSlots (length xs)) _ _ s e .1) in
+      rw (e, ← w .counts) (front-read xs _ l)
+
   pub shift-read : (d : ℤ)
-      → WritesMap (shiftOutcome (fileOf xs) d) (shiftBuffer (fileOf xs) d)
-      (table (λ (i : ℕ). shiftedBy d (at xs i)) 0 (length xs))
+      → WritesMap (shiftOutcome (fileOf xs) d) (shiftBuffer (fileOf xs) d) (table (shiftedAt d xs) 0 (length xs))
   shift-read d out s =
-      let v : ℕ → ℕ = λ i. shiftedBy d (at xs i) in
-      map-read (length xs) v out s (file-shift xs l d out) (mapInto-done (length xs) v (l .count) (length out) s)
+      map-read (length xs) (shiftedAt d xs) out s (file-shift xs l d out)
+      (mapInto-done (length xs) (shiftedAt d xs) (l .count) (length out) s)
 
   pub masked-read : (f : Bool → ℕ → ℕ) (ws : List ℕ)
       → WritesMap (maskedOutcome f (fileOf xs) ws) (maskedBuffer f (fileOf xs) ws)
@@ -286,16 +318,6 @@ module _ (xs : List ℕ) (l : Limits xs) where
   unfolding incrementMaskedOutcome incrementMaskedBuffer
   incrementMasked-read = masked-read plusIf
 
-  pub write-read : WritesMap (writeOutcome xs) (writeBuffer xs) xs
-  unfolding writeOutcome writeBuffer
-  write-read out s e =
-      let n : ℕ = length xs in
-      let whole : table (at xs) 0 n ≡ xs = sym (file-table-read n (at xs) (l .count) (l .each)) ∙ file-read xs l in
-      let r =
-      map-read n (at xs) out s (refl, refl)
-      (λ q. fileInto-done n (at xs) (l .count) (l .each) (length out) s (refuseIf-done (ltb maxSlots n) _ _ s q .1)) e in
-      record { accepted = r .accepted; read = r .read ∙ whole }
-
 pub combineMaps-read : (xs ys : List ℕ) → Limits xs → Limits ys → (o : SlotOp)
     → WritesMap (combineMapsOutcome o (fileOf xs) (fileOf ys)) (combineMapsBuffer o (fileOf xs) (fileOf ys))
     (table (combinedAt o xs ys) 0 (length xs))
@@ -311,9 +333,10 @@ mapOfMask-read n ws out s =
     map-read n (maskValue ws) out s (refl, refl)
     (λ e.
     (let g = refuseIf-done (ltb maxSlots n) _ _ s e in
-    mapInto-done n (maskValue ws) (ltb-false maxSlots n (g .0)) (length out) s (refuseIf-done (badMask n ws) _ _ s (g .1) .1)))
+    mapInto-done n (maskValue ws) (ltb-false maxSlots n (g .0)) (length out) s
+    (refuseIf-done (badMask n ws) _ _ s (g .1) .1)))
 
--- for lists of bytes and distances, as the types of the routine say
+-- for bytes below 256 and distances within the limit, which those of the routine's types are
 pub close-read : (bytes slots distances : List ℕ) → Bytes bytes → ((j : ℕ) → at distances j ≤ maxDistance)
     → WritesMap (closeOutcome bytes slots distances) (closeBuffer bytes slots distances)
     (table (valueOf (closeParts bytes slots distances)) 0 (length bytes))
