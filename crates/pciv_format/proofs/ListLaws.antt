@@ -1,4 +1,4 @@
--- Every routine on the files of lists (docs/PROMISES.md, "Routines"): for lists within the limits and any other
+-- Every routine on the files of lists (docs/PROMISES.md, "Lists"): for lists within the limits and any other
 -- arguments, its answer and what the caller's buffer or list holds afterwards are those of the arithmetic on the
 -- lists, refusals 9 to 13 included. Nothing on a right-hand side reads a file.
 --   Writes             what a routine answers and leaves, whatever buffer or list it gets
@@ -49,6 +49,7 @@ use Rattle.pciv_format.proofs.LayoutLaws.{length-header, length-primary
 use Rattle.pciv_format.proofs.FileLaws.{file-header}
 use Rattle.pciv_format.proofs.Acceptance.{file-accepted, file-read, file-table, summary-table, table-limits}
 use Rattle.pciv_format.proofs.FrontLaws.{front-check, front-list}
+use Rattle.pciv_format.proofs.LimitLaws.{edit-plain}
 
 module _ {A B : Type 0} where
   -- for every buffer or list: the answer is o of its capacity, and afterwards f stands at its front and the rest is
@@ -220,8 +221,8 @@ module _ (xs t : List ℕ) (l : Limits xs) where
       → (let b = fileOf xs ++ t in
       (editOutcome b e ≡ plainOutcome xs (length b) e)
       × (editBuffer b e ≡ ifAccepted (plainOutcome xs (length b) e) (replaced b xs (edited xs e)) b))
-  unfolding editOutcome editBuffer
-  front-edit e = rw (front-check xs t l 1, front-list xs t l) (refl, refl)
+  unfolding editBuffer
+  front-edit e = (edit-plain xs t l e, rw (edit-plain xs t l e, front-list xs t l))
 
   pub front-editList : (slots distances : List ℕ)
       → (let b = fileOf xs ++ t in
