@@ -2,7 +2,8 @@
  * pciv.h - reading, writing, combining and editing PCIV depth maps
  *
  * A PCIV file stores a map: a list of 0 to 1,048,576 distances in whole centimetres, 32 bits each,
- * one for each slot. docs/FORMAT.md describes the layout, the rules and the terms used here.
+ * one for each slot. A file has no width or height; the caller keeps them. docs/FORMAT.md describes
+ * the layout, the rules and the terms used here.
  *
  * Conventions of every call; pciv_primary_span has no refusal and says so, and pciv_report tells a
  * file's refusal in its text:

@@ -1,9 +1,9 @@
 //! Reading, writing, combining and editing PCIV depth maps with the verified library, over slices.
 //!
 //! A PCIV file stores a list of 0 to 1,048,576 distances in centimetres; `docs/FORMAT.md` describes
-//! it. Every function checks each whole file it is given first, and answers a [`Refusal`] where the
-//! file breaks a rule. Buffers are unchanged after a refusal, and so is what follows a result in a
-//! longer buffer.
+//! it. It has no width or height; the caller keeps them. Every function checks each whole file it is
+//! given first, and answers a [`Refusal`] where the file breaks a rule. Buffers are unchanged after a
+//! refusal, and so is what follows a result in a longer buffer.
 //!
 //! What measures a caller's slice is a `usize`: how many elements a call has written to it, how many
 //! it needs ([`mask_len`], [`file_len`], [`longest_file`]). What is said of a map is a `u64`, as in
