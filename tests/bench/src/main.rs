@@ -358,7 +358,7 @@ fn masks(table: &mut Table, scene: &Scene) {
     let n = list.len();
     let words = reference::mask_len(n);
     let (mut out, mut their_out) = (vec![0; words], vec![0; words]);
-    type Ours = fn(&[u8], u32, &mut [u64]) -> Result<u64, pciv::Refusal>;
+    type Ours = fn(&[u8], u32, &mut [u64]) -> Result<usize, pciv::Refusal>;
     type Arrays = fn(&[u32], u32, &mut [u64]);
     let below: Arrays = |list, t, out| flat::mask(list, out, |x| x < t);
     let at_most: Arrays = |list, t, out| flat::mask(list, out, |x| x <= t);
