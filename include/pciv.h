@@ -162,13 +162,14 @@ typedef struct {
 uint64_t pciv_primary_span(const uint8_t *file, size_t file_len, uint64_t span[2]);
 
 /* The primary array as a part of the caller's file: one byte for each slot, the distance below 255
-   and 255 for a distance in overflow. Its length is 0 where pciv_check refuses the file. */
+   and 255 for a distance in overflow. Where pciv_check refuses the file the part has length 0 and
+   starts where the file does. */
 static inline pciv_part pciv_primary(const uint8_t *file, size_t file_len)
 {
     uint64_t span[2];
     pciv_part part;
     part.len = (size_t)pciv_primary_span(file, file_len, span);
-    part.bytes = part.len > 0 ? file + span[0] : file;
+    part.bytes = span[0] > 0 ? file + span[0] : file;
     return part;
 }
 

@@ -101,6 +101,7 @@ static void test_check(const uint8_t *file)
 
 static void test_primary(const uint8_t *file)
 {
+    static const uint8_t empty[40] = "PCIV"; /* the file of no distances */
     uint64_t span[2];
     pciv_part part;
     EXPECT(pciv_primary_span(file, MAP_LEN, span) == N && span[0] == 40 && span[1] == N);
@@ -108,7 +109,9 @@ static void test_primary(const uint8_t *file)
     part = pciv_primary(file, MAP_LEN);
     EXPECT(part.bytes == file + 40 && part.len == N);
     part = pciv_primary(file, 39);
-    EXPECT(part.len == 0);
+    EXPECT(part.bytes == file && part.len == 0);
+    part = pciv_primary(empty, sizeof empty);
+    EXPECT(part.bytes == empty + 40 && part.len == 0);
 }
 
 static void test_lookup(const uint8_t *file)
