@@ -131,7 +131,7 @@ pub extern "C" fn pciv_check(
 ) -> usize
     ensures told { λ r. ⌜ ToldFile (checkFile 1 (now (file .entry))) r (now (summary .entry)) (now (summary .exit)) (now (refusal .exit)) ⌝ }
 {
-    tell_file(check(file, 1), summary, refusal)
+    tell_file(check(file), summary, refusal)
 }
 
 // The primary part as its start in the file and its length, since no reference is returned to C.
@@ -140,7 +140,7 @@ pub extern "C" fn pciv_primary_span(file: &[u8], span: &mut [usize; 2]) -> usize
     ensures len { λ r. ⌜ r ≡ spanLength (checkFile 1 (now (file .entry))) ⌝ }
     ensures cells { λ _. ⌜ now (span .exit) ≡ spanCells (checkFile 1 (now (file .entry))) ⌝ }
 {
-    let checked = check(file, 1);
+    let checked = check(file);
     match checked {
         FileAnswer::Done(s) => {
             let n = s.n;

@@ -130,7 +130,7 @@ pub fn edit_list(
     ensures buffer { λ _. ⌜ now (buffer .exit) ≡ editListBuffer (now (buffer .entry)) (now (slots .entry)) (now (distances .entry)) (length (now (answers .entry))) ⌝ }
     ensures answers { λ _. ⌜ now (answers .exit) ≡ editListAnswers (now (buffer .entry)) (now (slots .entry)) (now (distances .entry)) (now (answers .entry)) ⌝ }
 {
-    let checked = check_buffer(buffer, 1);
+    let checked = check_buffer(buffer);
     match checked {
         FileAnswer::Refused(r) => NumberAnswer::Refused(r),
         FileAnswer::Done(s) => {

@@ -57,7 +57,7 @@ pub fn primary(file: &[u8]) -> &[u8]
     ensures part { λ r. ⌜ now r ≡ primaryPart (now (file .entry)) ⌝ }
     ensures place { λ r. ⌜ ptr r ≡ primaryPlace (now (file .entry)) (ptr (file .entry)) ⌝ }
 {
-    let checked = check(file, 1);
+    let checked = check(file);
     match checked {
         FileAnswer::Refused(_) => part(file, 0, 0),
         FileAnswer::Done(s) => {
@@ -71,7 +71,7 @@ pub fn primary(file: &[u8]) -> &[u8]
 pub fn lookup(file: &[u8], slot: usize) -> DistanceAnswer
     ensures answer { λ r. ⌜ r ≡ distanceAnswer (lookupOutcome (now (file .entry)) slot) ⌝ }
 {
-    let checked = check(file, 1);
+    let checked = check(file);
     match checked {
         FileAnswer::Refused(r) => DistanceAnswer::Refused(r),
         FileAnswer::Done(s) => {
@@ -134,7 +134,7 @@ pub fn lookup_list(file: &[u8], slots: &[usize], out: &mut [u32]) -> NumberAnswe
     ensures answer { λ r. ⌜ r ≡ numberAnswer (lookupListOutcome (now (file .entry)) (now (slots .entry)) (length (now (out .entry)))) ⌝ }
     ensures buffer { λ _. ⌜ now (out .exit) ≡ lookupListBuffer (now (file .entry)) (now (slots .entry)) (now (out .entry)) ⌝ }
 {
-    let checked = check(file, 1);
+    let checked = check(file);
     match checked {
         FileAnswer::Refused(r) => NumberAnswer::Refused(r),
         FileAnswer::Done(s) => {
@@ -158,7 +158,7 @@ pub fn scan(file: &[u8], out: &mut [u32]) -> NumberAnswer
     ensures answer { λ r. ⌜ r ≡ numberAnswer (scanOutcome (now (file .entry)) (length (now (out .entry)))) ⌝ }
     ensures buffer { λ _. ⌜ now (out .exit) ≡ scanBuffer (now (file .entry)) (now (out .entry)) ⌝ }
 {
-    let checked = check(file, 1);
+    let checked = check(file);
     match checked {
         FileAnswer::Refused(r) => NumberAnswer::Refused(r),
         FileAnswer::Done(s) => {
@@ -177,7 +177,7 @@ pub fn scan(file: &[u8], out: &mut [u32]) -> NumberAnswer
 pub fn sum(file: &[u8]) -> NumberAnswer
     ensures answer { λ r. ⌜ r ≡ numberAnswer (sumOutcome (now (file .entry))) ⌝ }
 {
-    let checked = check(file, 1);
+    let checked = check(file);
     match checked {
         FileAnswer::Refused(r) => NumberAnswer::Refused(r),
         FileAnswer::Done(s) => {
@@ -192,7 +192,7 @@ pub fn sum(file: &[u8]) -> NumberAnswer
 pub fn readings(file: &[u8]) -> NumberAnswer
     ensures answer { λ r. ⌜ r ≡ numberAnswer (readingsOutcome (now (file .entry))) ⌝ }
 {
-    let checked = check(file, 1);
+    let checked = check(file);
     match checked {
         FileAnswer::Refused(r) => NumberAnswer::Refused(r),
         FileAnswer::Done(s) => {
