@@ -239,8 +239,8 @@ pub fn check(file: &[u8]) -> FileAnswer
     check_with(file, 1, true)
 }
 
-// The same of the file at the front of a buffer that is to be edited: refusal 5 only where the buffer is shorter than
-// the file.
+// The same of the file at the front of a buffer that is to be edited. Refusals: 1 to 8, with map 1, and 5 only where the
+// buffer is shorter than the file.
 pub fn check_buffer(buffer: &[u8]) -> FileAnswer
     ensures answer { λ r. ⌜ r ≡ fileAnswer (checkBuffer 1 (now (buffer .entry))) ⌝ }
 {

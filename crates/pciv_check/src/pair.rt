@@ -19,7 +19,8 @@ pub enum PairAnswer {
     Refused(Refusal),
 }
 
-// The counts of two files with equally many slots. Refusals: 1 to 8 of the first, 1 to 8 of the second, then 10.
+// The counts of two files with equally many slots. Refusals: 1 to 8 of the first with map 1, 1 to 8 of the second with
+// map 2, then 10.
 pub fn check_pair(a: &[u8], b: &[u8]) -> PairAnswer
     ensures answer { λ r. ⌜ r ≡ pairAnswer (pairCounts (now (a .entry)) (now (b .entry))) ⌝ }
 {

@@ -51,8 +51,8 @@ fn part(file: &[u8], start: usize, len: usize) -> &[u8]
     &file[start..end]
 }
 
-// The map's own primary bytes, the part of the caller's file from byte 40 on; where the check refuses the file, the
-// part of length 0 at its start.
+// The map's own primary bytes, the part of the caller's file from byte 40 on. Refusals: none; where the check refuses
+// the file, the part of length 0 at the file's start.
 pub fn primary(file: &[u8]) -> &[u8]
     ensures part { λ r. ⌜ now r ≡ primaryPart (now (file .entry)) ⌝ }
     ensures place { λ r. ⌜ ptr r ≡ primaryPlace (now (file .entry)) (ptr (file .entry)) ⌝ }
