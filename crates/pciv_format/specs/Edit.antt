@@ -185,7 +185,8 @@ allCells (o ∷ os) = answerCells o ++ allCells os
 unfoldable pub editsOf : List ℕ → List ℕ → List Edit
 editsOf slots distances = table (λ (j : ℕ). record { slot = at slots j; distance = at distances j }) 0 (length slots)
 
--- refusals 1 to 8; 9 at the least position that has no edit, where one list is longer; 12; else how many edits
+-- refusals 1 to 8; 9 at the least position that has no edit, where one list is longer; 12; else how many edits.
+-- 9 for lists of unequal length is chosen here: the format's source has no such case
 unfoldable pub editListOutcome : List ℕ → List ℕ → List ℕ → ℕ → Outcome ℕ
 editListOutcome b slots distances capacity =
     andThen (checkBuffer 1 b)

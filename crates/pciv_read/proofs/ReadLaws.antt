@@ -15,7 +15,7 @@ use Rattle.pciv_format.specs.Layout.{fileLen, countsOf, at}
 use Rattle.pciv_format.specs.Refusals.{done, refused, refuse, refuseFirst, written}
 use Rattle.pciv_format.specs.Parts.{valueOf}
 use Rattle.pciv_format.specs.Check.{nField, fileParts, checkFile, CheckedMap}
-use Rattle.pciv_format.specs.Read.{listOf, onlyDone, primaryPart, lookupOutcome, itemsInto, lookupListOutcome, lookupListBuffer, scanOutcome, scanBuffer, sumOutcome, readingsOutcome}
+use Rattle.pciv_format.specs.Read.{listOf, onlyDone, primaryPart, behind, primaryPlace, lookupOutcome, itemsInto, lookupListOutcome, lookupListBuffer, scanOutcome, scanBuffer, sumOutcome, readingsOutcome}
 use Rattle.pciv_format.specs.declared.Summary.{Summary}
 use Rattle.pciv_format.specs.declared.Refusal.{Refusal}
 use Rattle.pciv_format.proofs.RefusalsLaws.{refuseFirst-none, refuseFirst-some}
@@ -41,6 +41,10 @@ module _ (b : List ℕ) (r : Refusal) (e : checkFile 1 b ≡ refused r) where
   pub primary-refused : primaryPart b ≡ []
   unfolding primaryPart
   primary-refused = rw e
+
+  pub place-refused : (p : ℕ × ℕ) → primaryPlace b p ≡ behind 0 p
+  unfolding primaryPlace
+  place-refused p = rw e
 
   pub lookup-refused : (slot : ℕ) → lookupOutcome b slot ≡ refused r
   unfolding lookupOutcome
@@ -74,6 +78,10 @@ module _ (b : List ℕ) (s : Summary) (e : checkFile 1 b ≡ done s) where
   pub primary-done : primaryPart b ≡ take (s .n) (drop 40 b)
   unfolding primaryPart
   primary-done = rw e (ap (λ (n : ℕ). take n (drop 40 b)) (checked .header .nIs))
+
+  pub place-done : (p : ℕ × ℕ) → primaryPlace b p ≡ behind 40 p
+  unfolding primaryPlace
+  place-done p = rw e
 
   pub lookup-outside : (slot : ℕ) → s .n ≤ slot → lookupOutcome b slot ≡ refuse 9 0 0
   unfolding lookupOutcome
