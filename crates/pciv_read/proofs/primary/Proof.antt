@@ -11,10 +11,12 @@ use Rattle.pciv_read.proofs.primary.Statement.{statement}
 use Rattle.pciv_read.proofs.primary.Tie as tie
 
 -- what the check has shown
-is-refused : (c : tie.After-enum-told) → checkFile 1 (c .before .before .before .before .args .file .now) ≡ refused (c .enum-told .given .0 .0)
+is-refused : (c : tie.After-enum-told)
+    → checkFile 1 (c .before .before .before .before .args .file .now) ≡ refused (c .enum-told .given .0 .0)
 is-refused c = fileAnswer-refused _ _ (sym (c .enum-told .given .1) ∙ c .before .before .check .ensures)
 
-is-map : (c : tie.After-checked) → checkFile 1 (c .before .before .before .before .args .file .now) ≡ done (c .checked .given .0 .0)
+is-map : (c : tie.After-checked)
+    → checkFile 1 (c .before .before .before .before .args .file .now) ≡ done (c .checked .given .0 .0)
 is-map c = fileAnswer-done _ _ (sym (c .checked .given .1) ∙ c .before .before .check .ensures)
 
 check-requires : tie.Need-check-requires
