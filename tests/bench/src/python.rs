@@ -86,6 +86,9 @@ impl Python {
         save("places", &[scene.inline_slot(), scene.overflow_slot()]);
         save("mask", &scene.mask);
         save("other_mask", &scene.other_mask);
+        for (kind, mask) in scene.masks() {
+            save(kind, mask);
+        }
         let (height, width) = (scene.size.height, scene.size.width);
         let folder = self.folder.display();
         self.ask(&format!("scene\t{folder}\t{height}\t{width}"));
@@ -98,7 +101,9 @@ impl Python {
 
     /// The contestant for a call, where the library has it.
     pub fn contestant<'a>(&'a self, library: &'a str, call: &'a str) -> Option<Contestant<'a>> {
-        self.digest(library, call)?;
+        if self.ask(&format!("has\t{library}\t{call}")) == "none" {
+            return None;
+        }
         Some(Box::new(move |repeats| {
             let answer = self.ask(&format!("time\t{library}\t{call}\t{repeats}"));
             Duration::from_nanos(answer.parse().expect("nanoseconds"))
