@@ -2,7 +2,8 @@
 
 Takes a request a line, with tabs between its words, and answers each with a line:
     version LIBRARY            its version, or `none`
-    scene FOLDER HEIGHT WIDTH  takes the arrays of a scene from the files there
+    scene FOLDER HEIGHT WIDTH  takes the arrays of a further scene from the files there
+    use NUMBER                 makes calls on the arrays of that scene from here on, counted from 0
     has LIBRARY CALL           `yes`, or `none` where the library lacks the call
     digest LIBRARY CALL        a number that the call's result determines, or `none` where the library lacks it
     time LIBRARY CALL REPEATS  nanoseconds of that many calls, after one that is not timed
@@ -271,8 +272,8 @@ def timed(call, repeats):
     return time.perf_counter_ns() - start
 
 
-def answer(calls, request):
-    """The answer to a request; a scene replaces the calls."""
+def answer(scenes, used, request):
+    """The answer to a request; `used` holds the number of the scene that calls are made on."""
     kind, *words = request
     if kind == "version":
         library = {"numpy": np, "opencv": np and cv2}[words[0]]
@@ -280,11 +281,14 @@ def answer(calls, request):
     if kind == "scene":
         folder, height, width = words
         scene = Scene(folder, int(height), int(width))
-        calls["numpy"] = with_numpy(scene)
-        calls["opencv"] = with_opencv(scene) if cv2 else {}
+        opencv = with_opencv(scene) if cv2 else {}
+        scenes.append({"numpy": with_numpy(scene), "opencv": opencv})
+        return len(scenes) - 1
+    if kind == "use":
+        used[0] = int(words[0])
         return "ok"
     library, name = words[:2]
-    call = calls[library].get(name)
+    call = scenes[used[0]][library].get(name)
     if kind == "has":
         return "yes" if call else "none"
     if kind == "digest":
@@ -293,12 +297,12 @@ def answer(calls, request):
 
 
 def main():
-    calls = {}
+    scenes, used = [], [0]
     for line in sys.stdin:
         request = line.rstrip("\n").split("\t")
         if request == ["end"]:
             return
-        print(answer(calls, request), flush=True)
+        print(answer(scenes, used, request), flush=True)
 
 
 main()

@@ -47,7 +47,7 @@ impl Often {
 }
 
 /// Calls that are behind for the same reason.
-struct Family {
+pub struct Family {
     name: &'static str,
     calls: &'static [&'static str],
     often: Often,
@@ -59,13 +59,13 @@ const FAMILIES: [Family; 17] = [
         name: "edit_list, into and out of overflow",
         calls: &["edit_list, 1,000 into and out"],
         often: Often::Stroke,
-        why: "each edit moves the entries behind its slot, 12 bytes each, and makes the index again. The independent program edits a plain list and writes the file once at the end.",
+        why: "each edit moves the entries behind its slot and makes the index again; the independent program edits a list and writes the file once.",
     },
     Family {
         name: "lookup, edit",
         calls: &["lookup", "edit, inline", "edit, in overflow", "edit, into and out"],
         often: Often::Stroke,
-        why: "the whole file is checked for one slot, and an edit into or out of overflow moves the entries behind it. `lookup_list` and `edit_list` check once.",
+        why: "the whole file is checked for one slot; `lookup_list` and `edit_list` check once.",
     },
     Family {
         name: "lookup_list, edit_list",
@@ -75,7 +75,7 @@ const FAMILIES: [Family; 17] = [
             "edit_list, 1,000 in overflow",
         ],
         often: Often::Stroke,
-        why: "the check, then a search among the entries for each slot in overflow; a flat array has one access to memory.",
+        why: "the check, and a search for each slot in overflow; a flat array has one access to memory.",
     },
     Family {
         name: "sum_maps, shift up",
@@ -85,7 +85,7 @@ const FAMILIES: [Family; 17] = [
             "shift by 10",
         ],
         often: Often::Frame,
-        why: "a count first, since a refused call writes nothing, then the bytes, then an entry of 12 bytes for each slot in overflow: found by mask words, written, filled in. A loop that does the last two at once is slower where few sums are in overflow.",
+        why: "a count first, since a refused call writes nothing, then the bytes, then the entries: found by mask words, written, filled in. One loop for the last two is slower where few sums are in overflow.",
     },
     Family {
         name: "increment_masked",
@@ -105,7 +105,7 @@ const FAMILIES: [Family; 17] = [
             "keep_masked, 1 % in a disc",
         ],
         often: Often::Frame,
-        why: "the mask becomes bytes by a table, eight slots at a time, before 16 bytes are combined at once; then the entries are filtered.",
+        why: "the mask becomes bytes by a table, eight slots at a time; then the entries are filtered.",
     },
     Family {
         name: "map_of_mask",
@@ -121,7 +121,7 @@ const FAMILIES: [Family; 17] = [
         name: "minimum, maximum, difference",
         calls: &["minimum", "maximum", "difference"],
         often: Often::Frame,
-        why: "two checks, one pass over the bytes, and a walk over the entries of both maps, in which scattered ones leave a processor to guess. Entries without a branch are slower in the difference.",
+        why: "two checks, a pass over the bytes, and a walk over the entries of both maps, where a processor guesses branches wrong if they are scattered.",
     },
     Family {
         name: "shift down",
@@ -133,13 +133,13 @@ const FAMILIES: [Family; 17] = [
         name: "scan, signed_difference",
         calls: &["scan", "signed_difference"],
         often: Often::Frame,
-        why: "bytes are widened to four or eight, and the entries put in afterwards, where the list has left the first-level cache; a flat array is copied or subtracted.",
+        why: "bytes are widened, and the entries put in when the list has left the first-level cache; a flat array is copied or subtracted.",
     },
     Family {
         name: "write",
         calls: &["write", "write, longest buffer"],
         often: Often::Frame,
-        why: "two passes over the distances, a count and the bytes, then the entries; a flat array is only copied.",
+        why: "two passes over the distances, a count and the bytes, then the entries; a flat array is copied.",
     },
     Family {
         name: "masks of a map",
@@ -152,7 +152,7 @@ const FAMILIES: [Family; 17] = [
             "near_mask 200",
         ],
         often: Often::Frame,
-        why: "92 packed instructions for 128 slots: no loop is compiled to SSE2's `pmovmskb`. From a threshold of 255 on the entries decide, one by one.",
+        why: "92 packed instructions for 128 slots: no loop is compiled to SSE2's `pmovmskb`. Above 254 the entries decide, one by one.",
     },
     Family {
         name: "masks of masks, set_bits",
@@ -170,7 +170,7 @@ const FAMILIES: [Family; 17] = [
         name: "bray_curtis, jaccard",
         calls: &["bray_curtis", "jaccard at 200", "jaccard at 300"],
         often: Often::Seldom,
-        why: "two checks, packed instructions over the bytes, and the entries of both maps one by one.",
+        why: "two checks, and the entries of both maps one by one.",
     },
     Family {
         name: "check, primary, report",
@@ -230,49 +230,57 @@ impl Family {
         cells.join(", ")
     }
 
-    /// The calls in which the independent program is ahead on the usual maps, with both times.
-    fn times(&self, table: &Table) -> String {
-        let mut text = String::new();
-        for row in self.calls.iter().filter_map(|call| table.find(call)) {
-            let times = row.best(Who::Library).zip(row.best(Who::Independent));
-            if let (Some(_), Some((library, other))) = (independent(row), times) {
-                let _ = write!(
-                    text,
-                    " `{}` takes {} µs, and {} in the independent program.",
-                    row.call,
-                    decimal(library),
-                    decimal(other)
-                );
-            }
-        }
-        text
+    /// Where the independent program is ahead on the usual maps: both times of the first such call.
+    fn times(&self, table: &Table) -> Option<String> {
+        let mut rows = self.calls.iter().filter_map(|call| table.find(call));
+        let row = rows.find(|row| independent(row).is_some())?;
+        Some(format!(
+            " At 1 %, `{}`: {} µs, independent {}.",
+            row.call,
+            decimal(row.best(Who::Library)?),
+            decimal(row.best(Who::Independent)?)
+        ))
     }
 }
 
-/// The section: a table of the families that are behind or short of a goal, and why.
-pub fn section(tables: &[Table], short: &[&str]) -> String {
-    let shown: Vec<&Table> = SHARES
-        .iter()
-        .filter_map(|&share| {
-            let is_meant = |table: &&Table| {
-                (table.size, table.share, table.spread) == (SIZES[0], share, Spread::Scattered)
-            };
-            tables.iter().find(is_meant)
-        })
-        .collect();
+/// The families that are behind or short of a goal, the one that matters most first.
+pub fn ranked(tables: &[Table], short: &[&str]) -> Vec<&'static Family> {
+    let shown = shown(tables);
     let score = |family: &Family| shown.iter().map(|table| family.score(table)).sum::<f64>();
-    let is_named = |family: &Family| {
-        score(family) > 0.0 || family.calls.iter().any(|call| short.contains(call))
-    };
-    let mut families: Vec<(f64, &Family)> = FAMILIES
-        .iter()
-        .filter(|family| is_named(family))
-        .map(|family| (score(family), family))
+    let is_short = |family: &Family| family.calls.iter().any(|call| short.contains(call));
+    let scored = FAMILIES.iter().map(|family| (score(family), family));
+    let mut families: Vec<(f64, &Family)> = scored
+        .filter(|&(score, family)| score > 0.0 || is_short(family))
         .collect();
     families.sort_by(|a, b| b.0.total_cmp(&a.0));
-    if families.is_empty() {
+    families.into_iter().map(|(_, family)| family).collect()
+}
+
+/// The names of the first ones.
+pub fn first(ranked: &[&Family]) -> String {
+    let names: Vec<&str> = ranked.iter().take(3).map(|family| family.name).collect();
+    match &names[..] {
+        [] => String::from("nothing"),
+        _ => names.join("; "),
+    }
+}
+
+/// The tables that are looked at, by share.
+fn shown<'a, 'b>(tables: &'a [Table<'b>]) -> Vec<&'a Table<'b>> {
+    let of_share = |&share: &usize| {
+        let maps = (SIZES[0], share, Spread::Scattered);
+        let is_meant = |table: &&Table| (table.size, table.share, table.spread) == maps;
+        tables.iter().find(is_meant)
+    };
+    SHARES.iter().filter_map(of_share).collect()
+}
+
+/// The section: a table of these families, and why.
+pub fn section(tables: &[Table], ranked: &[&Family]) -> String {
+    if ranked.is_empty() {
         return String::from("Nowhere.\n");
     }
+    let shown = shown(tables);
     let heads: Vec<String> = shown.iter().map(|table| percent(table.share)).collect();
     let mut text = format!(
         "| | calls | made | {} |\n|--:|---|---|{}\n",
@@ -280,7 +288,7 @@ pub fn section(tables: &[Table], short: &[&str]) -> String {
         "---|".repeat(shown.len())
     );
     let mut reasons = String::new();
-    for (number, (_, family)) in (1..).zip(families) {
+    for (number, family) in (1..).zip(ranked) {
         let cells: Vec<String> = shown.iter().map(|table| family.cell(table)).collect();
         let (name, often) = (family.name, family.often.named());
         let _ = writeln!(
@@ -289,7 +297,8 @@ pub fn section(tables: &[Table], short: &[&str]) -> String {
             cells.join(" | ")
         );
         let usual = shown.iter().find(|table| table.share == USUAL_SHARE);
-        let times = usual.map_or(String::new(), |table| family.times(table));
+        let times = usual.and_then(|table| family.times(table));
+        let times = times.unwrap_or_default();
         let _ = writeln!(reasons, "{number}. **{name}**: {}{times}", family.why);
     }
     format!("{text}\n{reasons}")
@@ -299,6 +308,12 @@ pub fn section(tables: &[Table], short: &[&str]) -> String {
 mod tests {
     use super::*;
     use crate::report::samples;
+
+    /// The section of the usual maps with some rows.
+    fn section_of<const N: usize>(rows: [Row; N], short: &[&str]) -> String {
+        let tables = [samples::of_rows(rows)];
+        section(&tables, &ranked(&tables, short))
+    }
 
     #[test]
     fn every_call_is_in_one_family() {
@@ -316,7 +331,7 @@ mod tests {
             samples::row(stroke, 20.0, 10.0, 0.1),
             samples::row("minimum", 20.0, 200.0, 10.0),
         ];
-        let text = section(&[samples::of_rows(rows)], &[]);
+        let text = section_of(rows, &[]);
         for line in [
             "| 1 | edit_list, into and out of overflow | each stroke | independent 2.00, flat Rust 200 |",
             "| 2 | lookup, edit | each stroke | flat Rust 10,000 |",
@@ -325,7 +340,7 @@ mod tests {
             assert!(text.contains(line), "{text}");
         }
         assert!(
-            text.contains("takes 20.0 µs, and 10.0 in the independent program."),
+            text.contains("At 1 %, `edit_list, 1,000 into and out`: 20.0 µs, independent 10.0."),
             "{text}"
         );
     }
@@ -337,13 +352,13 @@ mod tests {
         assert_eq!(factor(time(12.0, 1.0), time(10.0, 1.1)), None);
         assert_eq!(factor(time(10.4, 0.0), time(10.0, 0.0)), None);
         let rows = [samples::row("minimum", 10.0, 100.0, 20.0)];
-        assert_eq!(section(&[samples::of_rows(rows)], &[]), "Nowhere.\n");
+        assert_eq!(section_of(rows, &[]), "Nowhere.\n");
     }
 
     #[test]
     fn a_family_short_of_a_goal_has_its_reason() {
         let rows = [samples::row("minimum", 10.0, 100.0, 20.0)];
-        let text = section(&[samples::of_rows(rows)], &["minimum"]);
+        let text = section_of(rows, &["minimum"]);
         assert!(
             text.contains("1. **minimum, maximum, difference**: "),
             "{text}"

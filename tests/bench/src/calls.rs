@@ -14,6 +14,9 @@ pub const CONTROL: &str = "control, ";
 
 /// One pass over all calls on the maps of a scene.
 pub fn pass(table: &mut Table, scene: &Scene) {
+    if let Some((python, number)) = &table.python {
+        python.choose(number);
+    }
     if table.entrants == Entrants::Library {
         controls(table, &scene.a);
     }

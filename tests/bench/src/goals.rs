@@ -4,7 +4,7 @@
 //! take in the same race. Such a difference is a number only where it is well above what its parts
 //! differ by from pass to pass; else the goal cannot be measured, and nothing is said of it.
 
-use crate::own::{self, Before};
+use crate::own::{self, Recorded};
 use crate::scene::{Scene, Size, Spread};
 use crate::table::{decimal, Row, Table, Who, FLAT};
 use crate::timing::Time;
@@ -23,10 +23,10 @@ const MANY_CLUSTERED: Maps = (100, Spread::Clustered);
 
 const MAPS: [Maps; 3] = [USUAL, MANY, MANY_CLUSTERED];
 
-/// The scenes that goals are about.
-pub fn scenes() -> impl Iterator<Item = Scene> {
-    let scene = |(share, spread)| Scene::new(SIZE, share, spread);
-    MAPS.into_iter().map(scene)
+/// The sizes, shares and layouts that goals are about.
+pub fn maps() -> impl Iterator<Item = (Size, usize, Spread)> {
+    MAPS.into_iter()
+        .map(|(share, spread)| (SIZE, share, spread))
 }
 
 pub fn is_about(scene: &Scene) -> bool {
@@ -195,12 +195,12 @@ const WITH_CHECKS: &str = ", checks included";
 
 const GOALS: [Goal; 66] = [
     goal("check", Checks::Kept, Of::Independent, 12.0),
+    goal("check", Checks::Kept, Of::Memcpy, 1.1),
     noted(
         ", 10 % clustered",
         MANY_CLUSTERED,
         goal("check", Checks::Kept, Of::Independent, 4.0),
     ),
-    goal("check", Checks::Kept, Of::Memcpy, 1.1),
     goal("sum", Checks::Off, Of::Independent, 10.0),
     goal("sum", Checks::Off, Of::Flat, 3.0),
     goal("readings", Checks::Off, Of::Independent, 18.0),
@@ -386,7 +386,7 @@ impl Standing {
         };
         match (self.ratio, self.verdict) {
             (Ratio::Of { value, .. }, Verdict::Short) => {
-                format!("{name}{} ({goal}) **short**", decimal(value))
+                format!("{name}**{}** ({goal})", decimal(value))
             }
             (Ratio::Of { value, .. }, _) => format!("{name}{} ({goal})", decimal(value)),
             (Ratio::BelowNoise, _) => format!("{name}not measurable here ({goal})"),
@@ -401,9 +401,9 @@ pub fn counts(standings: &[Standing]) -> String {
         of_kind.count()
     };
     format!(
-        "{} of {} goals are met, {} are short, {} are not measurable here",
-        count(Verdict::Met),
+        "Of {} goals, {} are met; short: {}; not measurable here: {}",
         standings.len(),
+        count(Verdict::Met),
         count(Verdict::Short),
         count(Verdict::NotMeasurable)
     )
@@ -416,7 +416,7 @@ pub fn short(standings: &[Standing]) -> Vec<&'static str> {
 }
 
 /// The table of goals, with the library's own times before and after.
-pub fn section(standings: &[Standing], own: &[Table], before: &Before) -> String {
+pub fn section(standings: &[Standing], own: &[Table], before: &Recorded) -> String {
     let mut text = String::from(
         "| call | before | after | change | independent / library (at least) | best flat / library (at least) | library / memcpy (at most) |
 |---|--:|--:|--:|---|---|---|

@@ -39,11 +39,9 @@ const GROWTH_SIZES: [Size; 3] = [size(160, 120), size(1_024, 768), size(1_024, 1
 /// Slots in overflow, in thousandths.
 const SHARES: [usize; 3] = [1, 10, 100];
 
-/// Passes over the calls of a table; of one that only shows how costs grow; of the library's own
-/// times.
-const PASSES: usize = 5;
+/// Passes over the calls of a table, and of one that only shows how costs grow.
+const PASSES: usize = 7;
 const GROWTH_PASSES: usize = 3;
-const OWN_PASSES: usize = 9;
 
 const COLUMNS: [Column; 8] = [
     ("library", |row| row.best(Who::Library)),
@@ -69,9 +67,13 @@ fn main() {
     let root = root.expect("tests/bench");
     match std::env::args().nth(1).as_deref() {
         None => print_tables(),
-        Some("own") => print!("{}", own::lines(&own_times())),
+        Some("own") => print!("{}", own::lines(&own::times())),
+        Some(own::ONE_PASS) => print!("{}", own::lines(&own::one_pass())),
         Some("report") => write_report(root),
-        Some(other) => panic!("no such command: {other}"),
+        Some(other) => {
+            eprintln!("no such command: {other}");
+            std::process::exit(2);
+        }
     }
 }
 
@@ -81,8 +83,7 @@ fn print_tables() {
          slots are scattered at random. {}",
         report::MEMCPY
     );
-    for scene in scenes() {
-        let table = timed(&scene, Entrants::All, PASSES, None);
+    for table in timed(scenes(), PASSES, |_| Entrants::All, None) {
         println!("\n### {}\n\n{}", table.title, table.markdown(&COLUMNS));
     }
 }
@@ -92,24 +93,16 @@ fn write_report(root: &Path) {
     let said = |what: &str| println!("{:4} s: {what}", start.elapsed().as_secs());
     let load = report::load();
     let python = Python::start(root);
-    let own = own_times();
+    let own = own::times();
     said("the library's own times");
-    let full = |scene: Scene| {
-        let table = timed(&scene, Entrants::All, PASSES, python.as_ref());
-        said(&table.title);
-        table
+    let tables = timed(scenes(), PASSES, |_| Entrants::All, python.as_ref());
+    said("the tables of all contestants");
+    let entrants = |scene: &Scene| match goals::is_about(scene) {
+        true => Entrants::All,
+        false => Entrants::LibraryAndFlatRust,
     };
-    let tables: Vec<Table> = scenes().map(full).collect();
-    let small = |scene: Scene| {
-        let entrants = match goals::is_about(&scene) {
-            true => Entrants::All,
-            false => Entrants::LibraryAndFlatRust,
-        };
-        let table = timed(&scene, entrants, GROWTH_PASSES, None);
-        said(&table.title);
-        table
-    };
-    let growth: Vec<Table> = growth_scenes().map(small).collect();
+    let growth = timed(growth_scenes(), GROWTH_PASSES, entrants, None);
+    said("how costs grow");
     let run = report::Run {
         tables: &tables,
         growth: &growth,
@@ -143,26 +136,18 @@ fn growth_scenes() -> impl Iterator<Item = Scene> {
     all.filter(is_new).map(scene)
 }
 
-/// The table of a scene.
+/// The tables of scenes. A pass goes over all of them, since a machine is slow now and then for longer
+/// than a table takes.
 fn timed<'a>(
-    scene: &Scene,
-    entrants: Entrants,
+    scenes: impl Iterator<Item = Scene>,
     passes: usize,
+    entrants: impl Fn(&Scene) -> Entrants,
     python: Option<&'a Python>,
-) -> Table<'a> {
-    let mut table = Table::new(scene, entrants, python);
-    for _ in 0..passes {
-        calls::pass(&mut table, scene);
-    }
-    table
-}
-
-/// The library's own times, with nobody else in the races. A pass goes over all scenes.
-fn own_times() -> Vec<Table<'static>> {
-    let scenes = own::scenes();
-    let table = |scene| Table::new(scene, Entrants::Library, None);
+) -> Vec<Table<'a>> {
+    let scenes: Vec<Scene> = scenes.collect();
+    let table = |scene| Table::new(scene, entrants(scene), python);
     let mut tables: Vec<Table> = scenes.iter().map(table).collect();
-    for _ in 0..OWN_PASSES {
+    for _ in 0..passes {
         for (table, scene) in tables.iter_mut().zip(&scenes) {
             calls::pass(table, scene);
         }

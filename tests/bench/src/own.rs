@@ -1,14 +1,21 @@
 //! The library's own times, beside those of an earlier state of it.
 
-use crate::calls::CONTROL;
-use crate::goals;
-use crate::scene::{Scene, Spread};
-use crate::table::{decimal, Table, Who};
+use crate::calls::{self, CONTROL};
+use crate::scene::{Scene, Size, Spread};
+use crate::table::{decimal, Entrants, Table, Who, EVERYONE};
 use crate::timing::Time;
-use crate::SIZES;
+use crate::{goals, SIZES};
+use std::env;
 use std::fmt::Write;
 use std::fs;
 use std::path::Path;
+use std::process::Command;
+
+/// Passes over the calls, with nobody else in the races. Each is a process of its own, since where
+/// its memory lies is part of what two runs differ by.
+pub const PASSES: usize = 9;
+/// The command of this program that makes one pass.
+pub const ONE_PASS: &str = "own-pass";
 
 /// The times of an earlier state: what `bench own` printed, linked with its archive.
 const BEFORE: &str = "tests/bench/before.tsv";
@@ -18,10 +25,35 @@ const HEADER: &str = "width\theight\toverflow\tlayout\tcall\tmicroseconds\tsprea
 /// Two builds of the same code differ by as much: the linker puts its loops elsewhere.
 const LEAST_NOISE: f64 = 0.02;
 
-/// The scenes: those of the goals, and a small one.
-pub fn scenes() -> Vec<Scene> {
-    let small = Scene::new(SIZES[1], 10, Spread::Scattered);
-    goals::scenes().chain([small]).collect()
+/// The maps: those of the goals, and small ones.
+fn kinds() -> impl Iterator<Item = (Size, usize, Spread)> {
+    goals::maps().chain([(SIZES[1], 10, Spread::Scattered)])
+}
+
+/// One pass over the calls on all maps.
+pub fn one_pass() -> Vec<Table<'static>> {
+    let table = |(size, share, spread)| {
+        let scene = Scene::new(size, share, spread);
+        let mut table = Table::new(&scene, Entrants::Library, None);
+        calls::pass(&mut table, &scene);
+        table
+    };
+    kinds().map(table).collect()
+}
+
+/// All passes.
+pub fn times() -> Vec<Table<'static>> {
+    let empty = |(size, share, spread)| Table::of_maps(size, share, spread);
+    let mut tables: Vec<Table> = kinds().map(empty).collect();
+    for _ in 0..PASSES {
+        let program = env::current_exe().expect("this program");
+        let output = Command::new(program).arg(ONE_PASS).output();
+        let output = output.expect("a pass");
+        assert!(output.status.success(), "a pass failed");
+        let pass = Recorded::new(&String::from_utf8_lossy(&output.stdout));
+        tables.iter_mut().for_each(|table| pass.add_to(table));
+    }
+    tables
 }
 
 /// The columns that say which maps a line is about.
@@ -58,24 +90,35 @@ pub fn lines(tables: &[Table]) -> String {
     text
 }
 
-/// The times of an earlier state, by maps and call.
-pub struct Before(Vec<(String, Time)>);
+/// Times from such lines, by maps and call.
+pub struct Recorded(Vec<(String, Time)>);
 
-/// The file of the repository.
-pub fn read_before(root: &Path) -> Before {
-    Before::new(&fs::read_to_string(root.join(BEFORE)).unwrap_or_default())
+/// Those of the earlier state.
+pub fn read_before(root: &Path) -> Recorded {
+    Recorded::new(&fs::read_to_string(root.join(BEFORE)).unwrap_or_default())
 }
 
-impl Before {
-    /// From lines as above.
-    pub fn new(text: &str) -> Before {
+impl Recorded {
+    pub fn new(text: &str) -> Recorded {
         let line = |line: &str| {
             let (rest, spread) = line.rsplit_once('\t')?;
             let (key, best) = rest.rsplit_once('\t')?;
             let (best, spread) = (best.parse().ok()?, spread.parse().ok()?);
             Some((key.to_string(), Time { best, spread }))
         };
-        Before(text.lines().skip(1).filter_map(line).collect())
+        Recorded(text.lines().skip(1).filter_map(line).collect())
+    }
+
+    /// Adds the calls on the maps of a table to it, as a pass.
+    fn add_to(&self, table: &mut Table) {
+        let maps = maps(table) + "\t";
+        for (key, time) in &self.0 {
+            if let Some(call) = key.strip_prefix(&maps) {
+                let mut times = [None; EVERYONE.len()];
+                times[Who::Library as usize] = Some(time.best);
+                table.push(call, times);
+            }
+        }
     }
 
     fn find(&self, table: &Table, call: &str) -> Option<Time> {
@@ -98,7 +141,7 @@ pub enum Change {
 impl Change {
     fn of(before: Time, after: Time) -> Change {
         let least = LEAST_NOISE * before.best;
-        let noise = before.spread.max(after.spread).max(least);
+        let noise = (before.spread + after.spread).max(least);
         let by = after.best - before.best;
         match by.abs() > noise {
             true => Change::By(by / before.best),
@@ -148,7 +191,7 @@ impl Compared {
 }
 
 /// A call of a table before and after.
-pub fn compared(table: &Table, call: &str, before: &Before) -> Option<Compared> {
+pub fn compared(table: &Table, call: &str, before: &Recorded) -> Option<Compared> {
     let after = table.find(call)?.time(Who::Library)?;
     let before = before.find(table, call)?;
     Some(Compared {
@@ -161,7 +204,7 @@ pub fn compared(table: &Table, call: &str, before: &Before) -> Option<Compared> 
 }
 
 /// All of them.
-pub fn all(tables: &[Table], before: &Before) -> Vec<Compared> {
+pub fn all(tables: &[Table], before: &Recorded) -> Vec<Compared> {
     let each = |table: &Table| -> Vec<Compared> {
         let rows = table.rows.iter();
         rows.filter_map(|row| compared(table, &row.call, before))
@@ -172,19 +215,18 @@ pub fn all(tables: &[Table], before: &Before) -> Vec<Compared> {
 
 /// What the calls that have nothing to do with the library say of the machine.
 pub fn machine(compared: &[Compared]) -> String {
-    let controls = compared.iter().filter(|one| one.is_control());
-    let changed: Vec<String> = controls
-        .filter(|one| one.change != Change::Noise)
-        .map(|one| {
-            let name = one.call.trim_start_matches(CONTROL);
-            format!("{name} ({}) {}", one.maps, one.change.named())
-        })
-        .collect();
-    match &changed[..] {
-        [] => String::from("A memcpy and a loop of the bench itself took the same time then"),
-        _ => format!(
-            "**The machine was another or not as quiet**: what has nothing to do with the library changed too, {}",
-            changed.join(", ")
+    let controls: Vec<&Compared> = compared.iter().filter(|one| one.is_control()).collect();
+    let changed = controls.iter().filter_map(|one| match one.change {
+        Change::By(by) => Some(by),
+        Change::Noise => None,
+    });
+    let most = changed.max_by(|a, b| a.abs().total_cmp(&b.abs()));
+    match (controls.is_empty(), most) {
+        (true, _) => String::from("Nothing says whether the machine was as fast then"),
+        (_, None) => String::from("A memcpy and a loop of the bench itself took as long then"),
+        (_, Some(by)) => format!(
+            "**The machine was another or not as quiet then**: a memcpy or a loop of the bench itself changed too, {}",
+            Change::By(by).named()
         ),
     }
 }
@@ -195,7 +237,7 @@ pub fn of_library(compared: &[Compared]) -> impl Iterator<Item = &Compared> {
 }
 
 /// A table of tab-separated values.
-pub fn tsv(tables: &[Table], before: &Before) -> String {
+pub fn tsv(tables: &[Table], before: &Recorded) -> String {
     let mut text = String::from(
         "width\theight\toverflow\tlayout\tcall\tbefore\tbefore_spread\tafter\tafter_spread\tchange\n",
     );
@@ -230,7 +272,7 @@ mod tests {
     fn a_change_is_larger_than_the_spread_of_both_times() {
         let change = |before, after| Change::of(before, after);
         assert_eq!(change(time(10.0, 1.0), time(10.9, 0.0)), Change::Noise);
-        assert_eq!(change(time(10.0, 0.0), time(9.1, 1.0)), Change::Noise);
+        assert_eq!(change(time(10.0, 0.5), time(9.1, 0.5)), Change::Noise);
         assert_eq!(change(time(10.0, 0.0), time(10.1, 0.0)), Change::Noise);
         assert_eq!(change(time(10.0, 1.0), time(5.0, 1.0)), Change::By(-0.5));
         assert_eq!(change(time(10.0, 1.0), time(20.0, 1.0)), Change::By(1.0));
@@ -239,15 +281,40 @@ mod tests {
     }
 
     #[test]
+    fn a_machine_that_was_slower_is_told() {
+        let (size, share, spread) = kinds().next().expect("maps");
+        let mut table = Table::of_maps(size, share, spread);
+        let record = |call: &str, time: &str| {
+            let maps = maps(&Table::of_maps(size, share, spread));
+            Recorded::new(&format!("{HEADER}{maps}\t{CONTROL}{call}\t{time}\t0\n"))
+        };
+        record("memcpy", "10").add_to(&mut table);
+        let tables = [table];
+        let told = |time| machine(&all(&tables, &record("memcpy", time)));
+        assert!(told("10").starts_with("A memcpy and a loop"));
+        assert!(told("20").ends_with("changed too, -50 %"));
+        assert!(machine(&[]).starts_with("Nothing says"));
+    }
+
+    #[test]
+    fn passes_are_put_together() {
+        let (size, share, spread) = kinds().next().expect("maps");
+        let mut table = Table::of_maps(size, share, spread);
+        for microseconds in [7, 5] {
+            let line = format!("{}\tsum\t{microseconds}\t0", maps(&table));
+            Recorded::new(&format!("{HEADER}{line}\n")).add_to(&mut table);
+        }
+        let text = lines(&[table]);
+        assert!(text.ends_with("\tsum\t5.0000\t2.0000\n"), "{text}");
+    }
+
+    #[test]
     fn the_earlier_times_are_of_calls_on_maps_of_the_bench() {
         assert!(EARLIER.starts_with(HEADER), "its first line");
-        let before = Before::new(EARLIER);
+        let before = Recorded::new(EARLIER);
         assert_eq!(before.0.len(), EARLIER.lines().count() - 1);
-        let scenes = scenes();
-        let tables = scenes
-            .iter()
-            .map(|scene| maps(&Table::new(scene, crate::Entrants::Library, None)));
-        let tables: Vec<String> = tables.collect();
+        let named = |(size, share, spread)| maps(&Table::of_maps(size, share, spread));
+        let tables: Vec<String> = kinds().map(named).collect();
         for (key, time) in &before.0 {
             assert!(tables.iter().any(|maps| key.starts_with(maps)), "{key}");
             assert!(time.best > 0.0 && time.spread >= 0.0, "{key}");

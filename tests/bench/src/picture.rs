@@ -8,7 +8,7 @@ const COLOURS: [&str; 4] = ["#8a8f98", "#d97706", "#3b82f6", "#10a36f"];
 
 // Lengths in pixels.
 const WIDTH: f64 = 880.0;
-const LABELS: f64 = 210.0;
+const LABELS: f64 = 225.0;
 const RIGHT: f64 = 30.0;
 const TOP: f64 = 92.0;
 const BOTTOM: f64 = 34.0;

@@ -68,8 +68,8 @@ impl Python {
         })
     }
 
-    /// Has the process take over the lists and masks of a scene.
-    pub fn take(&self, scene: &Scene) {
+    /// Has the process take over the lists and masks of a scene; the number that it has there.
+    pub fn take(&self, scene: &Scene) -> String {
         let save = |name: &str, numbers: &[u64]| {
             let bytes: Vec<u8> = numbers.iter().flat_map(|x| x.to_le_bytes()).collect();
             fs::write(self.folder.join(name), bytes).expect("a file below build");
@@ -91,7 +91,12 @@ impl Python {
         }
         let (height, width) = (scene.size.height, scene.size.width);
         let folder = self.folder.display();
-        self.ask(&format!("scene\t{folder}\t{height}\t{width}"));
+        self.ask(&format!("scene\t{folder}\t{height}\t{width}"))
+    }
+
+    /// Has calls made on a scene that was taken over.
+    pub fn choose(&self, number: &str) {
+        self.ask(&format!("use\t{number}"));
     }
 
     /// The digest of a call's result, where the library has the call.

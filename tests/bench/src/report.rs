@@ -1,12 +1,12 @@
 //! The document: what was timed, where, how the library stands to its goals and where it is behind;
 //! and the tables beside it.
 
-use crate::own::{self, Before, Change, Compared};
+use crate::own::{self, Change, Compared, Recorded};
 use crate::python::Python;
 use crate::scene::{BRUSH, HALF_SET, SPARSE};
 use crate::table::{decimal, percent, Row, Table, Who, EVERYONE, OTHERS};
 use crate::timing::{median, ROUNDS};
-use crate::{behind, goals, growth, picture, OWN_PASSES, PASSES};
+use crate::{behind, goals, growth, picture, PASSES};
 use std::fmt::Write;
 use std::fs;
 use std::path::Path;
@@ -22,7 +22,7 @@ pub const MEMCPY: &str =
     that the call has to read and to\nwrite, so that it reads and writes as many in all.";
 
 /// Calls whose change is told beside those of the goals.
-const CHANGES: usize = 8;
+const CHANGES: usize = 5;
 
 /// What a run has measured.
 pub struct Run<'a> {
@@ -31,7 +31,7 @@ pub struct Run<'a> {
     pub growth: &'a [Table<'a>],
     /// The library's own times, and those of an earlier state.
     pub own: &'a [Table<'a>],
-    pub before: &'a Before,
+    pub before: &'a Recorded,
     pub python: Option<&'a Python>,
     /// The load before the run.
     pub load: &'a str,
@@ -88,6 +88,7 @@ fn document(run: &Run) -> String {
     let all: Vec<&Table> = run.tables.iter().chain(run.growth).collect();
     let standings = goals::standings(&all);
     let compared = own::all(run.own, run.before);
+    let ranked = behind::ranked(run.tables, &goals::short(&standings));
     format!(
         "# Benchmarks
 
@@ -100,6 +101,7 @@ On flat arrays beside Rust: {numpy}, {opencv}.
 ## In short
 
 {counts}. {changes}.
+Behind above all: {first}.
 
 Calls on whole maps, by size and share in overflow: in how many the library is faster, and the median of the other's time
 divided by the library's.
@@ -108,48 +110,47 @@ divided by the library's.
 ## Goals
 
 At 1,024 by 768 with 1 % in overflow, scattered, unless a line says otherwise. Before and after are the library's own
-microseconds, checks included, of the landing before and of this one, from `bench own` with each archive; a change that is not
-told from noise says so. {same_machine} ([own.tsv](benchmarks/own.tsv)).
+microseconds, checks included: of an earlier state (`tests/bench/before.tsv`) and of this one, each from `bench own` with its
+archive. A change that is not told from noise says so. {same_machine}.
 
 Ratios leave the checks of the files out on both sides, unless a line says that they are included: what the checks alone take
-in the same race is taken off. Behind a ratio stands its goal, in brackets. Best flat is the fastest of flat Rust, numpy
-and OpenCV. The goals were set on another machine. The independent program's check is compiled in one of two ways from
-build to build, so ratios to it differ between builds; times of the library do not.
+in the same race is taken off. Behind a ratio stands its goal, in brackets; a ratio in bold is short of it, by more than 1 %.
+Best flat is the fastest of flat Rust, numpy and OpenCV. The goals were set on another machine. The independent program's
+check is compiled in one of two ways from build to build, so ratios to it differ between builds; the library's times do not.
 
 {goals}
 {masks}{others}
 ## Where we are behind
 
-Others that are ahead at 1,024 by 768, with how many times as long the library takes: the independent program, and the
-fastest on flat arrays, each in the worst call of the line. First comes what matters most: how often a program makes the call,
-times the logarithm of the ratio, at 1 % above all, and more where the independent program is ahead, which does the same work
-on the same files. Lines without a ratio are short of a goal.
-
-A slot in overflow takes 12 bytes of a file where a flat array has 4, and is found, written and filled in one by one; so flat
-arrays win at 10 % wherever entries are written. Clustered entries cost less: branches are then guessed right.
+Who is ahead at 1,024 by 768, and how many times as long the library takes: the independent program, and the fastest on flat
+arrays, in the worst call of a line. What matters most comes first: calls that programs make often, large ratios, at 1 % above
+all, and more so where the independent program is ahead, which does the same work on the same files. Lines without a ratio are
+short of a goal. A slot in overflow takes 12 bytes of a file where a flat array has 4, and is found, written and filled in one
+by one; so flat arrays win at 10 % wherever entries are written.
 
 {behind}
 ## How to read it
 
 | Contestant | What it does |
 |---|---|
-| library | the routine, called from Rust; every file that it is given is checked in the same call |
-| independent | the same on the same files: `tests/reference`, a straightforward Rust program, its checks included |
+| library | the routine, called from Rust; every file is checked in the same call |
+| independent | the same on the same files, checks included: `tests/reference`, a straightforward Rust program |
 | flat Rust | a plain loop over arrays of `u32`, in the same build (`tests/bench/src/flat.rs`) |
 | numpy, OpenCV | the same on the same arrays (`tests/bench/flat.py`); OpenCV's masks have a byte for each slot |
 | SSE2 by hand | the number of set bits by SSE2 instructions, in Rust |
 | memcpy | a copy in memory |
 
-A flat array has four bytes for each slot, is not a file, and has nothing to check, neither its input nor that a sum is a
-distance. For `write`, it is copied; for `close`, it is made of the same bytes and entries.
+A flat array has four bytes for each slot and nothing to check, neither its input nor that a sum is a distance. For `write`,
+it is copied; for `close`, it is made of the same bytes and entries.
 {MEMCPY}
 
 Times are microseconds a call, one thread. Contestants take turns, {ROUNDS} rounds in each of {PASSES} passes over all calls
-({OWN_PASSES} for the library's own times, alone); a turn starts with a call that is not timed, so buffers are warm. A time is that of the
-best round; its spread is what the best rounds of the passes differ by, the worst pass left out. A difference of two times
-is below the noise where the spreads of both are more than half of it: the goal is then not measurable here. All but numpy,
-OpenCV and memcpy are compiled for every x86-64 processor, without AVX. numpy and OpenCV have to give the results of flat
-Rust before they are timed, and flat Rust is tested against the library (`cargo test -p bench`).
+(the library's own times: alone, {own_passes} passes, a process each); a turn starts with a call that is not timed, so buffers are warm.
+A time is that of the best round; its spread is what the best rounds of the passes differ by, the worst third of them left
+out. A change is noise where it is at most both spreads together, or at most 2 %, by which builds of the same code may differ.
+A difference of two times is below the noise where their spreads together are more than half of it: the goal is then not
+measurable here. All but numpy, OpenCV and memcpy are compiled for every x86-64 processor, without AVX. numpy and OpenCV have
+to give the results of flat Rust before they are timed; flat Rust is tested against the library (`cargo test -p bench`).
 
 ## Tables
 
@@ -158,11 +159,12 @@ Tab-separated, with a line of headings, written by the same run. `overflow` is t
 
 | File | A line for | Columns |
 |---|---|---|
-| [calls.tsv](benchmarks/calls.tsv) | a call on maps of a size and share | microseconds of each contestant; `_checks`: the checks of its files alone; `library_spread` |
+| [calls.tsv](benchmarks/calls.tsv) | a call on maps of a size and share | microseconds of each contestant; `_checks`: of its checks alone; `library_spread` |
 | [growth.tsv](benchmarks/growth.tsv) | a call, layout and share | picoseconds a slot at 19,200, 786,432 and 1,048,576 slots, of the library and of flat Rust |
 | [goals.tsv](benchmarks/goals.tsv) | a goal | the ratio with its `low` and `high` by the spreads, and the verdict |
-| [own.tsv](benchmarks/own.tsv) | a call of the library | microseconds and spreads before and after; the change, or noise. `control` has nothing to do with the library |
+| [own.tsv](benchmarks/own.tsv) | a call of the library | microseconds and spreads before and after; the change, or noise. `control`: not of the library |
 ",
+        own_passes = own::PASSES,
         date = output("date", &["+%Y-%m-%d"]),
         machine = machine(),
         load = run.load,
@@ -175,7 +177,8 @@ Tab-separated, with a line of headings, written by the same run. `overflow` is t
         goals = goals::section(&standings, run.own, run.before),
         masks = masks(run),
         others = others(&compared, &standings),
-        behind = behind::section(run.tables, &goals::short(&standings)),
+        first = behind::first(&ranked),
+        behind = behind::section(run.tables, &ranked),
     )
 }
 
@@ -208,7 +211,7 @@ fn changes(compared: &[Compared]) -> String {
     let calls: Vec<&Compared> = own::of_library(compared).collect();
     let count = |is_so: fn(Change) -> bool| calls.iter().filter(|one| is_so(one.change)).count();
     format!(
-        "Of {} calls on four kinds of maps, {} are faster than before by more than noise, {} slower",
+        "Of {} calls on four kinds of maps,\n{} became faster by more than noise, {} slower",
         calls.len(),
         count(Change::is_faster),
         count(Change::is_slower)
@@ -243,8 +246,7 @@ fn in_short(tables: &[Table]) -> String {
 /// The calls with masks, for each kind of mask.
 fn masks(run: &Run) -> String {
     let mut text = String::from(
-        "Masks of three kinds: half of the slots set, at random; 1 % of them, at random; 1 % in a disc, as a brush makes. Ratios
-include the checks.
+        "Masks of three kinds: half of the slots, at random; 1 %, at random; 1 % in a disc, as a brush makes. Ratios include the checks.
 
 | call, mask | before | after | change | independent / library | best flat / library |
 |---|--:|--:|--:|--:|--:|
@@ -311,7 +313,6 @@ pub mod samples {
     use super::*;
     use crate::calls::CONTROL;
     use crate::scene::{Size, Spread};
-    use crate::table::Entrants;
 
     const EARLIER: &str = include_str!("../before.tsv");
 
@@ -343,13 +344,8 @@ pub mod samples {
         rows: impl IntoIterator<Item = Row>,
     ) -> Table<'static> {
         Table {
-            size,
-            share,
-            spread,
-            title: "a table".to_string(),
             rows: rows.into_iter().collect(),
-            entrants: Entrants::All,
-            python: None,
+            ..Table::of_maps(size, share, spread)
         }
     }
 
@@ -414,7 +410,7 @@ mod tests {
             tables: &tables[..tables.len().min(6)],
             growth: &tables[tables.len().min(6)..],
             own: tables,
-            before: &Before::new(before),
+            before: &Recorded::new(before),
             python: None,
             load: "0.00",
         })
@@ -431,7 +427,7 @@ mod tests {
     fn every_table_has_as_many_cells_in_each_line_as_headings() {
         let full = samples::full();
         let all: Vec<&Table> = full.iter().collect();
-        let before = Before::new(include_str!("../before.tsv"));
+        let before = Recorded::new(include_str!("../before.tsv"));
         for text in [
             calls(&full),
             goals::tsv(&goals::standings(&all)),
@@ -458,7 +454,7 @@ mod tests {
     fn a_goal_that_is_not_measurable_is_said_to_be_so() {
         let text = document_of(&[samples::table(45.0, 0.0)], "");
         assert!(text.contains("| not measurable here (2.5) |"), "{text}");
-        assert!(text.contains(" 3 are not measurable here."), "{text}");
+        assert!(text.contains("; not measurable here: 3."), "{text}");
     }
 
     #[test]
@@ -466,7 +462,10 @@ mod tests {
         let line = "1024\t768\t1\tscattered\tminimum\t50.0\t1.0\n";
         let text = document_of(&[samples::table(20.0, 0.0)], &format!("heads\n{line}"));
         assert!(text.contains("| minimum | 50.0 | 40.0 | -20 % |"), "{text}");
-        assert!(text.contains("1 are faster than before"), "{text}");
+        assert!(
+            text.contains("1 became faster by more than noise, 0 slower"),
+            "{text}"
+        );
     }
 
     #[test]

@@ -170,13 +170,15 @@ pub struct Table<'a> {
     pub title: String,
     pub rows: Vec<Row>,
     pub entrants: Entrants,
-    pub python: Option<&'a Python>,
+    /// The process with numpy and OpenCV, and the number that the scene has there.
+    pub python: Option<(&'a Python, String)>,
 }
 
 impl<'a> Table<'a> {
     pub fn new(scene: &Scene, entrants: Entrants, python: Option<&'a Python>) -> Table<'a> {
         let Size { width, height } = scene.size;
-        let title = format!(
+        let mut table = Table::of_maps(scene.size, scene.share, scene.spread);
+        table.title = format!(
             "{} by {}, {} in overflow{}: n = {}, k = {}, {} bytes",
             thousands(width),
             thousands(height),
@@ -189,17 +191,23 @@ impl<'a> Table<'a> {
             thousands(scene.a.slots.len()),
             thousands(scene.a.file.len())
         );
-        if let Some(python) = python {
-            python.take(scene);
-        }
         Table {
-            size: scene.size,
-            share: scene.share,
-            spread: scene.spread,
-            title,
-            rows: Vec::new(),
             entrants,
-            python,
+            python: python.map(|python| (python, python.take(scene))),
+            ..table
+        }
+    }
+
+    /// A table without rows.
+    pub fn of_maps(size: Size, share: usize, spread: Spread) -> Table<'a> {
+        Table {
+            size,
+            share,
+            spread,
+            title: String::new(),
+            rows: Vec::new(),
+            entrants: Entrants::All,
+            python: None,
         }
     }
 
@@ -247,7 +255,7 @@ impl<'a> Table<'a> {
             (!files.is_empty()).then(|| contestant(each))
         };
         let is_here = |who| self.entrants.admit(who);
-        let python = self.python;
+        let python = self.python.as_ref().map(|(python, _)| *python);
         let flat_library = |name| python.and_then(|python| python.contestant(name, call));
         let mut contestants = [
             Some(library),
@@ -268,7 +276,7 @@ impl<'a> Table<'a> {
     }
 
     /// Adds the times of a pass to the row of the call, which is made by the first one.
-    fn push(&mut self, call: &str, times: [Option<f64>; EVERYONE.len()]) {
+    pub fn push(&mut self, call: &str, times: [Option<f64>; EVERYONE.len()]) {
         let slots = self.size.slots();
         let place = self.rows.iter().position(|row| row.call == call);
         let place = place.unwrap_or_else(|| {
@@ -280,7 +288,9 @@ impl<'a> Table<'a> {
 
     /// Holds numpy and OpenCV to the result on flat arrays in Rust.
     fn compare_results(&self, call: &str, flat: &mut Flat) {
-        let Some(python) = self.python else { return };
+        let Some((python, _)) = &self.python else {
+            return;
+        };
         let Some(digest) = flat.digest(self.size.slots()) else {
             return;
         };

@@ -4,7 +4,7 @@ use std::hint::black_box;
 use std::time::{Duration, Instant};
 
 /// Rounds of a race, which is run once in each pass over the calls.
-pub const ROUNDS: u32 = 10;
+pub const ROUNDS: u32 = 8;
 /// A round of a contestant takes at least about this long, so that the clock does not matter.
 const ROUND_TIME: Duration = Duration::from_micros(200);
 
@@ -52,7 +52,7 @@ pub fn race<const N: usize>(mut contestants: [Option<Contestant>; N]) -> [Option
 pub struct Time {
     /// The best pass.
     pub best: f64,
-    /// How far the passes lie apart; the worst one is left out where there are four or more.
+    /// How far the passes lie apart, without the worst third of them.
     pub spread: f64,
 }
 
@@ -62,7 +62,7 @@ impl Time {
         let mut sorted = passes.to_vec();
         sorted.sort_by(f64::total_cmp);
         let best = *sorted.first()?;
-        let last = sorted.len() - 1 - usize::from(sorted.len() >= 4);
+        let last = sorted.len() - 1 - sorted.len() / 3;
         Some(Time {
             best,
             spread: sorted[last] - best,
@@ -93,11 +93,13 @@ mod tests {
     fn passes_have_a_best_one_and_a_spread() {
         assert_eq!(time(&[]), None);
         assert_eq!(time(&[5.0]), Some((5.0, 0.0)));
-        assert_eq!(time(&[7.0, 5.0, 6.0]), Some((5.0, 2.0)));
+        assert_eq!(time(&[7.0, 5.0]), Some((5.0, 2.0)));
     }
 
     #[test]
-    fn the_worst_of_many_passes_is_left_out() {
+    fn the_worst_third_of_the_passes_is_left_out() {
         assert_eq!(time(&[7.0, 5.0, 90.0, 6.0]), Some((5.0, 2.0)));
+        let passes = [7.0, 90.0, 5.0, 6.0, 80.0, 5.5, 6.5];
+        assert_eq!(time(&passes), Some((5.0, 2.0)));
     }
 }
