@@ -158,7 +158,7 @@ const FAMILIES: [Family; 17] = [
         name: "masks of masks, set_bits",
         calls: &["mask_and", "mask_or", "mask_xor", "mask_not", "set_bits"],
         often: Often::Frame,
-        why: "the same instructions as a plain loop; numpy and OpenCV have wider ones (AVX2).",
+        why: "as fast as plain loops compiled for the same processors; OpenCV counts bits faster.",
     },
     Family {
         name: "sum, readings",

@@ -11,8 +11,8 @@ use std::fs;
 use std::path::Path;
 use std::process::Command;
 
-/// Passes over the calls, with nobody else in the races. Each is a process of its own, since where
-/// its memory lies is part of what two runs differ by.
+/// Passes over the calls, with nobody else in the races. Each is a process of its own, as the two runs
+/// are that are compared.
 pub const PASSES: usize = 9;
 /// The command of this program that makes one pass.
 pub const ONE_PASS: &str = "own-pass";
@@ -22,7 +22,8 @@ const BEFORE: &str = "tests/bench/before.tsv";
 
 const HEADER: &str = "width\theight\toverflow\tlayout\tcall\tmicroseconds\tspread\n";
 
-/// Two builds of the same code differ by as much: the linker puts its loops elsewhere.
+/// A change of at most this part of a time is called noise, whatever the spreads: a limit that was chosen,
+/// not measured.
 const LEAST_NOISE: f64 = 0.02;
 
 /// The maps: those of the goals, and small ones.
