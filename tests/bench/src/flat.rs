@@ -328,13 +328,13 @@ mod tests {
     fn closing_is_as_in_the_library() {
         each_pair(|a, _| {
             let overflow = (0u64..).zip(a.list.iter().copied());
-            let (slots, far): (Vec<u64>, Vec<u32>) = overflow.filter(|e| e.1 >= 255).unzip();
+            let (slots, listed): (Vec<u64>, Vec<u32>) = overflow.filter(|e| e.1 >= 255).unzip();
             let primary = reference::primary(&a.file);
-            let entries = slots.iter().copied().zip(far.iter().copied());
+            let entries = slots.iter().copied().zip(listed.iter().copied());
             let n = a.list.len();
             assert_eq!(
                 filled(n, |out| close(primary, entries, out)),
-                distances(n, |out| pciv::close(primary, &slots, &far, out))
+                distances(n, |out| pciv::close(primary, &slots, &listed, out))
             );
         });
     }
