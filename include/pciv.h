@@ -234,7 +234,8 @@ uint64_t pciv_write(const uint32_t *distances, size_t distances_len, uint8_t *ou
                     pciv_summary *summary, pciv_refusal *refusal);
 
 /* The file of a primary array and its overflow entries. Entry j is slots[j] with distances[j];
-   where one list is shorter than the other, the first entry that it lacks is wrong.
+   where one list is shorter than the other, the first entry that it lacks is wrong (6), which is
+   chosen here: the format's source has no such case.
    Refusals: 3 with map 1 where primary_len is above 1,048,576; 6 with map 1 where an entry's slot
    is primary_len or more or not above the one before, its distance is below 255, or the primary
    byte of its slot is not 255, with the least such entry as place; 7 with map 1 where a primary
@@ -436,8 +437,8 @@ typedef struct {
    once. An edit that is refused (9 or 12, with place 0) changes nothing, and those after it are
    made.
    Refusals of the call: 1 to 8 as pciv_edit; 9 where the lists differ in length, with the first
-   position that only one of them has as place; then 12 where answers_len is below PCIV_ANSWER_LEN
-   times the number of edits.
+   position that only one of them has as place, which is chosen here: the format's source has no
+   such case; then 12 where answers_len is below PCIV_ANSWER_LEN times the number of edits.
    When done buffer is as calls of pciv_edit in this order leave it, the first PCIV_ANSWER_LEN times
    slots_len elements of answers are their answers, each laid out as a pciv_edit_answer, the
    elements behind them are unchanged, and *count is slots_len. After a refusal of the call buffer,
