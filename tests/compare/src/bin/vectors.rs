@@ -173,7 +173,7 @@ impl Contents {
         same("length of primary", n, pciv::primary(file).len())?;
 
         let mut list = vec![0; n];
-        same("scan", Ok(self.summary.n), pciv::scan(file, &mut list))?;
+        same("scan", Ok(n), pciv::scan(file, &mut list))?;
         let wide = || list.iter().copied().map(u64::from);
         same("first", self.first, wide().next())?;
         same("last", self.last, wide().next_back())?;
@@ -186,7 +186,7 @@ impl Contents {
         let slots: Vec<u64> = (0..self.summary.n).collect();
         let mut found = vec![0; n];
         let count = pciv::lookup_list(file, &slots, &mut found);
-        same("lookup_list", Ok(self.summary.n), count)?;
+        same("lookup_list", Ok(n), count)?;
         same("all lookups as the scan", true, found == list)?;
         let mut written = vec![0; file.len()];
         same("write", Ok(self.summary), pciv::write(&list, &mut written))?;
