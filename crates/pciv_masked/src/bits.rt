@@ -1,7 +1,7 @@
 // A mask as bytes 0 and 1, one for each slot.
 ghost use mathlib.Core.Path.{_≡_};
 ghost use Prim.Native.Nat.{_+_, _*_, _/_, _%_, _^_, _≤_, _<_};
-ghost use lib.ListN.{length};
+ghost use lib.ListN.{length, getD};
 ghost use lib.Seq.{sets};
 ghost use Rattle.pciv_bytes.specs.Ranges.{table};
 ghost use Rattle.pciv_format.specs.Mask.{bitAt, maskValue};
@@ -38,6 +38,18 @@ pub(crate) fn put_word(out: &mut [u8], at: usize, rows: &[u8; 2048], word: u64)
     }
 }
 
+// The bits of the word after the last whole one of n slots, through the table; 0 where there is none.
+pub(crate) fn last_bits(words: &[u64], n: usize, rows: &[u8; 2048]) -> [u8; 64]
+    requires { ⌜ now rows ≡ bitRows ⌝ }
+    ensures { λ r. ⌜ r ≡ table (bitAt (getD (now (words .entry)) (n / 64) 0)) 0 64 ⌝ }
+{
+    let mut bits: [u8; 64] = [0; 64];
+    if n / 64 < words.len() {
+        put_word(&mut bits, 0, rows, words[n / 64]);
+    }
+    bits
+}
+
 // Writes the bits of the n slots where a file has its primary array: word by word, and then what is left.
 pub(crate) fn put_bits(out: &mut [u8], n: usize, words: &[u64])
     requires { ⌜ (n ≤ 64 * length (now words)) × (40 + n ≤ length (now out)) ⌝ }
@@ -49,8 +61,9 @@ pub(crate) fn put_bits(out: &mut [u8], n: usize, words: &[u64])
         put_word(out, HEADER_LEN + i, &rows, words[i / 64]);
         i += 64;
     }
+    let bits = last_bits(words, n, &rows);
     while i < n {
-        out[HEADER_LEN + i] = bit_of(words, i);
+        out[HEADER_LEN + i] = bits[i % 64];
         i += 1;
     }
 }

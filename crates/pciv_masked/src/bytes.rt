@@ -9,7 +9,7 @@ ghost use Rattle.pciv_format.specs.Check.{fileParts, CheckedMap};
 ghost use Rattle.pciv_words.specs.Words.{IsMask};
 ghost use Rattle.pciv_masked.specs.Rows.{bitRows};
 ghost use Rattle.pciv_masked.specs.Masked.{maskedAt, maskedByte, maskedWord};
-use crate::bits::bit_of;
+use crate::bits::last_bits;
 use crate::bits::put_word;
 use crate::rows::bit_rows;
 use pciv_format::HEADER_LEN;
@@ -67,8 +67,9 @@ pub(crate) fn put_primary(
         mask_word(out, op, file, i, &rows, words[i / 64]);
         i += 64;
     }
+    let bits = last_bits(words, n, &rows);
     while i < n {
-        out[HEADER_LEN + i] = masked_byte(op, bit_of(words, i), file[HEADER_LEN + i]);
+        out[HEADER_LEN + i] = masked_byte(op, bits[i % 64], file[HEADER_LEN + i]);
         i += 1;
     }
 }
