@@ -3,6 +3,8 @@ ghost use mathlib.Core.Path.{_≡_};
 ghost use Prim.Native.Nat.{_+_, _*_, _/_, _%_, _^_, _≤_, _<_};
 ghost use lib.ListN.{length, getD};
 ghost use lib.Seq.{sets};
+ghost use lib.Count.{ones};
+ghost use lib.Dec.{leb};
 ghost use Rattle.pciv_bytes.specs.Ranges.{table};
 ghost use Rattle.pciv_format.specs.Mask.{bitAt, maskValue};
 ghost use Rattle.pciv_masked.specs.Rows.{bitRows};
@@ -16,6 +18,16 @@ pub(crate) fn bit_of(words: &[u64], slot: usize) -> u8
     ensures { λ r. ⌜ r ≡ maskValue (now (words .entry)) slot ⌝ }
 {
     ((words[slot / 64] >> (slot % 64)) % 2) as u8
+}
+
+// A word with at most this many set bits is gone through from set bit to set bit.
+const FEW_SET: u32 = 8;
+
+// Whether a word has so few set bits that a walk over them is quicker than a pass over 64 bytes.
+pub(crate) fn few_set(word: u64) -> bool
+    ensures { λ r. ⌜ r ≡ leb (ones word) 8 ⌝ }
+{
+    u64::count_ones(word) <= FEW_SET
 }
 
 // Eight bits of a word, from bit j on.

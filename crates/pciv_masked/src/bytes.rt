@@ -8,10 +8,13 @@ ghost use Rattle.pciv_format.specs.Layout.{primary};
 ghost use Rattle.pciv_format.specs.Check.{fileParts, CheckedMap};
 ghost use Rattle.pciv_words.specs.Words.{IsMask};
 ghost use Rattle.pciv_masked.specs.Rows.{bitRows};
-ghost use Rattle.pciv_masked.specs.Masked.{maskedAt, maskedByte, maskedWord};
+ghost use Rattle.pciv_masked.specs.Masked.{maskedAt, maskedByte, maskedWord, raisedWord};
+ghost use Rattle.pciv_masked.specs.declared.bytes.MaskedOp.the-variants.{Increment};
+use crate::bits::few_set;
 use crate::bits::last_bits;
 use crate::bits::put_word;
 use crate::rows::bit_rows;
+use pciv_bytes::copies::copy_bytes;
 use pciv_format::HEADER_LEN;
 
 // What is done with the distances of a map: kept where the mask is 1, else 0 ("cut"); or one more where it is 1
@@ -47,6 +50,49 @@ fn mask_word(out: &mut [u8], op: MaskedOp, file: &[u8], i: usize, rows: &[u8; 20
     }
 }
 
+// Adds 1 to those of 64 bytes from `at` on whose bits are set in a word, and leaves 255 where it is: a walk over the set
+// bits, the lowest first.
+fn raise_set(out: &mut [u8], at: usize, word: u64)
+    requires { ⌜ at + 64 ≤ length (now out) ⌝ }
+    ensures { λ _. ⌜ now (out .exit) ≡ sets (now (out .entry)) at (table (raisedWord (now (out .entry)) at word) 0 64) ⌝ }
+{
+    let mut rest = word;
+    while 0 < rest {
+        let slot = at + u64::trailing_zeros(rest) as usize;
+        out[slot] = masked_byte(MaskedOp::Increment, 1, out[slot]);
+        rest &= rest - 1;
+    }
+}
+
+// What mask_word writes for an increment, by a copy and a walk: for a word with few set bits.
+fn increment_few(out: &mut [u8], file: &[u8], i: usize, word: u64)
+    requires { ⌜ (40 + i + 64 ≤ length (now file)) × (40 + i + 64 ≤ length (now out)) ⌝ }
+    ensures { λ _. ⌜ now (out .exit) ≡ sets (now (out .entry)) (40 + i) (table (maskedWord Increment (now (file .entry)) i word) 0 64) ⌝ }
+{
+    let at = HEADER_LEN + i;
+    let end = at + 64;
+    copy_bytes(&file[at..end], out, at);
+    raise_set(out, at, word);
+}
+
+// Either of these, whichever is quicker.
+fn mask_slots(out: &mut [u8], op: MaskedOp, file: &[u8], i: usize, rows: &[u8; 2048], word: u64)
+    requires { ⌜ now rows ≡ bitRows ⌝ }
+    requires { ⌜ (40 + i + 64 ≤ length (now file)) × (40 + i + 64 ≤ length (now out)) ⌝ }
+    ensures { λ _. ⌜ now (out .exit) ≡ sets (now (out .entry)) (40 + i) (table (maskedWord op (now (file .entry)) i word) 0 64) ⌝ }
+{
+    match op {
+        MaskedOp::Keep => mask_word(out, MaskedOp::Keep, file, i, rows, word),
+        MaskedOp::Increment => {
+            if few_set(word) {
+                increment_few(out, file, i, word)
+            } else {
+                mask_word(out, MaskedOp::Increment, file, i, rows, word)
+            }
+        }
+    }
+}
+
 // Writes the primary bytes of the result.
 pub(crate) fn put_primary(
     out: &mut [u8],
@@ -64,7 +110,7 @@ pub(crate) fn put_primary(
     let rows = bit_rows();
     let mut i = 0;
     while 64 <= n - i {
-        mask_word(out, op, file, i, &rows, words[i / 64]);
+        mask_slots(out, op, file, i, &rows, words[i / 64]);
         i += 64;
     }
     let bits = last_bits(words, n, &rows);

@@ -14,6 +14,7 @@ ghost use Rattle.pciv_addition.specs.Addition.{Fits};
 ghost use Rattle.pciv_masked.specs.Masked.{maskedAt, raisedAt, picked, SetBelow};
 ghost use Rattle.pciv_masked.specs.declared.bytes.MaskedOp.the-variants.{Increment};
 use crate::bits::bit_of;
+use crate::bits::few_set;
 use pciv_build::put_entry;
 use pciv_build::slots::put_slots;
 use pciv_bytes::find::any_byte;
@@ -62,14 +63,16 @@ fn count_set(bytes: &[u8], from: usize, word: u64) -> usize
     count
 }
 
-// The same; a word none of whose slots has that byte is passed at once.
+// The same; a word of many set bits none of whose slots has that byte is passed at once.
 fn count_word(bytes: &[u8], from: usize, word: u64) -> usize
     requires { ⌜ (from ≤ length (now bytes)) × SetBelow (length (now bytes)) from word ⌝ }
     ensures { λ r. ⌜ r ≡ picked (byteIs (now (bytes .entry)) 254) from 64 word ⌝ }
 {
-    if 64 <= bytes.len() - from {
-        if !any_byte(bytes, from, from + 64, INLINE_MAX) {
-            return 0;
+    if !few_set(word) {
+        if 64 <= bytes.len() - from {
+            if !any_byte(bytes, from, from + 64, INLINE_MAX) {
+                return 0;
+            }
         }
     }
     count_set(bytes, from, word)

@@ -54,16 +54,16 @@ loop-holds c = (refl, (omega arith, refl, refl))
 sub-loop : tie.Need-sub-loop Inv-loop μ-loop Inv-loop2 μ-loop2
 sub-loop c = search needs
 
-mul-mask-word : tie.Need-mul-mask-word Inv-loop μ-loop Inv-loop2 μ-loop2
-mul-mask-word c = search needs
+mul-mask-slots : tie.Need-mul-mask-slots Inv-loop μ-loop Inv-loop2 μ-loop2
+mul-mask-slots c = search needs
 
-shared-slice-read-mask-word : tie.Need-shared-slice-read-mask-word Inv-loop μ-loop Inv-loop2 μ-loop2
-shared-slice-read-mask-word c =
+shared-slice-read-mask-slots : tie.Need-shared-slice-read-mask-slots Inv-loop μ-loop Inv-loop2 μ-loop2
+shared-slice-read-mask-slots c =
     let w = c .before .before .before in
     omega (arith, w .before .loop .inv .1 .0, w .loop-test .taken, mask-covers (start w .pre .1 .0))
 
-mask-word-requires : tie.Need-mask-word-requires Inv-loop μ-loop Inv-loop2 μ-loop2
-mask-word-requires c κs =
+mask-slots-requires : tie.Need-mask-slots-requires Inv-loop μ-loop Inv-loop2 μ-loop2
+mask-slots-requires c κs =
     let w = c .before .before .before in
     let l = w .before .loop in
     let s = start w in (
@@ -87,8 +87,8 @@ loop-again c =
     let l = w .before .loop in
     let a = start w .args in
     let f : ℕ → ℕ = maskedSlot (a .op) (a .file .now) (a .words .now) in
-    let put : p .mask-word .last .0 ≡ sets (l .out) (40 + l .i) (table f (l .i) 64) =
-    p .mask-word .ensures ∙ ap (sets (l .out) (40 + l .i)) (word-of-slots (a .op) (a .file .now) (a .words .now) (l .i) (l .inv .0)) in
+    let put : p .mask-slots .last .0 ≡ sets (l .out) (40 + l .i) (table f (l .i) 64) =
+    p .mask-slots .ensures ∙ ap (sets (l .out) (40 + l .i)) (word-of-slots (a .op) (a .file .now) (a .words .now) (l .i) (l .inv .0)) in
     let left = sets-table-part f 40 (a .n) (l .i) 64 (l .out) (omega (arith, l .inv .1 .0, w .loop-test .taken)) in (
       omega (arith, l .inv .0),
       (
@@ -181,9 +181,9 @@ put-primary-spec =
     bit-rows-requires
     loop-holds
     sub-loop
-    mul-mask-word
-    shared-slice-read-mask-word
-    mask-word-requires
+    mul-mask-slots
+    shared-slice-read-mask-slots
+    mask-slots-requires
     add-i
     loop-less
     loop-again
