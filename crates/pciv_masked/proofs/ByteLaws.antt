@@ -4,7 +4,7 @@
 --   maskedSlot op b ws i     what becomes of the primary byte of slot i in the file b
 --   word-of-slots, masked-primary    64 slots are a word; all slots are the primary bytes
 --   raised-lowest, -none     one step of a walk that raises the bytes of the set slots of a word, and its end
---   raised-copied            after a copy it leaves what the word makes of the bytes
+--   raised-copied            after a copy of 64 bytes it leaves what the word makes of them;  word-length  their number
 -- Axioms: none.
 use mathlib.Core.Path.{_≡_, refl, sym, ap, ap₂, _∙_}
 use Prim.Native.Nat.{ℕ, zero, suc, _+_, _-_, _*_, _/_, _%_, _^_, _≤_, _<_}
@@ -117,13 +117,17 @@ raisedByte-is zero x low byte = omega arith
 raisedByte-is (suc zero) x low byte = refl
 raisedByte-is (suc (suc bit)) x low byte = absurd (omega arith)
 
+-- 64 bytes of a list
+pub word-length : (b : List ℕ) (at : ℕ) → at + 64 ≤ length b → length (take 64 (drop at b)) ≡ 64
+word-length b at inside = length-take-le 64 (drop at b) (simp length-drop (omega arith))
+
 pub raised-copied : (b d c : List ℕ) (i word : ℕ) → Bytes b → 40 + i + 64 ≤ length b → 40 + i + 64 ≤ length d
     → c ≡ sets d (40 + i) (take 64 (drop (40 + i) b))
     → sets c (40 + i) (table (raisedWord c (40 + i) word) 0 64) ≡ sets d (40 + i) (table (maskedWord Increment b i word) 0 64)
 raised-copied b d c i word bytes inside space is =
     let src : List ℕ = take 64 (drop (40 + i) b) in
     let f : ℕ → ℕ = raisedWord c (40 + i) word in
-    let l : length src ≡ 64 = length-take-le 64 (drop (40 + i) b) (simp length-drop (omega arith)) in
+    let l : length src ≡ 64 = word-length b (40 + i) inside in
     let m : length (table f 0 64) ≡ 64 = length-table f 0 64 in
     ap (λ (e : List ℕ). sets e (40 + i) (table f 0 64)) is
     ∙ sets-over src (table f 0 64) d (40 + i) (omega arith)

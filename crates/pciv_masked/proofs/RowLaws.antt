@@ -2,7 +2,7 @@
 --   bitRows-at, bitsRow-table       a row of the table, byte by byte
 --   bit-of-word, slot-bit           one bit of a word is one slot
 --   row-of-word, word-of-mask       a row is eight bits of a word, a word 64 slots;  word-bit  a word as 64 bytes
---   word-bytes, no-bytes, last-bit  the word after the last whole one as 64 bytes, and its slots
+--   no-bytes, last-bit              the word after the last whole one as 64 bytes, and its slots;  sets-whole  an array filled
 --   primary-bits                    bits are primary bytes
 --   count-none, part-none, index-none    a map below 255 has no overflow entry, and its file no index
 -- Axioms: none.
@@ -80,16 +80,14 @@ word-of-mask ws i whole =
 
 -- ---- the slots after the last whole word
 
--- an array of 64 bytes, written over by a word
-pub word-bytes : (d : List ℕ) (x : ℕ) → length d ≡ 64 → sets d 0 (table (bitAt x) 0 64) ≡ table (bitAt x) 0 64
-word-bytes d x space =
-    let bits : List ℕ = table (bitAt x) 0 64 in
-    let l : length bits ≡ 64 = length-table (bitAt x) 0 64 in
-    sets-front bits d (omega arith)
-    ∙ ap (λ (rest : List ℕ). bits ++ rest) (drop-of-length-le d {i = length bits} (omega arith))
-    ∙ append-nil bits
+-- a list that is written over as a whole
+pub sets-whole : (d l : List ℕ) → length l ≡ length d → sets d 0 l ≡ l
+sets-whole d l same =
+    sets-front l d (omega arith)
+    ∙ ap (λ (rest : List ℕ). l ++ rest) (drop-of-length-le d {i = length l} (omega arith))
+    ∙ append-nil l
 
--- where there is no such word
+-- where there is no word
 pub no-bytes : (ws : List ℕ) (w : ℕ) → length ws ≤ w → replicate 64 0 ≡ table (bitAt (getD ws w 0)) 0 64
 unfolding table
 no-bytes ws w past =

@@ -3,8 +3,6 @@ ghost use mathlib.Core.Path.{_≡_};
 ghost use Prim.Native.Nat.{_+_, _*_, _/_, _%_, _^_, _≤_, _<_};
 ghost use lib.ListN.{length, getD};
 ghost use lib.Seq.{sets};
-ghost use lib.Count.{ones};
-ghost use lib.Dec.{leb};
 ghost use Rattle.pciv_bytes.specs.Ranges.{table};
 ghost use Rattle.pciv_format.specs.Mask.{bitAt, maskValue};
 ghost use Rattle.pciv_masked.specs.Rows.{bitRows};
@@ -20,14 +18,36 @@ pub(crate) fn bit_of(words: &[u64], slot: usize) -> u8
     ((words[slot / 64] >> (slot % 64)) % 2) as u8
 }
 
-// A word with at most this many set bits is gone through from set bit to set bit.
+// How many words are looked at together: with few slots set among them, all are gone through from set slot to set slot.
+const BLOCK: usize = 16;
+// In so many places of its words, at most, a block with few set slots has a set bit.
 const FEW_SET: u32 = 8;
 
-// Whether a word has so few set bits that a walk over them is quicker than a pass over 64 bytes.
-pub(crate) fn few_set(word: u64) -> bool
-    ensures { λ r. ⌜ r ≡ leb (ones word) 8 ⌝ }
+// Whether few slots are set in the block of words from `from` on; the words after the last whole block count as many.
+fn few_set(words: &[u64], from: usize) -> bool
+    requires { ⌜ from ≤ length (now words) ⌝ }
 {
-    u64::count_ones(word) <= FEW_SET
+    if words.len() - from < BLOCK {
+        return false;
+    }
+    let mut any: u64 = 0;
+    let mut j = 0;
+    while j < BLOCK {
+        any |= words[from + j];
+        j += 1;
+    }
+    u64::count_ones(any) <= FEW_SET
+}
+
+// The same for the block of word w, asked at its first word. What is done with a word is the same for either answer; the
+// answer for a block, and not for a word, lets the processor guess right which way it goes.
+pub(crate) fn walks(words: &[u64], w: usize, walked: bool) -> bool
+    requires { ⌜ w ≤ length (now words) ⌝ }
+{
+    if w % BLOCK == 0 {
+        return few_set(words, w);
+    }
+    walked
 }
 
 // Eight bits of a word, from bit j on.

@@ -1,7 +1,7 @@
 // The primary bytes of the result: the bits of a word as bytes 0 and 1, and each with the map's byte.
 ghost use mathlib.Core.Path.{_≡_};
 ghost use Prim.Native.Nat.{_+_, _≤_};
-ghost use lib.ListN.{length};
+ghost use lib.ListN.{length, take, drop};
 ghost use lib.Seq.{sets};
 ghost use Rattle.pciv_bytes.specs.Ranges.{table};
 ghost use Rattle.pciv_format.specs.Layout.{primary};
@@ -10,9 +10,9 @@ ghost use Rattle.pciv_words.specs.Words.{IsMask};
 ghost use Rattle.pciv_masked.specs.Rows.{bitRows};
 ghost use Rattle.pciv_masked.specs.Masked.{maskedAt, maskedByte, maskedWord, raisedWord};
 ghost use Rattle.pciv_masked.specs.declared.bytes.MaskedOp.the-variants.{Increment};
-use crate::bits::few_set;
 use crate::bits::last_bits;
 use crate::bits::put_word;
+use crate::bits::walks;
 use crate::rows::bit_rows;
 use pciv_bytes::copies::copy_bytes;
 use pciv_format::HEADER_LEN;
@@ -64,19 +64,38 @@ fn raise_set(out: &mut [u8], at: usize, word: u64)
     }
 }
 
-// What mask_word writes for an increment, by a copy and a walk: for a word with few set bits.
+// Copies 64 bytes from `at` on. They are all read into an array first, so that the compiler moves many at once: it need
+// not ask whether the slices overlap.
+fn copy_word(out: &mut [u8], file: &[u8], at: usize)
+    requires { ⌜ (at + 64 ≤ length (now file)) × (at + 64 ≤ length (now out)) ⌝ }
+    ensures { λ _. ⌜ now (out .exit) ≡ sets (now (out .entry)) at (take 64 (drop at (now (file .entry)))) ⌝ }
+{
+    let mut bytes: [u8; 64] = [0; 64];
+    let end = at + 64;
+    copy_bytes(&file[at..end], &mut bytes, 0);
+    copy_bytes(&bytes, out, at);
+}
+
+// What mask_word writes for an increment, by a copy and a walk.
 fn increment_few(out: &mut [u8], file: &[u8], i: usize, word: u64)
     requires { ⌜ (40 + i + 64 ≤ length (now file)) × (40 + i + 64 ≤ length (now out)) ⌝ }
     ensures { λ _. ⌜ now (out .exit) ≡ sets (now (out .entry)) (40 + i) (table (maskedWord Increment (now (file .entry)) i word) 0 64) ⌝ }
 {
     let at = HEADER_LEN + i;
-    let end = at + 64;
-    copy_bytes(&file[at..end], out, at);
+    copy_word(out, file, at);
     raise_set(out, at, word);
 }
 
-// Either of these, whichever is quicker.
-fn mask_slots(out: &mut [u8], op: MaskedOp, file: &[u8], i: usize, rows: &[u8; 2048], word: u64)
+// Either of these; an increment goes by a walk where few slots are set.
+fn mask_slots(
+    out: &mut [u8],
+    op: MaskedOp,
+    file: &[u8],
+    i: usize,
+    rows: &[u8; 2048],
+    word: u64,
+    few: bool,
+)
     requires { ⌜ now rows ≡ bitRows ⌝ }
     requires { ⌜ (40 + i + 64 ≤ length (now file)) × (40 + i + 64 ≤ length (now out)) ⌝ }
     ensures { λ _. ⌜ now (out .exit) ≡ sets (now (out .entry)) (40 + i) (table (maskedWord op (now (file .entry)) i word) 0 64) ⌝ }
@@ -84,7 +103,7 @@ fn mask_slots(out: &mut [u8], op: MaskedOp, file: &[u8], i: usize, rows: &[u8; 2
     match op {
         MaskedOp::Keep => mask_word(out, MaskedOp::Keep, file, i, rows, word),
         MaskedOp::Increment => {
-            if few_set(word) {
+            if few {
                 increment_few(out, file, i, word)
             } else {
                 mask_word(out, MaskedOp::Increment, file, i, rows, word)
@@ -108,9 +127,11 @@ pub(crate) fn put_primary(
     ensures { λ _. ⌜ now (out .exit) ≡ sets (now (out .entry)) 40 (primary n (maskedAt op (fileParts (now (file .entry)) n k) (now (words .entry)))) ⌝ }
 {
     let rows = bit_rows();
+    let mut few = false;
     let mut i = 0;
     while 64 <= n - i {
-        mask_slots(out, op, file, i, &rows, words[i / 64]);
+        few = walks(words, i / 64, few);
+        mask_slots(out, op, file, i, &rows, words[i / 64], few);
         i += 64;
     }
     let bits = last_bits(words, n, &rows);

@@ -1,7 +1,8 @@
 -- Proves bits::last_bits.
-use mathlib.Core.Path.{refl, _∙_}
+use mathlib.Core.Path.{_∙_}
 use Prim.Native.Nat.{_/_}
-use Rattle.pciv_masked.proofs.RowLaws.{word-bytes, no-bytes}
+use Rattle.pciv_bytes.proofs.RangesLaws.{length-table}
+use Rattle.pciv_masked.proofs.RowLaws.{sets-whole, no-bytes}
 use borrow.Author.Needs.{needs}
 use Rattle.pciv_masked.proofs.bits.last_bits.Statement.{statement}
 use Rattle.pciv_masked.proofs.bits.last_bits.Tie as tie
@@ -19,7 +20,7 @@ put-word-requires : tie.Need-put-word-requires
 put-word-requires c κs = search needs
 
 returns : tie.Need-returns
-returns c = let p = c .before in p .put-word .ensures ∙ word-bytes _ _ refl
+returns c = let p = c .before in p .put-word .ensures ∙ sets-whole _ _ (length-table _ 0 64)
 
 returns-2 : tie.Need-returns-2
 returns-2 c = let a = c .before .before .args in no-bytes (a .words .now) (a .n / 64) (c .if1 .left)

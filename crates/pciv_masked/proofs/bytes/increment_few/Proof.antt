@@ -1,7 +1,5 @@
 -- Proves bytes::increment_few.
 use mathlib.Core.Path.{_∙_}
-use Prim.Native.Nat.{_+_}
-use native.Mathlib.Nat.{add-sub-cancel-left}
 use Rattle.pciv_masked.proofs.ByteLaws.{raised-copied}
 use borrow.Author.Needs.{needs}
 use Rattle.pciv_masked.proofs.bytes.increment_few.Statement.{statement}
@@ -10,20 +8,8 @@ use Rattle.pciv_masked.proofs.bytes.increment_few.Tie as tie
 add-at : tie.Need-add-at
 add-at c = search needs
 
-add-end : tie.Need-add-end
-add-end c = search needs
-
-sub-copy-bytes : tie.Need-sub-copy-bytes
-sub-copy-bytes c = search needs
-
-part-copy-bytes-start : tie.Need-part-copy-bytes-start
-part-copy-bytes-start c = search needs
-
-part-copy-bytes-end : tie.Need-part-copy-bytes-end
-part-copy-bytes-end c = search needs
-
-copy-bytes-requires : tie.Need-copy-bytes-requires
-copy-bytes-requires c κs = search needs
+copy-word-requires : tie.Need-copy-word-requires
+copy-word-requires c κs = search needs
 
 raise-set-requires : tie.Need-raise-set-requires
 raise-set-requires c κs = search needs
@@ -35,23 +21,19 @@ returns : tie.Need-returns
 returns c =
     let r = c .before .before in
     let p = r .before .before .before .before in
-    let known = p .before .before .before in
+    let known = p .before .before in
     let s = known .before .before in
     let a = s .args in
     r .raise-set .ensures
     ∙ raised-copied (a .file .now) (a .out .now) _ (a .i) (a .word) (λ j. known .shared-slice-known .given j .fits) (s .pre .0) (s .pre .1)
-    (rw (add-sub-cancel-left (40 + a .i) 64) at (p .copy-bytes .ensures))
+    (p .copy-word .ensures)
 
 pub increment-few-spec : {M : Type 1} → statement M
 increment-few-spec =
     tie.close
     (tie.spec
     add-at
-    add-end
-    sub-copy-bytes
-    part-copy-bytes-start
-    part-copy-bytes-end
-    copy-bytes-requires
+    copy-word-requires
     raise-set-requires
     same-length
     returns)

@@ -26,9 +26,6 @@ mask-word-requires c κs = search needs
 enum-told-2 : tie.Need-enum-told-2
 enum-told-2 c = search needs
 
-few-set-requires : tie.Need-few-set-requires
-few-set-requires c κs = search needs
-
 increment-few-requires : tie.Need-increment-few-requires
 increment-few-requires c κs = search needs
 
@@ -50,7 +47,7 @@ same-length-2 c = search needs
 returns-2 : tie.Need-returns-2
 returns-2 c =
     let p = c .before .before in
-    let t = p .before .before .before .before in
+    let t = p .before .before .before in
     in-case (t .before .before .before .before) _ (t .enum-told2 .given .1) (p .increment-few .ensures)
 
 same-length-3 : tie.Need-same-length-3
@@ -59,7 +56,7 @@ same-length-3 c = search needs
 returns-3 : tie.Need-returns-3
 returns-3 c =
     let p = c .before .before in
-    let t = p .before .before .before .before in
+    let t = p .before .before .before in
     in-case (t .before .before .before .before) _ (t .enum-told2 .given .1) (p .mask-word2 .ensures)
 
 pub mask-slots-spec : {M : Type 1} → statement M
@@ -69,7 +66,6 @@ mask-slots-spec =
     enum-told
     mask-word-requires
     enum-told-2
-    few-set-requires
     increment-few-requires
     mask-word-requires-2
     same-length

@@ -25,16 +25,16 @@ Left op b ws n d₀ i₀ d i =
     × (sets d₀ (40 + i₀) (table (maskedSlot op b ws) i₀ (n - i₀)) ≡ sets d (40 + i) (table (maskedSlot op b ws) i (n - i)))
 
 abbrev Inv-loop : tie.InvT-loop
-Inv-loop out₀ op file n k words rows i₀ out i = (i % 64 ≡ 0) × Left op file words n out₀ 0 out i
+Inv-loop out₀ op file n k words rows few₀ i₀ out few i = (i % 64 ≡ 0) × Left op file words n out₀ 0 out i
 
 abbrev μ-loop : tie.MeasureT-loop
-μ-loop out₀ op file n k words rows i₀ out i = n - i
+μ-loop out₀ op file n k words rows few₀ i₀ out few i = n - i
 
 abbrev Inv-loop2 : tie.InvT-loop2
-Inv-loop2 out₀ op file n k words i₀ bits out i = (64 * (n / 64) ≤ i) × Left op file words n out₀ i₀ out i
+Inv-loop2 out₀ op file n k words few i₀ bits out i = (64 * (n / 64) ≤ i) × Left op file words n out₀ i₀ out i
 
 abbrev μ-loop2 : tie.MeasureT-loop2
-μ-loop2 out₀ op file n k words i₀ bits out i = n - i
+μ-loop2 out₀ op file n k words few i₀ bits out i = n - i
 
 abbrev start : tie.In-loop Inv-loop μ-loop Inv-loop2 μ-loop2 → tie.Start Inv-loop μ-loop Inv-loop2 μ-loop2
 start c = c .before .before .before .before .before .before
@@ -54,17 +54,20 @@ loop-holds c = (refl, (omega arith, refl, refl))
 sub-loop : tie.Need-sub-loop Inv-loop μ-loop Inv-loop2 μ-loop2
 sub-loop c = search needs
 
+walks-requires : tie.Need-walks-requires Inv-loop μ-loop Inv-loop2 μ-loop2
+walks-requires c κs = omega (arith, c .before .loop .inv .1 .0, c .loop-test .taken, mask-covers (start c .pre .1 .0))
+
 mul-mask-slots : tie.Need-mul-mask-slots Inv-loop μ-loop Inv-loop2 μ-loop2
 mul-mask-slots c = search needs
 
 shared-slice-read-mask-slots : tie.Need-shared-slice-read-mask-slots Inv-loop μ-loop Inv-loop2 μ-loop2
 shared-slice-read-mask-slots c =
-    let w = c .before .before .before in
+    let w = c .before .before .before .before in
     omega (arith, w .before .loop .inv .1 .0, w .loop-test .taken, mask-covers (start w .pre .1 .0))
 
 mask-slots-requires : tie.Need-mask-slots-requires Inv-loop μ-loop Inv-loop2 μ-loop2
 mask-slots-requires c κs =
-    let w = c .before .before .before in
+    let w = c .before .before .before .before in
     let l = w .before .loop in
     let s = start w in (
       w .before .before .bit-rows .ensures,
@@ -83,7 +86,7 @@ loop-less c = search needs
 loop-again : tie.Need-loop-again Inv-loop μ-loop Inv-loop2 μ-loop2
 loop-again c =
     let p = c .before .before in
-    let w = p .before .before .before .before in
+    let w = p .before .before .before .before .before in
     let l = w .before .loop in
     let a = start w .args in
     let f : ℕ → ℕ = maskedSlot (a .op) (a .file .now) (a .words .now) in
@@ -181,6 +184,7 @@ put-primary-spec =
     bit-rows-requires
     loop-holds
     sub-loop
+    walks-requires
     mul-mask-slots
     shared-slice-read-mask-slots
     mask-slots-requires

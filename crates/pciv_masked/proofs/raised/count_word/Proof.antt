@@ -13,9 +13,6 @@ use borrow.Author.Needs.{needs}
 use Rattle.pciv_masked.proofs.raised.count_word.Statement.{statement}
 use Rattle.pciv_masked.proofs.raised.count_word.Tie as tie
 
-few-set-requires : tie.Need-few-set-requires
-few-set-requires c κs = search needs
-
 sub-if2 : tie.Need-sub-if2
 sub-if2 c = search needs
 
@@ -28,7 +25,7 @@ any-byte-requires c κs = search needs
 returns : tie.Need-returns
 returns c =
     let f = c .before in
-    let a = f .before .before .before .before .before .args in
+    let a = f .before .before .before .before .args in
     let none = sym (f .any-byte .ensures) ∙ not-true _ (c .if3 .taken) in
     sym
     (picked-zero (byteIs (a .bytes .now) 254) 64 (a .from) (a .word)
@@ -36,7 +33,7 @@ returns c =
     ap flag (anyFrom-none (λ (i : ℕ). eqb (getD (a .bytes .now) i 0) 254) (a .from + 64 - a .from) (a .from) none j h₁ (omega arith))))
 
 count-set-requires : tie.Need-count-set-requires
-count-set-requires c κs = c .before .before .before .pre .1
+count-set-requires c κs = c .before .before .pre .1
 
 returns-2 : tie.Need-returns-2
 returns-2 c = search needs
@@ -44,4 +41,4 @@ returns-2 c = search needs
 pub count-word-spec : {M : Type 1} → statement M
 count-word-spec =
     tie.close
-    (tie.spec few-set-requires sub-if2 add-any-byte any-byte-requires returns count-set-requires returns-2)
+    (tie.spec sub-if2 add-any-byte any-byte-requires returns count-set-requires returns-2)
