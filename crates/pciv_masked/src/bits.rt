@@ -18,12 +18,12 @@ pub(crate) fn bit_of(words: &[u64], slot: usize) -> u8
     ((words[slot / 64] >> (slot % 64)) % 2) as u8
 }
 
-// How many words are looked at together: with few slots set among them, all are gone through from set slot to set slot.
+// Words are taken together in blocks of this many.
 const BLOCK: usize = 16;
-// In so many places of its words, at most, a block with few set slots has a set bit.
+// Few slots of a block are set where its words, laid over one another, have at most this many set bits.
 const FEW_SET: u32 = 8;
 
-// Whether few slots are set in the block of words from `from` on; the words after the last whole block count as many.
+// Whether few slots are set in the block of words from `from` on; not so where fewer words than a block are left.
 fn few_set(words: &[u64], from: usize) -> bool
     requires { ⌜ from ≤ length (now words) ⌝ }
 {
@@ -39,15 +39,15 @@ fn few_set(words: &[u64], from: usize) -> bool
     u64::count_ones(any) <= FEW_SET
 }
 
-// The same for the block of word w, asked at its first word. What is done with a word is the same for either answer; the
-// answer for a block, and not for a word, lets the processor guess right which way it goes.
-pub(crate) fn walks(words: &[u64], w: usize, walked: bool) -> bool
+// Whether few slots are set in the block of word w: asked at its first word, else the answer for the word before. It is a
+// guess at which way is quicker and no promise; one answer for a whole block is one that the processor foresees.
+pub(crate) fn few_at(words: &[u64], w: usize, before: bool) -> bool
     requires { ⌜ w ≤ length (now words) ⌝ }
 {
     if w % BLOCK == 0 {
         return few_set(words, w);
     }
-    walked
+    before
 }
 
 // Eight bits of a word, from bit j on.

@@ -10,9 +10,9 @@ ghost use Rattle.pciv_words.specs.Words.{IsMask};
 ghost use Rattle.pciv_masked.specs.Rows.{bitRows};
 ghost use Rattle.pciv_masked.specs.Masked.{maskedAt, maskedByte, maskedWord, raisedWord};
 ghost use Rattle.pciv_masked.specs.declared.bytes.MaskedOp.the-variants.{Increment};
+use crate::bits::few_at;
 use crate::bits::last_bits;
 use crate::bits::put_word;
-use crate::bits::walks;
 use crate::rows::bit_rows;
 use pciv_bytes::copies::copy_bytes;
 use pciv_format::HEADER_LEN;
@@ -86,7 +86,7 @@ fn increment_few(out: &mut [u8], file: &[u8], i: usize, word: u64)
     raise_set(out, at, word);
 }
 
-// Either of these; an increment goes by a walk where few slots are set.
+// Either of these: an increment by a walk, where few slots are set, else a pass over all bytes.
 fn mask_slots(
     out: &mut [u8],
     op: MaskedOp,
@@ -130,7 +130,7 @@ pub(crate) fn put_primary(
     let mut few = false;
     let mut i = 0;
     while 64 <= n - i {
-        few = walks(words, i / 64, few);
+        few = few_at(words, i / 64, few);
         mask_slots(out, op, file, i, &rows, words[i / 64], few);
         i += 64;
     }

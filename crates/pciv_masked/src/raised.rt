@@ -14,7 +14,6 @@ ghost use Rattle.pciv_addition.specs.Addition.{Fits};
 ghost use Rattle.pciv_masked.specs.Masked.{maskedAt, raisedAt, picked, SetBelow};
 ghost use Rattle.pciv_masked.specs.declared.bytes.MaskedOp.the-variants.{Increment};
 use crate::bits::bit_of;
-use crate::bits::walks;
 use pciv_build::put_entry;
 use pciv_build::slots::put_slots;
 use pciv_bytes::find::any_byte;
@@ -63,16 +62,14 @@ fn count_set(bytes: &[u8], from: usize, word: u64) -> usize
     count
 }
 
-// The same; where not few slots are set, a word none of whose slots has that byte is passed at once.
-fn count_word(bytes: &[u8], from: usize, word: u64, few: bool) -> usize
+// The same; a word none of whose slots has that byte is passed at once.
+fn count_word(bytes: &[u8], from: usize, word: u64) -> usize
     requires { ⌜ (from ≤ length (now bytes)) × SetBelow (length (now bytes)) from word ⌝ }
     ensures { λ r. ⌜ r ≡ picked (byteIs (now (bytes .entry)) 254) from 64 word ⌝ }
 {
-    if !few {
-        if 64 <= bytes.len() - from {
-            if !any_byte(bytes, from, from + 64, INLINE_MAX) {
-                return 0;
-            }
+    if 64 <= bytes.len() - from {
+        if !any_byte(bytes, from, from + 64, INLINE_MAX) {
+            return 0;
         }
     }
     count_set(bytes, from, word)
@@ -85,11 +82,9 @@ fn count_raised(bytes: &[u8], words: &[u64]) -> usize
     ensures { λ r. ⌜ r ≡ sumFrom (raisedAt (now (bytes .entry)) (now (words .entry))) 0 (64 * length (now (words .entry))) ⌝ }
 {
     let mut count: usize = 0;
-    let mut few = false;
     let mut w = 0;
     while w < words.len() {
-        few = walks(words, w, few);
-        count += count_word(bytes, 64 * w, words[w], few);
+        count += count_word(bytes, 64 * w, words[w]);
         w += 1;
     }
     count

@@ -54,8 +54,8 @@ loop-holds c = (refl, (omega arith, refl, refl))
 sub-loop : tie.Need-sub-loop Inv-loop μ-loop Inv-loop2 μ-loop2
 sub-loop c = search needs
 
-walks-requires : tie.Need-walks-requires Inv-loop μ-loop Inv-loop2 μ-loop2
-walks-requires c κs = omega (arith, c .before .loop .inv .1 .0, c .loop-test .taken, mask-covers (start c .pre .1 .0))
+few-at-requires : tie.Need-few-at-requires Inv-loop μ-loop Inv-loop2 μ-loop2
+few-at-requires c κs = omega (arith, c .before .loop .inv .1 .0, c .loop-test .taken, mask-covers (start c .pre .1 .0))
 
 mul-mask-slots : tie.Need-mul-mask-slots Inv-loop μ-loop Inv-loop2 μ-loop2
 mul-mask-slots c = search needs
@@ -184,7 +184,7 @@ put-primary-spec =
     bit-rows-requires
     loop-holds
     sub-loop
-    walks-requires
+    few-at-requires
     mul-mask-slots
     shared-slice-read-mask-slots
     mask-slots-requires

@@ -1,12 +1,11 @@
 -- Proves bytes::raise_set. Invariant: raising the bytes of all set bits from the start is raising those of the bits that are
 -- left from here. Falls: the bits that are left, as a number.
 use mathlib.Core.Path.{_≡_, refl, sym, ap, _∙_}
-use Prim.Native.Nat.{ℕ, _+_, _-_, _^_, _≤_, _<_}
+use Prim.Native.Nat.{ℕ, _+_, _-_, _^_, _<_}
 use native.Mathlib.Omega.{arith}
-use mathlib.Core.List.{List}
 use lib.ListN.{length, length-set}
 use lib.Seq.{sets}
-use lib.Bits.{bitAnd, and-le-r}
+use lib.Bits.{and-le-r}
 use lib.Count.{trailingZeros, trailing-le}
 use Rattle.pciv_bytes.specs.Ranges.{table}
 use Rattle.pciv_masked.specs.Masked.{raisedWord}

@@ -15,23 +15,23 @@ use Rattle.pciv_masked.proofs.raised.count_raised.Statement.{statement}
 use Rattle.pciv_masked.proofs.raised.count_raised.Tie as tie
 
 abbrev Inv-loop : tie.InvT-loop
-Inv-loop bytes words count₀ few₀ w₀ count few w =
+Inv-loop bytes words count₀ w₀ count w =
     (w ≤ length words)
     × Added (raisedAt bytes words) (64 * length words) (sumFrom (raisedAt bytes words) 0 (64 * length words - 0)) (64 * w) count
 
 abbrev μ-loop : tie.MeasureT-loop
-μ-loop bytes words count₀ few₀ w₀ count few w = length words - w
+μ-loop bytes words count₀ w₀ count w = length words - w
 
 abbrev start : tie.In-loop Inv-loop μ-loop → tie.Start Inv-loop μ-loop
 start c = c .before .before .before .before
 
 -- what is found in word w
 found : (c : tie.After-count-word Inv-loop μ-loop)
-    → (let d = c .before .before .before in
+    → (let d = c .before .before in
     let a = start d .args in
     c .count-word .result ≡ sumFrom (raisedAt (a .bytes .now) (a .words .now)) (64 * d .before .loop .w) 64)
 found c =
-    let d = c .before .before .before in
+    let d = c .before .before in
     let a = start d .args in
     c .count-word .ensures ∙ word-raised (a .bytes .now) (a .words .now) (d .before .loop .w)
 
@@ -39,9 +39,6 @@ loop-holds : tie.Need-loop-holds Inv-loop μ-loop
 loop-holds c =
     let a = c .before .before .args in
     (omega arith, added-none (raisedAt (a .bytes .now) (a .words .now)) 0 (64 * length (a .words .now)) (omega arith))
-
-walks-requires : tie.Need-walks-requires Inv-loop μ-loop
-walks-requires c κs = search needs
 
 mul-count-word : tie.Need-mul-count-word Inv-loop μ-loop
 mul-count-word c = search needs
@@ -54,7 +51,7 @@ shared-slice-read-count-word c = search needs
 
 count-word-requires : tie.Need-count-word-requires Inv-loop μ-loop
 count-word-requires c κs =
-    let d = c .before .before in
+    let d = c .before in
     let s = start d in
     let a = s .args in (
       omega (arith, d .loop-test .taken, s .pre .0 .count),
@@ -63,7 +60,7 @@ count-word-requires c κs =
 
 add-count : tie.Need-add-count Inv-loop μ-loop
 add-count c =
-    let d = c .before .before .before in
+    let d = c .before .before in
     let s = start d in
     let a = s .args in
     let l = d .before .loop in
@@ -85,7 +82,7 @@ loop-less c = search needs
 
 loop-again : tie.Need-loop-again Inv-loop μ-loop
 loop-again c =
-    let d = c .before .before .before in
+    let d = c .before .before in
     let a = start d .args in
     let l = d .before .loop in
     let f : ℕ → ℕ = raisedAt (a .bytes .now) (a .words .now) in
@@ -108,7 +105,6 @@ count-raised-spec =
     Inv-loop
     μ-loop
     loop-holds
-    walks-requires
     mul-count-word
     mul-count-word-2
     shared-slice-read-count-word

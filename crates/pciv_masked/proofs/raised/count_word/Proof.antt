@@ -13,8 +13,8 @@ use borrow.Author.Needs.{needs}
 use Rattle.pciv_masked.proofs.raised.count_word.Statement.{statement}
 use Rattle.pciv_masked.proofs.raised.count_word.Tie as tie
 
-sub-if2 : tie.Need-sub-if2
-sub-if2 c = search needs
+sub-if1 : tie.Need-sub-if1
+sub-if1 c = search needs
 
 add-any-byte : tie.Need-add-any-byte
 add-any-byte c = search needs
@@ -25,8 +25,8 @@ any-byte-requires c κs = search needs
 returns : tie.Need-returns
 returns c =
     let f = c .before in
-    let a = f .before .before .before .before .args in
-    let none = sym (f .any-byte .ensures) ∙ not-true _ (c .if3 .taken) in
+    let a = f .before .before .before .args in
+    let none = sym (f .any-byte .ensures) ∙ not-true _ (c .if2 .taken) in
     sym
     (picked-zero (byteIs (a .bytes .now) 254) 64 (a .from) (a .word)
     (λ j h₁ h₂.
@@ -41,4 +41,4 @@ returns-2 c = search needs
 pub count-word-spec : {M : Type 1} → statement M
 count-word-spec =
     tie.close
-    (tie.spec sub-if2 add-any-byte any-byte-requires returns count-set-requires returns-2)
+    (tie.spec sub-if1 add-any-byte any-byte-requires returns count-set-requires returns-2)
