@@ -116,7 +116,7 @@ archive. A change that is not told from noise says so. {same_machine}.
 Ratios leave the checks of the files out on both sides, unless a line says that they are included: what the checks alone take
 in the same race is taken off. Behind a ratio stands its goal, in brackets; a ratio in bold is short of it, by more than 1 %.
 Best flat is the fastest of flat Rust, numpy and OpenCV. The goals were set on another machine. The independent program's
-check is compiled in one of two ways from build to build, so ratios to it differ between builds; the library's times do not.
+check is compiled in one of two ways from build to build, and ratios to it with that.
 
 {goals}
 {masks}{others}
