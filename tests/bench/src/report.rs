@@ -116,7 +116,7 @@ archive. A change that is not told from noise says so. {same_machine}.
 Ratios leave the checks of the files out on both sides, unless a line says that they are included: what the checks alone take
 in the same race is taken off. Behind a ratio stands its goal, in brackets; a ratio in bold is short of it, by more than 1 %.
 Best flat is the fastest of flat Rust, numpy and OpenCV. The goals were set on another machine. The independent program's
-check is compiled in one of two ways from build to build, so ratios to it differ between builds; the library's times do not.
+check is compiled in one of two ways from build to build, and ratios to it with that.
 
 {goals}
 {masks}{others}
@@ -147,7 +147,8 @@ it is copied; for `close`, it is made of the same bytes and entries.
 Times are microseconds a call, one thread. Contestants take turns, {ROUNDS} rounds in each of {PASSES} passes over all calls
 (the library's own times: alone, {own_passes} passes, a process each); a turn starts with a call that is not timed, so buffers are warm.
 A time is that of the best round; its spread is what the best rounds of the passes differ by, the worst third of them left
-out. A change is noise where it is at most both spreads together, or at most 2 %. On a machine that is not quiet, both are too small.
+out. A change is noise where it is at most both spreads together, or at most 13 %:
+builds of the bench over one archive differed by up to 12 % in a call, so ratios move by as much from build to build.
 A difference of two times is below the noise where their spreads together are more than half of it: the goal is then not
 measurable here. All but numpy, OpenCV and memcpy are compiled for every x86-64 processor, without AVX. numpy and OpenCV have
 to give the results of flat Rust before they are timed; flat Rust is tested against the library (`cargo test -p bench`).
