@@ -85,7 +85,7 @@ const FAMILIES: [Family; 17] = [
             "shift by 10",
         ],
         often: Often::Frame,
-        why: "a count first, since a refused call writes nothing, then the bytes, then the entries: found by mask words, written, filled in. One loop for the last two is slower where few sums are in overflow.",
+        why: "a count first, since a refused call writes nothing, then the bytes, then the entries: found by mask words, written, filled in.",
     },
     Family {
         name: "increment_masked",
@@ -95,7 +95,7 @@ const FAMILIES: [Family; 17] = [
             "increment_masked, 1 % in a disc",
         ],
         often: Often::Frame,
-        why: "a count of the set slots that come into overflow, a pass over the bytes, and the entries as for sums.",
+        why: "a count of the set slots that come into overflow, a pass over the bytes or, where few slots are set, a copy and a walk over the set ones, and the entries as for sums.",
     },
     Family {
         name: "keep_masked",
