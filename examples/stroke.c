@@ -63,9 +63,11 @@ int main(int count, char **arguments)
         must(S_ISREG(before.st_mode) &&
                  (before.st_dev != now.st_dev || before.st_ino != now.st_ino),
              out, "is the map itself, or no regular file");
-    size_t len = (size_t)now.st_size; /* and a byte more is mapped, since none cannot be */
-    const uint8_t *file = mmap(NULL, len + 1, PROT_READ, MAP_PRIVATE, fd, 0);
-    must(file != MAP_FAILED, map, NULL);
+    size_t len = 0, size = (size_t)now.st_size;
+    uint8_t *file = memory(size, 1);
+    for (ssize_t got = 1; got > 0; len += (size_t)got)
+        must((got = read(fd, file + len, size - len)) >= 0, map, NULL);
+    must(len == size && close(fd) == 0, map, "has changed");
 
     pciv_summary summary;
     pciv_refusal why;
@@ -97,8 +99,8 @@ int main(int count, char **arguments)
     must(buffer != MAP_FAILED, copy, NULL);
     memcpy(buffer, file, len);
     must_not_refuse(pciv_edit_all(buffer, capacity, slots, distances, answers, edits, &why), &why);
-    if (edits > 0)
-        summary = answers[edits - 1].summary;
+    for (size_t i = 0; i < edits; summary = answers[i++].summary)
+        must_not_refuse(answers[i].refusal.number, &answers[i].refusal);
     must(munmap(buffer, capacity) == 0 && ftruncate(fd, (off_t)summary.len) == 0 &&
              fsync(fd) == 0 && rename(copy, out) == 0,
          out, NULL);

@@ -13,6 +13,8 @@
  *     it may be null, as data() of an empty std::vector may be. All other pointers must be non-null.
  *   - What a call writes must not overlap anything else that it is given: buffers, results, refusal.
  *     What it only reads may overlap: a file may be combined with itself.
+ *   - Nothing that a call is given may be changed by others while it runs: another thread, or a program
+ *     that writes a file which is mapped here. Files are checked once, and then believed.
  *   - The call answers a number of enum pciv_refusal_number, PCIV_OK when done.
  *   - *refusal is always written: all zero when done, else the same number, the map at fault and
  *     the place.

@@ -1,4 +1,4 @@
-// The C interface (include/pciv.h): one thin function for each public routine.
+// The C interface (include/pciv.h): a thin function for each routine that C has, and one for each comparison of threshold.
 // A pciv_refusal is three numbers, a pciv_summary five. Each call but pciv_primary_span answers the refusal's
 // number, 0 when done, and always writes the refusal; a result is written only when the call is done
 // (specs/Cells.antt).

@@ -99,14 +99,14 @@ module _ (n : ℕ) (v : ℕ → ℕ) (few : n ≤ maxSlots) (each : (i : ℕ) �
   file-entry j h =
       (_, drop-primary (12 * j) ∙ joined-piece (overflowEntry v) 12 (length-overflowEntry v) (overflowSlots n v) _ j h)
 
-  file-slot : (j : ℕ) → j < overflowCount n v → get 8 (file n v) (40 + n + 12 * j) ≡ getD (overflowSlots n v) j 0
+  pub file-slot : (j : ℕ) → j < overflowCount n v → get 8 (file n v) (40 + n + 12 * j) ≡ getD (overflowSlots n v) j 0
   unfolding overflowEntry le
   file-slot j h =
       let s : ℕ = getD (overflowSlots n v) j 0 in
       let e = file-entry j h in
       get-at 8 (file n v) (40 + n + 12 * j) s (le 4 (v s) ++ e .0) (e .1) (omega (arith, slot-inside j h))
 
-  file-distance : (j : ℕ) → j < overflowCount n v → get 4 (file n v) (40 + n + 12 * j + 8) ≡ v (getD (overflowSlots n v) j 0)
+  pub file-distance : (j : ℕ) → j < overflowCount n v → get 4 (file n v) (40 + n + 12 * j + 8) ≡ v (getD (overflowSlots n v) j 0)
   unfolding overflowEntry le
   file-distance j h =
       let s : ℕ = getD (overflowSlots n v) j 0 in

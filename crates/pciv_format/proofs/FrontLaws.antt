@@ -76,7 +76,7 @@ module _ (P Q : Parts) (same : SameParts P Q) where
       }
 
 -- where Q has the numbers of P, P has those of Q
-same-back : (P Q : Parts) → SameParts P Q → SameParts Q P
+pub same-back : (P Q : Parts) → SameParts P Q → SameParts Q P
 same-back P Q s =
     record {
       nSame = sym (s .nSame);
@@ -87,7 +87,7 @@ same-back P Q s =
     }
 
 -- and each slot its distance
-valueOf-same : (P Q : Parts) → SameParts P Q → SoundParts P → ((i : ℕ) → P .byte i < 256) → (i : ℕ) → i < P .n
+pub valueOf-same : (P Q : Parts) → SameParts P Q → SoundParts P → ((i : ℕ) → P .byte i < 256) → (i : ℕ) → i < P .n
     → valueOf Q i ≡ valueOf P i
 valueOf-same P Q same sound bytes i h =
     let soundQ = sound-same P Q same sound in

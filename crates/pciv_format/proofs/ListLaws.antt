@@ -6,25 +6,30 @@
 --   file-pair          the check of two files and refusal 10; file-select, file-masked: once for several routines
 --   WritesMap, X-read  what a routine X writes as a map is accepted with X's answer and is read as the list of results
 --   map-read           that, once for all of them
+--   map-close          close accepts the parts of every map, and writes the map's file
 -- Check is `file-accepted` (Acceptance.antt), and of a buffer `front-check` (FrontLaws.antt). The routines on masks
 -- alone (and, or, xor, complement, set_bits, map_of_mask) are given no file: their definitions are on the words.
 use mathlib.Core.Path.{_≡_, refl, sym, ap, _∙_}
 use Prim.Native.Nat.{ℕ, _+_, _*_, _≤_, _<_, min}
+use native.Mathlib.Nat.{zero-add}
+use native.Mathlib.Omega.{arith}
+use native.Mathlib.Decide.{decLe}
 use mathlib.Core.Bool.{Bool, not, _||_, xor}
 use mathlib.Core.List.{List, _++_, map}
-use lib.ListN.{length, take, drop}
+use lib.ListN.{length, getD, take, drop, length-map, List·getD-map, List·getD-eq-default}
 use lib.Seq.{take-at, drop-at}
 use lib.Dec.{ltb, leb, eqb}
 use lib.IntN.{ℤ}
-use borrow.Author.Tests.{ltb-false}
+use borrow.Author.Tests.{ltb-false, le-ltb}
 use Rattle.pciv_bytes.specs.Ranges.{table}
 use Rattle.pciv_bytes.specs.LittleEndian.{Bytes}
-use Rattle.pciv_format.specs.Layout.{maxSlots, maxDistance, primary, overflowCount, header, file}
+use Rattle.pciv_bytes.proofs.RangesLaws.{getD-table, getD-inside}
+use Rattle.pciv_format.specs.Layout.{maxSlots, maxDistance, primaryByte, primary, overflowSlots, overflowCount, header, file}
 use Rattle.pciv_format.specs.Layout.{countsOf, summary, at, fileOf, summaryOf, Limits}
 use Rattle.pciv_format.specs.Refusals.{Outcome, done, refuse, refuseIf, refuseFirst, written}
 use Rattle.pciv_format.specs.Parts.{Parts, badEntry, badSlot, valueOf, SoundParts}
-use Rattle.pciv_format.specs.Check.{checkFile}
-use Rattle.pciv_format.specs.Read.{listOf, primaryPart, lookupOutcome, itemsInto, lookupListOutcome, lookupListBuffer}
+use Rattle.pciv_format.specs.Check.{fileParts, checkFile}
+use Rattle.pciv_format.specs.Read.{listOf, primaryPart, behind, primaryPlace, lookupOutcome, itemsInto, lookupListOutcome, lookupListBuffer}
 use Rattle.pciv_format.specs.Read.{scanOutcome, scanBuffer, total, readings, sumOutcome, readingsOutcome}
 use Rattle.pciv_format.specs.Write.{fileInto, mapInto, writeOutcome, writeBuffer, closeParts, closeOutcome, closeBuffer}
 use Rattle.pciv_format.specs.Mask.{maskLen, maskHas, maskOf, badMask, holds, isNear, selectOutcome, selectWords}
@@ -43,12 +48,12 @@ use Rattle.pciv_format.specs.Report.{textOf, reportText, reportOutcome, 
 use Rattle.pciv_format.specs.declared.Summary.{Summary}
 use Rattle.pciv_format.specs.declared.SlotOp.{SlotOp}
 use Rattle.pciv_format.specs.declared.Comparison.{Comparison}
-use Rattle.pciv_format.proofs.PartsLaws.{valueOf-le}
-use Rattle.pciv_format.proofs.RefusalsLaws.{refuseIf-done, refuseFirst-done}
-use Rattle.pciv_format.proofs.LayoutLaws.{length-header, length-primary, length-file}
-use Rattle.pciv_format.proofs.FileLaws.{file-header}
+use Rattle.pciv_format.proofs.PartsLaws.{primaryByte-overflow, primaryByte-inline, valueOf-le}
+use Rattle.pciv_format.proofs.RefusalsLaws.{refuseIf-done, refuseFirst-done, refuseFirst-none}
+use Rattle.pciv_format.proofs.LayoutLaws.{length-header, length-primary, length-file, file-cong, summary-cong}
+use Rattle.pciv_format.proofs.FileLaws.{file-header, file-byte, file-slot, file-distance, file-checked, file-value}
 use Rattle.pciv_format.proofs.Acceptance.{file-accepted, file-read, file-table, summary-table, table-limits}
-use Rattle.pciv_format.proofs.FrontLaws.{front-check, front-list}
+use Rattle.pciv_format.proofs.FrontLaws.{SameParts, sound-same, same-back, valueOf-same, front-check, front-list}
 use Rattle.pciv_format.proofs.LimitLaws.{edit-plain}
 
 module _ {A B : Type 0} where
@@ -72,6 +77,10 @@ module _ (xs : List ℕ) (l : Limits xs) where
   file-primary =
       rw (file-accepted 1 xs l, file-header (length xs) (at xs) (l .count) (l .each) .nIs)
       (primary-part (length xs) (at xs))
+
+  pub file-primaryPlace : (p : ℕ × ℕ) → primaryPlace (fileOf xs) p ≡ behind 40 p
+  unfolding primaryPlace
+  file-primaryPlace p = rw (file-accepted 1 xs l)
 
   pub file-lookup : (slot : ℕ)
       → lookupOutcome (fileOf xs) slot ≡ refuseIf (leb (length xs) slot) (refuse 9 0 0) (done (at xs slot))
@@ -352,3 +361,72 @@ close-read bytes slots distances small each out s =
     let sound : SoundParts P = record { entries = h₆ .0; slots = h₇ .0 } in
     fileInto-done (P .n) (valueOf P) (ltb-false maxSlots (P .n) (g .0))
     (valueOf-le P sound small (λ j h. each j)) (length out) s (h₇ .1)))
+
+-- ---- close takes the parts of every list
+
+-- the distances in overflow, in order of their slots
+abbrev pub overflowDistances : ℕ → (ℕ → ℕ) → List ℕ
+overflowDistances n v = map v (overflowSlots n v)
+
+primary-at : (n : ℕ) (v : ℕ → ℕ) (i : ℕ) → i < n → getD (primary n v) i 0 ≡ primaryByte (v i)
+unfolding primary
+primary-at n v i h = getD-table (λ (j : ℕ). primaryByte (v j)) 0 0 n i h ∙ ap (λ (j : ℕ). primaryByte (v j)) (zero-add i)
+
+primary-bytes : (n : ℕ) (v : ℕ → ℕ) → Bytes (primary n v)
+primary-bytes n v i =
+    elim (decLe n i) [
+      | yes past ↦ omega (arith, List·getD-eq-default (primary n v) 0 {n = i} (omega (arith, length-primary n v)))
+      | no inside ↦ (let at-i = primary-at n v i (omega arith) in
+          elim (decLe 255 (v i)) [
+            | yes overflows ↦ omega (arith, at-i, primaryByte-overflow (v i) overflows)
+            | no small ↦ omega (arith, at-i, primaryByte-inline (v i) (omega arith))
+          ])
+    ]
+
+module _ (n : ℕ) (v : ℕ → ℕ) (few : n ≤ maxSlots) (each : (i : ℕ) → i < n → v i ≤ maxDistance) where
+  -- the parts of the map, as close is given them
+  abbrev parts : Parts
+  parts = closeParts (primary n v) (overflowSlots n v) (overflowDistances n v)
+
+  -- they have the numbers of its file
+  same : SameParts (fileParts (file n v) n (overflowCount n v)) parts
+  unfolding overflowCount
+  same =
+      let ss : List ℕ = overflowSlots n v in
+      record {
+        nSame = length-primary n v;
+        kSame = rw (length-map ss v) (omega arith);
+        byteSame = λ i h. primary-at n v i h ∙ sym (file-byte n v few each i h);
+        slotSame = λ j h. getD-inside ss j _ 0 h ∙ sym (file-slot n v few each j h);
+        distanceSame = λ j h.
+            getD-inside (map v ss) j 0 (v 0) (rw (length-map ss v) h)
+            ∙ List·getD-map v ss j 0
+            ∙ sym (file-distance n v few each j h);
+      }
+
+  sound : SoundParts parts
+  sound = sound-same _ parts same (file-checked n v few each .parts)
+
+  value : (i : ℕ) → i < n → valueOf parts i ≡ v i
+  value i h =
+      sym (valueOf-same parts _ (same-back _ parts same) sound (primary-bytes n v) i (omega (arith, length-primary n v)))
+      ∙ file-value n v few each i h
+
+  parts-file : file (length (primary n v)) (valueOf parts) ≡ file n v
+  parts-file = ap (λ (m : ℕ). file m (valueOf parts)) (length-primary n v) ∙ file-cong n (valueOf parts) v value
+
+  parts-summary : summary (length (primary n v)) (valueOf parts) ≡ summary n v
+  parts-summary = ap (λ (m : ℕ). summary m (valueOf parts)) (length-primary n v) ∙ summary-cong n (valueOf parts) v value
+
+  pub map-close :
+      Writes (closeOutcome (primary n v) (overflowSlots n v) (overflowDistances n v))
+      (closeBuffer (primary n v) (overflowSlots n v) (overflowDistances n v)) (fileInto n v) (file n v)
+  unfolding closeOutcome closeBuffer
+  map-close out =
+      rw (
+        le-ltb maxSlots (length (primary n v)) (omega (arith, few, length-primary n v)),
+        refuseFirst-none 6 1 (badEntry parts) (parts .k) _ (sound .entries),
+        refuseFirst-none 7 1 (badSlot parts) (parts .n) _ (sound .slots),
+        parts-file,
+        parts-summary,
+      ) (refl, refl)

@@ -89,10 +89,10 @@ fn paint(
     buffer[..file.len()].copy_from_slice(file);
     let mut answers = vec![pciv::EditAnswer::default(); slots.len()];
     pciv::edit_list(buffer, slots, &vec![400; slots.len()], &mut answers)?;
-    let summary = match answers.last() {
-        Some(last) => last.result()?,
-        None => pciv::check(file)?,
-    };
+    let mut summary = pciv::check(file)?;
+    for answer in &answers {
+        summary = answer.result()?;
+    }
     drop(mapping);
     target.set_len(summary.len)?;
     target.sync_all()?;
