@@ -146,6 +146,11 @@ fn good() -> Vec<Vector> {
         accepted("borders", BORDERS.into(), [16, 12, 0, 0, 200]),
         accepted("long-slots", long_slots(), [65_538, 4, 0, 0, 65_626]),
         accepted(
+            "1048576-slots",
+            vec![0; 1_048_576],
+            [1_048_576, 0, 0, 0, 1_048_616],
+        ),
+        accepted(
             "2048-overflow-no-index",
             with_overflow(2_100, 2_048),
             [2_100, 2_048, 0, 0, 26_716],
@@ -172,14 +177,18 @@ fn good() -> Vec<Vector> {
 fn bad_counts() -> Vec<Vector> {
     let [empty, a] = [file_of(&[]), file_of(&MAP_A)];
     let [many, more] = [with_overflow(2_100, 2_049), with_overflow(4_200, 4_097)];
+    let slots = with64(&empty, 8, 1_048_577);
     let entry = |slot: u64| [&slot.to_le_bytes()[..], &[0x2C, 0x01, 0, 0]].concat();
     vec![
         refused(1, 0, "no-bytes", vec![]),
         refused(1, 0, "39-bytes", empty[..39].into()),
+        refused(1, 0, "before-02", with(&empty, 0, b"p")[..39].into()),
         refused(2, 0, "lower-case", with(&a, 0, b"p")),
         refused(2, 0, "byte-7-not-0", with(&a, 7, &[1])),
-        refused(3, 0, "1048577-slots", with64(&empty, 8, 1_048_577)),
+        refused(2, 0, "before-03", with(&slots, 4, &[1])),
         refused(3, 0, "n-past-32-bits", with64(&a, 8, (1 << 32) + 4)),
+        refused(3, 0, "before-04", with64(&slots, 16, 1_048_578)),
+        refused(3, 0, "1048577-slots", slots),
         refused(
             4,
             0,
@@ -202,6 +211,12 @@ fn bad_counts() -> Vec<Vector> {
         refused(5, 0, "header-alone", a[..40].into()),
         refused(5, 0, "one-byte-short", a[..67].into()),
         refused(5, 0, "one-byte-long", [&a[..], &[0]].concat()),
+        refused(
+            5,
+            0,
+            "before-06",
+            [&with(&a, 52, &[254])[..], &[0]].concat(),
+        ),
     ]
 }
 
@@ -240,20 +255,40 @@ fn bad_parts() -> Vec<Vector> {
             "distance-254",
             with(&many, 26_724, &254u32.to_le_bytes()),
         ),
+        refused(7, 0, "no-entry", with(&a, 40, &[255])),
         refused(7, 1, "no-entry", with(&a, 41, &[255])),
         refused(7, 3, "entry-missing", with64(&a, 16, 1)[..56].into()),
         refused(7, 69, "last-slot", with(&sentinel_last, 109, &[255])),
     ]
 }
 
-/// Faults of an index of 1,025 entries, which is at byte 26,728.
+/// Faults of an index of 1,025 entries, which is at byte 26,728, and of one of 1,366 entries, which
+/// is at byte 53,404. Where the number of index entry 0 is wrong, another fault comes before.
 fn bad_index() -> Vec<Vector> {
     let file = file_of(&with_overflow(2_100, 2_049));
     let next = |at: usize| with64(&file, at, le64(&file[at..at + 8]) + 1);
+    let first_wrong = next(26_728 + 8);
+    let step_3 = file_of(&with_overflow(4_200, 4_097));
+    let last = 53_404 + 16 * 1_365;
     vec![
+        refused(
+            6,
+            2_048,
+            "before-08",
+            with(&first_wrong, 26_724, &254u32.to_le_bytes()),
+        ),
+        refused(7, 2_099, "before-08", with(&first_wrong, 2_139, &[255])),
+        refused(8, 0, "slot", next(26_728)),
         refused(8, 1, "slot", next(26_728 + 16)),
         refused(8, 512, "number", next(26_728 + 16 * 512 + 8)),
         refused(8, 1_024, "last", next(26_728 + 16 * 1_024 + 8)),
+        refused(8, 1, "slot-of-step-2", with64(&step_3, 53_404 + 16, 2)),
+        refused(
+            8,
+            1_365,
+            "other-entry",
+            with64(&with64(&step_3, last, 4_198), last + 8, 4_096),
+        ),
     ]
 }
 
@@ -288,7 +323,7 @@ fn refused(number: u64, place: u64, what: &str, file: Vec<u8>) -> Vector {
 }
 
 fn file_of(list: &[u32]) -> Vec<u8> {
-    encode(list).expect("few slots")
+    encode(list).expect("at most 1,048,576 slots")
 }
 
 /// The file with these bytes at an offset.

@@ -206,7 +206,7 @@ fn refused(refusal: Refusal, file: &[u8]) -> Verdict {
 }
 
 /// The name's verdict, numbers and place are those of the line: `good-WHAT.pciv`, where
-/// `K-overflow`, `step-S` and `no-index` have meaning, or `bad-NN-WHAT.pciv`,
+/// `N-slots`, `K-overflow`, `step-S` and `no-index` have meaning, or `bad-NN-WHAT.pciv`,
 /// `bad-NN-place-P-WHAT.pciv`.
 fn agrees(name: &str, line: &Line) -> Verdict {
     let stem = name.strip_suffix(".pciv").ok_or("not a .pciv file")?;
@@ -227,6 +227,9 @@ fn agrees(name: &str, line: &Line) -> Verdict {
     match line {
         Line::Good(Contents { summary, .. }) => {
             same("verdict in the name", "good", words[0])?;
+            if let Some(n) = before("slots").flatten() {
+                same("n in the name", n, summary.n)?;
+            }
             if let Some(k) = before("overflow").flatten() {
                 same("k in the name", k, summary.k)?;
             }
