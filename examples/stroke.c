@@ -1,69 +1,109 @@
 /* stroke MAP DISTANCE OUT: looks at a map, selects what is at most DISTANCE cm away, and paints a
-   stroke: every 40th of the selected slots gets the distance 400 in a copy of the map, OUT, which
-   is edited in place through a memory mapping. */
+   stroke: every 40th of the selected slots gets the distance 400 in a copy of the map, which is
+   edited in place through a memory mapping. The copy is OUT.tmp, and becomes OUT when all is done. */
+#define _POSIX_C_SOURCE 200809L
 #include "pciv.h"
+#include <errno.h>
 #include <fcntl.h>
 #include <stdio.h>
 #include <stdlib.h>
+#include <string.h>
 #include <sys/mman.h>
 #include <sys/stat.h>
 #include <unistd.h>
 
-static void done_or_exit(uint64_t number, const pciv_refusal *why)
+static const char *copy; /* the name of OUT.tmp, once that file is made */
+
+/* Ends the program, without OUT.tmp, unless something is done; `why` is null for a system call. */
+static void must(int done, const char *what, const char *why)
 {
-    if (number == PCIV_OK)
+    if (done)
         return;
-    printf("refused %lu map %lu place %lu\n", why->number, why->map, why->place);
+    fprintf(stderr, "stroke: %s: %s\n", what, why != NULL ? why : strerror(errno));
+    if (copy != NULL)
+        unlink(copy);
     exit(1);
 }
 
-/* A file as memory of at least `len` bytes. */
-static uint8_t *map_file(const char *name, int flags, size_t *len)
+static void must_not_refuse(uint64_t number, const pciv_refusal *why)
 {
-    struct stat status;
-    int fd = open(name, flags, 0644);
-    if (fd < 0 || (*len > 0 && ftruncate(fd, (off_t)*len) != 0) || fstat(fd, &status) != 0)
-        return perror(name), exit(1), NULL;
-    *len = (size_t)status.st_size;
-    int access = flags == O_RDONLY ? PROT_READ : PROT_READ | PROT_WRITE;
-    uint8_t *bytes = mmap(NULL, *len, access, MAP_SHARED, fd, 0);
-    return bytes != MAP_FAILED ? bytes : (perror(name), exit(1), NULL);
+    char numbers[80];
+    snprintf(numbers, sizeof numbers, "refused %lu map %lu place %lu", why->number, why->map,
+             why->place);
+    must(number == PCIV_OK, numbers, pciv_refusal_text(number));
+}
+
+static void *memory(size_t count, size_t size)
+{
+    void *zeros = calloc(count + 1, size);
+    must(zeros != NULL, "memory", NULL);
+    return zeros;
+}
+
+/* Digits alone, and no more than a distance can be. */
+static int is_distance(const char *text, unsigned long *distance)
+{
+    char *end;
+    *distance = strtoul(text, &end, 10);
+    return *text >= '0' && *text <= '9' && *end == '\0' && *distance <= UINT32_MAX;
 }
 
 int main(int count, char **arguments)
 {
-    if (count != 4)
-        return fputs("usage: stroke MAP DISTANCE OUT\n", stderr), 2;
-    size_t len = 0;
-    const uint8_t *file = map_file(arguments[1], O_RDONLY, &len);
+    unsigned long distance;
+    if (count != 4 || !is_distance(arguments[2], &distance)) {
+        fputs("usage: stroke MAP DISTANCE OUT, with a DISTANCE of 0 to 4294967295\n", stderr);
+        return 2;
+    }
+    const char *map = arguments[1], *out = arguments[3];
+    struct stat now, before;
+    int fd = open(map, O_RDONLY);
+    must(fd >= 0 && fstat(fd, &now) == 0, map, NULL);
+    if (stat(out, &before) == 0)
+        must(S_ISREG(before.st_mode) &&
+                 (before.st_dev != now.st_dev || before.st_ino != now.st_ino),
+             out, "is the map itself, or no regular file");
+    size_t len = 0, size = (size_t)now.st_size;
+    uint8_t *file = memory(size, 1);
+    for (ssize_t got = 1; got > 0; len += (size_t)got)
+        must((got = read(fd, file + len, size - len)) >= 0, map, NULL);
+    must(len == size && close(fd) == 0, map, "has changed");
+
     pciv_summary summary;
     pciv_refusal why;
-    done_or_exit(pciv_check(file, len, &summary, &why), &why);
+    must_not_refuse(pciv_check(file, len, &summary, &why), &why);
     printf("%lu slots, %lu in overflow, %lu bytes\n", summary.n, summary.k, summary.len);
 
-    uint32_t distance = (uint32_t)strtoul(arguments[2], NULL, 10);
     size_t n = summary.n, words = PCIV_MASK_LEN(n);
-    uint64_t *mask = calloc(words + 1, 8), selected, done;
-    done_or_exit(pciv_near_mask(file, len, distance, mask, words, &done, &why), &why);
-    done_or_exit(pciv_set_bits(n, mask, words, &selected, &why), &why);
-    printf("%lu slots within %u cm\n", selected, (unsigned)distance);
+    uint64_t *mask = memory(words, sizeof *mask), selected, done;
+    must_not_refuse(pciv_near_mask(file, len, (uint32_t)distance, mask, words, &done, &why), &why);
+    must_not_refuse(pciv_set_bits(n, mask, words, &selected, &why), &why);
+    printf("%lu slots within %lu cm\n", selected, distance);
 
-    size_t edits = 0, capacity = 32808 + 13 * n;
-    uint64_t *slots = calloc(selected / 40 + 1, sizeof *slots);
-    uint32_t *distances = calloc(selected / 40 + 1, sizeof *distances);
+    size_t edits = 0, capacity = PCIV_LONGEST_FILE(n);
+    uint64_t *slots = memory(selected / 40, sizeof *slots);
+    uint32_t *distances = memory(selected / 40, sizeof *distances);
     for (size_t slot = 0, seen = 0; slot < n; slot++)
         if (mask[slot / 64] >> slot % 64 & 1 && ++seen % 40 == 0) {
             slots[edits] = slot;
             distances[edits++] = 400;
         }
-    pciv_edit_answer *answers = calloc(edits + 1, sizeof *answers);
-    uint8_t *buffer = map_file(arguments[3], O_RDWR | O_CREAT | O_TRUNC, &capacity);
-    for (size_t i = 0; i < len; i++)
-        buffer[i] = file[i];
-    done_or_exit(pciv_edit_list(buffer, capacity, slots, edits, distances, edits,
-                                (uint64_t *)answers, PCIV_ANSWER_LEN * edits, &done, &why), &why);
-    if (edits > 0)
-        summary = answers[edits - 1].summary;
-    printf("%lu edits: %lu in overflow, %lu bytes\n", done, summary.k, summary.len);
-    return truncate(arguments[3], (off_t)summary.len) != 0;
+    pciv_edit_answer *answers = memory(edits, sizeof *answers);
+
+    char *name = memory(strlen(out) + 4, 1);
+    sprintf(name, "%s.tmp", out);
+    must((fd = open(name, O_RDWR | O_CREAT | O_EXCL, 0666)) >= 0, name, NULL);
+    copy = name;
+    must((errno = posix_fallocate(fd, 0, (off_t)capacity)) == 0, copy, NULL);
+    uint8_t *buffer = mmap(NULL, capacity, PROT_READ | PROT_WRITE, MAP_SHARED, fd, 0);
+    must(buffer != MAP_FAILED, copy, NULL);
+    memcpy(buffer, file, len);
+    must_not_refuse(pciv_edit_all(buffer, capacity, slots, distances, answers, edits, &why), &why);
+    for (size_t i = 0; i < edits; summary = answers[i++].summary)
+        must_not_refuse(answers[i].refusal.number, &answers[i].refusal);
+    must(munmap(buffer, capacity) == 0 && ftruncate(fd, (off_t)summary.len) == 0 &&
+             fsync(fd) == 0 && rename(copy, out) == 0,
+         out, NULL);
+    printf("%zu edits: %lu in overflow, %lu bytes\n", edits, summary.k, summary.len);
+    return 0;
 }

@@ -2,15 +2,19 @@
  * pciv.h - reading, writing, combining and editing PCIV depth maps
  *
  * A PCIV file stores a map: a list of 0 to 1,048,576 distances in whole centimetres, 32 bits each,
- * one for each slot. docs/FORMAT.md describes the layout, the rules and the terms used here.
+ * one for each slot. A file has no width or height; the caller keeps them. docs/FORMAT.md describes
+ * the layout, the rules and the terms used here.
  *
  * Conventions of every call; pciv_primary_span has no refusal and says so, and pciv_report tells a
  * file's refusal in its text:
  *
- *   - A slice is a pointer and its number of elements. Pointers must be non-null, aligned for their
- *     type and valid for that many elements, also when the number is 0.
+ *   - A slice is a pointer and its number of elements. The pointer must be aligned for its type and
+ *     valid for that many elements. Where the number is 0 nothing is read or written through it, and
+ *     it may be null, as data() of an empty std::vector may be. All other pointers must be non-null.
  *   - What a call writes must not overlap anything else that it is given: buffers, results, refusal.
  *     What it only reads may overlap: a file may be combined with itself.
+ *   - Nothing that a call is given may be changed by others while it runs: another thread, or a program
+ *     that writes a file which is mapped here. Files are checked once, and then believed.
  *   - The call answers a number of enum pciv_refusal_number, PCIV_OK when done.
  *   - *refusal is always written: all zero when done, else the same number, the map at fault and
  *     the place.
@@ -33,6 +37,14 @@
 
 #include <stddef.h>
 #include <stdint.h>
+
+/* The version of this header and of the library that it belongs to. The number is made of the three,
+   with 1,000 for each MINOR and 1,000,000 for each MAJOR, and is for comparisons by #if. */
+#define PCIV_VERSION_MAJOR 0
+#define PCIV_VERSION_MINOR 2
+#define PCIV_VERSION_PATCH 0
+#define PCIV_VERSION_NUMBER 2000
+#define PCIV_VERSION "0.2.0"
 
 #ifdef __cplusplus
 extern "C" {
@@ -67,7 +79,10 @@ enum pciv_refusal_number {
     PCIV_DISTANCE_OVERFLOW = 11,     /* a resulting distance is above 4,294,967,295; place: the
                                         least such slot */
     PCIV_BUFFER_TOO_SMALL = 12,      /* the result does not fit into the caller's buffer, or the
-                                        report program's input is longer than 65,536 bytes */
+                                        report program's input is longer than 65,536 bytes. For a
+                                        file PCIV_LONGEST_FILE(n) bytes are always enough, and
+                                        pciv_file_len(n, k) are what it takes; each call that
+                                        writes something else says what it needs */
     PCIV_BAD_MASK = 13               /* a mask has another number of words than n needs, or a bit
                                         set past n */
 };
@@ -78,6 +93,46 @@ typedef struct {
     uint64_t map;    /* the file at fault, counted from 1; 0 for a fault of the call */
     uint64_t place;
 } pciv_refusal;
+
+/* What a number of enum pciv_refusal_number means, in words; "unknown refusal" for any other. "That
+   place" is the refusal's. */
+static inline const char *pciv_refusal_text(uint64_t number)
+{
+    switch (number) {
+    case PCIV_OK:
+        return "not refused";
+    case PCIV_TRUNCATED_HEADER:
+        return "the file has fewer than 40 bytes";
+    case PCIV_BAD_MAGIC:
+        return "the first eight bytes are not \"PCIV\" and four zeros";
+    case PCIV_TOO_MANY_SLOTS:
+        return "more than 1,048,576 slots";
+    case PCIV_BAD_COUNTS:
+        return "the counts k, m and step do not fit n or each other";
+    case PCIV_BAD_LENGTH:
+        return "the file is not as long as its header says";
+    case PCIV_BAD_OVERFLOW_ENTRY:
+        return "the overflow entry at that place has a slot out of range or order, "
+               "a distance below 255, or no 255 in the primary array";
+    case PCIV_MISSING_OVERFLOW_ENTRY:
+        return "the slot at that place is marked 255 and has no overflow entry";
+    case PCIV_BAD_INDEX_ENTRY:
+        return "the index entry at that place is wrong";
+    case PCIV_SLOT_OUT_OF_RANGE:
+        return "the slot asked for, of a list the one at that place, is n or more, "
+               "or only one of two lists has that place";
+    case PCIV_SIZE_MISMATCH:
+        return "the two maps differ in their number of slots";
+    case PCIV_DISTANCE_OVERFLOW:
+        return "the distance at that place would be above 4,294,967,295";
+    case PCIV_BUFFER_TOO_SMALL:
+        return "the result does not fit into the buffer";
+    case PCIV_BAD_MASK:
+        return "the mask has a wrong number of words or a bit set past n";
+    default:
+        return "unknown refusal";
+    }
+}
 
 /* ---- Check ------------------------------------------------------------------------------------ */
 
@@ -109,13 +164,14 @@ typedef struct {
 uint64_t pciv_primary_span(const uint8_t *file, size_t file_len, uint64_t span[2]);
 
 /* The primary array as a part of the caller's file: one byte for each slot, the distance below 255
-   and 255 for a distance in overflow. Its length is 0 where pciv_check refuses the file. */
+   and 255 for a distance in overflow. Where pciv_check refuses the file the part has length 0 and
+   starts where the file does. */
 static inline pciv_part pciv_primary(const uint8_t *file, size_t file_len)
 {
     uint64_t span[2];
     pciv_part part;
     part.len = (size_t)pciv_primary_span(file, file_len, span);
-    part.bytes = file + span[0];
+    part.bytes = span[0] > 0 ? file + span[0] : file;
     return part;
 }
 
@@ -154,11 +210,22 @@ uint64_t pciv_readings(const uint8_t *file, size_t file_len, uint64_t *count,
 
 /* ---- Writing ----------------------------------------------------------------------------------
  *
- * A file goes to the front of out, and no more than its length is written. 40 + n + 12k + 16m bytes
- * hold the file of n slots with k overflow entries; m is at most 2,048, and not every rise of k
- * makes the file longer (docs/FORMAT.md, "Derived counts"). 32,808 + 13n bytes hold any file of n
- * slots.
+ * A file goes to the front of out, and no more than its length is written. How long it is depends on
+ * n and on k, the number of distances of 255 or more.
  */
+
+/* How many bytes hold any file of n slots: 32,808 + 13n. */
+#define PCIV_LONGEST_FILE(n) (32808 + 13 * (size_t)(n))
+
+/* The length of the file of n slots with k overflow entries, 40 + n + 12k + 16m, for n up to
+   1,048,576 and k up to n. Not every rise of k makes a file longer: going from 4,097 overflow entries
+   to 4,096 takes 10,900 bytes more (docs/FORMAT.md, "Derived counts"). */
+static inline size_t pciv_file_len(size_t n, size_t k)
+{
+    size_t step = k > 2048 ? k / 2048 + (k % 2048 != 0) : 0;
+    size_t m = step > 0 ? k / step + (k % step != 0) : 0;
+    return 40 + n + 12 * k + 16 * m;
+}
 
 /* The file of a list of distances.
    Refusals: 3 with map 1 where distances_len is above 1,048,576, then 12 where the file is longer
@@ -169,7 +236,8 @@ uint64_t pciv_write(const uint32_t *distances, size_t distances_len, uint8_t *ou
                     pciv_summary *summary, pciv_refusal *refusal);
 
 /* The file of a primary array and its overflow entries. Entry j is slots[j] with distances[j];
-   where one list is shorter than the other, the first entry that it lacks is wrong.
+   where one list is shorter than the other, the first entry that it lacks is wrong (6), which is
+   chosen here: the format's source has no such case.
    Refusals: 3 with map 1 where primary_len is above 1,048,576; 6 with map 1 where an entry's slot
    is primary_len or more or not above the one before, its distance is below 255, or the primary
    byte of its slot is not 255, with the least such entry as place; 7 with map 1 where a primary
@@ -343,8 +411,8 @@ uint64_t pciv_jaccard(const uint8_t *a, size_t a_len, const uint8_t *b, size_t b
 
 /* ---- Editing ----------------------------------------------------------------------------------
  *
- * A buffer to be edited has a file at its front and any bytes behind it. 32,808 + 13n bytes have
- * space for any file of n slots.
+ * A buffer to be edited has a file at its front and any bytes behind it. One of
+ * PCIV_LONGEST_FILE(n) bytes has space for whatever edits make of a file of n slots.
  */
 
 /* Sets a slot of the file at the front of buffer to a distance, in place.
@@ -371,8 +439,8 @@ typedef struct {
    once. An edit that is refused (9 or 12, with place 0) changes nothing, and those after it are
    made.
    Refusals of the call: 1 to 8 as pciv_edit; 9 where the lists differ in length, with the first
-   position that only one of them has as place; then 12 where answers_len is below PCIV_ANSWER_LEN
-   times the number of edits.
+   position that only one of them has as place, which is chosen here: the format's source has no
+   such case; then 12 where answers_len is below PCIV_ANSWER_LEN times the number of edits.
    When done buffer is as calls of pciv_edit in this order leave it, the first PCIV_ANSWER_LEN times
    slots_len elements of answers are their answers, each laid out as a pciv_edit_answer, the
    elements behind them are unchanged, and *count is slots_len. After a refusal of the call buffer,
@@ -380,6 +448,19 @@ typedef struct {
 uint64_t pciv_edit_list(uint8_t *buffer, size_t buffer_len, const uint64_t *slots, size_t slots_len,
                         const uint32_t *distances, size_t distances_len, uint64_t *answers,
                         size_t answers_len, uint64_t *count, pciv_refusal *refusal);
+
+/* As pciv_edit_list, with the answers as structs: slots, distances and answers have `edits` elements
+   each, so that of the call's refusals 1 to 8 alone are left.
+   When done buffer is as calls of pciv_edit in this order leave it, and answers[j] is the answer to
+   edit j. After a refusal of the call buffer and answers are unchanged. */
+static inline uint64_t pciv_edit_all(uint8_t *buffer, size_t buffer_len, const uint64_t *slots,
+                                     const uint32_t *distances, pciv_edit_answer *answers,
+                                     size_t edits, pciv_refusal *refusal)
+{
+    uint64_t count;
+    return pciv_edit_list(buffer, buffer_len, slots, edits, distances, edits, (uint64_t *)answers,
+                          PCIV_ANSWER_LEN * edits, &count, refusal);
+}
 
 /* ---- Report ----------------------------------------------------------------------------------- */
 

@@ -8,25 +8,32 @@ cd "$(dirname "$0")/.." || exit 1
 archive=${PCIV_LIB_DIR:-target/staticlib}/libpciv_c.a
 dist=build/dist
 lib=$dist/lib
-shared=libpciv_c.so.0
+
 version=$(sed -n 's/^version = "\(.*\)"/\1/p' Cargo.toml)
+# a program loads the library that it was built for: one of the same first two numbers
+shared=libpciv_c.so.${version%.*}
 
 if [ ! -f "$archive" ]; then
-    echo "dist: $archive is missing: build the library first (rt staticlib pciv_c), or set PCIV_LIB_DIR"
+    echo "dist: $archive is missing: build the library first (rt staticlib pciv_c), or set PCIV_LIB_DIR" >&2
     exit 1
 fi
+
+# fail MESSAGE: nothing is left that looks as if it were whole.
+fail() {
+    rm -rf "$dist"
+    echo "dist: $1" >&2
+    exit 1
+}
+
 rm -rf "$dist"
-mkdir -p "$lib/pkgconfig" "$dist/include" || exit 1
-cp include/pciv.h "$dist/include/" && cp "$archive" "$lib/" || exit 1
-sed "s/@version@/$version/" packaging/pciv.pc.in >"$lib/pkgconfig/pciv.pc" || exit 1
+mkdir -p "$lib/pkgconfig" "$dist/include" || fail "$dist cannot be made"
+cp include/pciv.h "$dist/include/" && cp "$archive" "$lib/" || fail "$dist cannot be filled"
+sed "s/@version@/$version/" packaging/pciv.pc.in >"$lib/pkgconfig/pciv.pc" || fail "$dist cannot be filled"
 
 # Exports pciv_* alone, binds everything at start, and leaves no symbol open but those of the C library.
-if ! gcc -shared -o "$lib/$shared" -Wl,-soname,"$shared" -Wl,--version-script=packaging/pciv.map \
+gcc -shared -o "$lib/$shared" -Wl,-soname,"$shared" -Wl,--version-script=packaging/pciv.map \
     -Wl,--whole-archive "$archive" -Wl,--no-whole-archive \
-    -Wl,-z,defs -Wl,-z,relro -Wl,-z,now -Wl,-z,noexecstack; then
-    rm -f "$lib/$shared"
-    echo "dist: $dist has no shared library, since the linker does not make one of the archive"
-    exit 0
-fi
-ln -s "$shared" "$lib/libpciv_c.so"
+    -Wl,-z,defs -Wl,-z,relro -Wl,-z,now -Wl,-z,noexecstack ||
+    fail "gcc makes no shared library of $archive"
+ln -s "$shared" "$lib/libpciv_c.so" || fail "$dist cannot be filled"
 echo "dist: $dist has pciv.h, libpciv_c.a, $shared and pciv.pc, version $version"

@@ -20,8 +20,9 @@ part() {
 }
 
 part format build/fmt.log rt fmt --check
-part proofs build/rt-ci.log rt ci
-grep '^rt: ' build/rt-ci.log
+# rt's progress is shown as it comes; a failed run's whole log too
+echo '== proofs'
+sh packaging/progress.sh build/rt-ci.log rt ci 2>&1 || failed="$failed proofs"
 part archive build/rt-staticlib.log rt staticlib pciv_c
 part comparison build/run.log sh tests/run.sh
 cat build/run.log

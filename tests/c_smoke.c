@@ -101,6 +101,7 @@ static void test_check(const uint8_t *file)
 
 static void test_primary(const uint8_t *file)
 {
+    static const uint8_t empty[40] = "PCIV"; /* the file of no distances */
     uint64_t span[2];
     pciv_part part;
     EXPECT(pciv_primary_span(file, MAP_LEN, span) == N && span[0] == 40 && span[1] == N);
@@ -108,7 +109,9 @@ static void test_primary(const uint8_t *file)
     part = pciv_primary(file, MAP_LEN);
     EXPECT(part.bytes == file + 40 && part.len == N);
     part = pciv_primary(file, 39);
-    EXPECT(part.len == 0);
+    EXPECT(part.bytes == file && part.len == 0);
+    part = pciv_primary(empty, sizeof empty);
+    EXPECT(part.bytes == empty + 40 && part.len == 0);
 }
 
 static void test_lookup(const uint8_t *file)
@@ -521,6 +524,35 @@ static void test_edit(const uint8_t *file)
     EXPECT(memcmp(buffer + 56, zeros, 12) == 0 && is_dirty(buffer + MAP_LEN, 4));
 }
 
+/* The edit of slot 1 to 255 makes the file 80 bytes long: a buffer of 79 is refused and stays as it
+   is, one of 80 is enough. */
+static void test_edit_capacity(const uint8_t *file)
+{
+    static const uint8_t edited[80] = {
+        'P', 'C', 'I', 'V', 0, 0, 0, 0,              /* "PCIV", zeros */
+        4, 0, 0, 0, 0, 0, 0, 0,                      /* n */
+        3, 0, 0, 0, 0, 0, 0, 0,                      /* k */
+        0, 0, 0, 0, 0, 0, 0, 0,                      /* m */
+        0, 0, 0, 0, 0, 0, 0, 0,                      /* step */
+        0, 255, 255, 255,                            /* primary array */
+        1, 0, 0, 0, 0, 0, 0, 0, 0xFF, 0x00, 0, 0,    /* slot 1: 255 */
+        2, 0, 0, 0, 0, 0, 0, 0, 0xFF, 0x00, 0, 0,    /* slot 2: 255 */
+        3, 0, 0, 0, 0, 0, 0, 0, 0x2C, 0x01, 0, 0     /* slot 3: 300 */
+    };
+    uint8_t buffer[80];
+    pciv_summary summary;
+    pciv_refusal refusal;
+    memset(buffer, DIRTY, sizeof buffer);
+    memcpy(buffer, file, MAP_LEN);
+    memset(&summary, DIRTY, sizeof summary);
+    EXPECT(pciv_edit(buffer, 79, 1, 255, &summary, &refusal) == PCIV_BUFFER_TOO_SMALL);
+    EXPECT(is_refusal(&refusal, 12, 0, 0) && is_dirty(&summary, sizeof summary));
+    EXPECT(memcmp(buffer, file, MAP_LEN) == 0 && is_dirty(buffer + MAP_LEN, 80 - MAP_LEN));
+    EXPECT(pciv_edit(buffer, 80, 1, 255, &summary, &refusal) == PCIV_OK);
+    EXPECT(is_refusal(&refusal, 0, 0, 0) && is_summary(&summary, 4, 3, 80));
+    EXPECT(memcmp(buffer, edited, 80) == 0);
+}
+
 static void test_edit_list(const uint8_t *file)
 {
     static const uint64_t slots[] = {2, N, 0};
@@ -585,6 +617,232 @@ static void test_damage(const uint8_t *map, size_t at, uint8_t byte, uint64_t nu
     EXPECT(is_refusal(&refusal, number, 1, place));
 }
 
+/* The string and the number say what the three numbers say; #if can compare them. */
+static void test_version(void)
+{
+#if PCIV_VERSION_NUMBER < 2000
+#error "this header is older than 0.2.0"
+#endif
+    char text[32];
+    snprintf(text, sizeof text, "%d.%d.%d", PCIV_VERSION_MAJOR, PCIV_VERSION_MINOR,
+             PCIV_VERSION_PATCH);
+    EXPECT(strcmp(text, PCIV_VERSION) == 0);
+    EXPECT(PCIV_VERSION_NUMBER ==
+           PCIV_VERSION_MAJOR * 1000000 + PCIV_VERSION_MINOR * 1000 + PCIV_VERSION_PATCH);
+}
+
+/* pciv_write needs pciv_file_len bytes for n slots, the first k of them in overflow, and no fewer. */
+static void test_length(size_t n, size_t k, size_t len)
+{
+    uint32_t *distances = (uint32_t *)calloc(n + 1, sizeof *distances);
+    uint8_t *out = (uint8_t *)malloc(len);
+    pciv_summary summary;
+    pciv_refusal refusal;
+    EXPECT(distances != NULL && out != NULL);
+    EXPECT(pciv_file_len(n, k) == len && len <= PCIV_LONGEST_FILE(n));
+    for (size_t i = 0; i < k; i++)
+        distances[i] = 255;
+    EXPECT(pciv_write(distances, n, out, len - 1, &summary, &refusal) == PCIV_BUFFER_TOO_SMALL);
+    EXPECT(pciv_write(distances, n, out, len, &summary, &refusal) == PCIV_OK);
+    EXPECT(summary.k == k && summary.len == len);
+    free(distances);
+    free(out);
+}
+
+/* The table of docs/FORMAT.md, "Derived counts", and the lengths that README.md names. */
+static void test_lengths(void)
+{
+    test_length(5000, 2048, 29616);
+    test_length(5000, 2049, 46028);
+    test_length(5000, 4096, 86960);
+    test_length(5000, 4097, 76060);
+    test_length(1048576, 1048576, 13664296);
+    test_length(19200, 2145, 62148);
+    test_length(786432, 7864, 912296);
+    test_length(0, 0, 40);
+    EXPECT(PCIV_LONGEST_FILE(1048576) == 13664296 && PCIV_LONGEST_FILE(0) == 32808);
+}
+
+/* Each number has words of its own; a number without a meaning has the words for that. */
+static void test_refusal_text(void)
+{
+    EXPECT(strcmp(pciv_refusal_text(PCIV_OK), "not refused") == 0);
+    EXPECT(strcmp(pciv_refusal_text(PCIV_BUFFER_TOO_SMALL),
+                  "the result does not fit into the buffer") == 0);
+    EXPECT(strcmp(pciv_refusal_text(14), "unknown refusal") == 0);
+    EXPECT(strcmp(pciv_refusal_text(UINT64_MAX), "unknown refusal") == 0);
+    for (uint64_t a = 0; a < 14; a++)
+        for (uint64_t b = a + 1; b < 15; b++)
+            EXPECT(strcmp(pciv_refusal_text(a), pciv_refusal_text(b)) != 0);
+}
+
+static void test_edit_all(const uint8_t *file)
+{
+    static const uint64_t slots[] = {2, N, 0};
+    static const uint32_t distances[] = {254, 1, 7};
+    static const uint32_t expected[N] = {7, 254, 254, 300};
+    uint8_t buffer[MAP_LEN];
+    pciv_edit_answer answers[4];
+    pciv_refusal refusal;
+    memcpy(buffer, file, MAP_LEN);
+    memset(answers, DIRTY, sizeof answers);
+    EXPECT(pciv_edit_all(buffer, MAP_LEN - 1, slots, distances, answers, 3, &refusal) ==
+           PCIV_BAD_LENGTH);
+    EXPECT(is_refusal(&refusal, PCIV_BAD_LENGTH, 1, 0));
+    EXPECT(memcmp(buffer, file, MAP_LEN) == 0 && is_dirty(answers, sizeof answers));
+    EXPECT(pciv_edit_all(buffer, MAP_LEN, slots, distances, answers, 3, &refusal) == PCIV_OK);
+    EXPECT(is_refusal(&refusal, PCIV_OK, 0, 0));
+    EXPECT(is_refusal(&answers[0].refusal, PCIV_OK, 0, 0));
+    EXPECT(is_summary(&answers[0].summary, N, 1, 56));
+    EXPECT(is_refusal(&answers[1].refusal, PCIV_SLOT_OUT_OF_RANGE, 0, 0));
+    EXPECT(is_refusal(&answers[2].refusal, PCIV_OK, 0, 0));
+    EXPECT(is_file_of(buffer, 56, &answers[2].summary, expected));
+    EXPECT(is_dirty(&answers[3], sizeof answers[3]));
+    EXPECT(pciv_edit_all(buffer, MAP_LEN, NULL, NULL, NULL, 0, &refusal) == PCIV_OK);
+}
+
+/* An empty slice may be null, whichever of a call's slices it is: reading. */
+static void test_null_read(const uint8_t *file)
+{
+    static const uint64_t slots[] = {3, 1, 3};
+    static const uint8_t empty[40] = "PCIV";
+    uint8_t text[160];
+    uint64_t span[2], number = 7, count = 7;
+    uint32_t distance;
+    pciv_summary summary;
+    pciv_refusal why;
+    EXPECT(pciv_check(NULL, 0, &summary, &why) == PCIV_TRUNCATED_HEADER);
+    EXPECT(pciv_primary_span(NULL, 0, span) == 0 && span[0] == 0 && span[1] == 0);
+    EXPECT(pciv_primary(NULL, 0).len == 0);
+    EXPECT(pciv_lookup(NULL, 0, 0, &distance, &why) == PCIV_TRUNCATED_HEADER);
+    EXPECT(pciv_lookup_list(NULL, 0, slots, 3, &distance, 1, &count, &why) ==
+           PCIV_TRUNCATED_HEADER);
+    EXPECT(pciv_lookup_list(file, MAP_LEN, slots, 3, NULL, 0, &count, &why) ==
+           PCIV_BUFFER_TOO_SMALL);
+    EXPECT(pciv_lookup_list(file, MAP_LEN, NULL, 0, NULL, 0, &count, &why) == PCIV_OK);
+    EXPECT(count == 0);
+    EXPECT(pciv_scan(NULL, 0, &distance, 1, &count, &why) == PCIV_TRUNCATED_HEADER);
+    EXPECT(pciv_scan(file, MAP_LEN, NULL, 0, &count, &why) == PCIV_BUFFER_TOO_SMALL);
+    EXPECT(pciv_scan(empty, 40, NULL, 0, &count, &why) == PCIV_OK && count == 0);
+    EXPECT(pciv_sum(NULL, 0, &number, &why) == PCIV_TRUNCATED_HEADER);
+    EXPECT(pciv_readings(NULL, 0, &number, &why) == PCIV_TRUNCATED_HEADER && number == 7);
+    EXPECT(pciv_report(file, MAP_LEN, NULL, 0, &count, &why) == PCIV_BUFFER_TOO_SMALL);
+    EXPECT(pciv_report(NULL, 0, text, sizeof text, &count, &why) == PCIV_OK && count == 24);
+}
+
+/* The same for routines of two files; out is null where the result is a file. */
+static void test_null_pair(combine *call, const uint8_t *file)
+{
+    uint8_t out[100];
+    pciv_summary summary;
+    pciv_refusal why;
+    EXPECT(call(NULL, 0, file, MAP_LEN, out, sizeof out, &summary, &why) == PCIV_TRUNCATED_HEADER);
+    EXPECT(why.map == 1);
+    EXPECT(call(file, MAP_LEN, NULL, 0, out, sizeof out, &summary, &why) == PCIV_TRUNCATED_HEADER);
+    EXPECT(why.map == 2);
+    EXPECT(call(file, MAP_LEN, file, MAP_LEN, NULL, 0, &summary, &why) == PCIV_BUFFER_TOO_SMALL);
+}
+
+/* The same for writing, combining and editing. */
+static void test_null_write(const uint8_t *file)
+{
+    static const uint8_t primary[N] = {0, 254, 255, 255};
+    static const uint64_t slots[] = {2, 3};
+    static const uint32_t distances[] = {255, 300};
+    static const pciv_entry entries[] = {{2, 255}, {3, 300}};
+    uint8_t out[100];
+    int64_t change;
+    double figure;
+    uint64_t answers[2 * PCIV_ANSWER_LEN], count;
+    pciv_summary summary;
+    pciv_refusal why;
+    EXPECT(pciv_write(NULL, 0, out, 40, &summary, &why) == PCIV_OK && summary.len == 40);
+    EXPECT(pciv_write(distances, 2, NULL, 0, &summary, &why) == PCIV_BUFFER_TOO_SMALL);
+    EXPECT(pciv_close(NULL, 0, NULL, 0, NULL, 0, out, 40, &summary, &why) == PCIV_OK);
+    EXPECT(pciv_close(primary, N, NULL, 0, distances, 2, out, 68, &summary, &why) ==
+           PCIV_BAD_OVERFLOW_ENTRY);
+    EXPECT(pciv_close(primary, N, slots, 2, NULL, 0, out, 68, &summary, &why) ==
+           PCIV_BAD_OVERFLOW_ENTRY);
+    EXPECT(pciv_close(primary, N, slots, 2, distances, 2, NULL, 0, &summary, &why) ==
+           PCIV_BUFFER_TOO_SMALL);
+    EXPECT(pciv_close_entries(NULL, 0, NULL, 0, out, 40, &summary, &why) == PCIV_OK);
+    EXPECT(pciv_close_entries(NULL, 0, entries, 2, out, 68, &summary, &why) ==
+           PCIV_BAD_OVERFLOW_ENTRY);
+    EXPECT(pciv_close_entries(primary, N, NULL, 0, out, 68, &summary, &why) ==
+           PCIV_MISSING_OVERFLOW_ENTRY);
+    EXPECT(pciv_close_entries(primary, N, entries, 2, NULL, 0, &summary, &why) ==
+           PCIV_BUFFER_TOO_SMALL);
+    test_null_pair(pciv_minimum, file);
+    test_null_pair(pciv_maximum, file);
+    test_null_pair(pciv_sum_maps, file);
+    test_null_pair(pciv_difference, file);
+    EXPECT(pciv_shift(NULL, 0, 1, out, sizeof out, &summary, &why) == PCIV_TRUNCATED_HEADER);
+    EXPECT(pciv_shift(file, MAP_LEN, 1, NULL, 0, &summary, &why) == PCIV_BUFFER_TOO_SMALL);
+    EXPECT(pciv_shift(file, MAP_LEN, -1, NULL, 0, &summary, &why) == PCIV_BUFFER_TOO_SMALL);
+    EXPECT(pciv_signed_difference(NULL, 0, file, MAP_LEN, &change, 1, &count, &why) ==
+           PCIV_TRUNCATED_HEADER);
+    EXPECT(pciv_signed_difference(file, MAP_LEN, NULL, 0, &change, 1, &count, &why) ==
+           PCIV_TRUNCATED_HEADER);
+    EXPECT(pciv_signed_difference(file, MAP_LEN, file, MAP_LEN, NULL, 0, &count, &why) ==
+           PCIV_BUFFER_TOO_SMALL);
+    EXPECT(pciv_bray_curtis(NULL, 0, file, MAP_LEN, &figure, &why) == PCIV_TRUNCATED_HEADER);
+    EXPECT(pciv_bray_curtis(file, MAP_LEN, NULL, 0, &figure, &why) == PCIV_TRUNCATED_HEADER);
+    EXPECT(pciv_jaccard(NULL, 0, file, MAP_LEN, 1, &figure, &why) == PCIV_TRUNCATED_HEADER);
+    EXPECT(pciv_jaccard(file, MAP_LEN, NULL, 0, 1, &figure, &why) == PCIV_TRUNCATED_HEADER);
+    memcpy(out, file, MAP_LEN);
+    EXPECT(pciv_edit(NULL, 0, 1, 1, &summary, &why) == PCIV_TRUNCATED_HEADER);
+    EXPECT(pciv_edit_list(NULL, 0, slots, 2, distances, 2, answers, 16, &count, &why) ==
+           PCIV_TRUNCATED_HEADER);
+    EXPECT(pciv_edit_list(out, MAP_LEN, NULL, 0, distances, 2, answers, 16, &count, &why) ==
+           PCIV_SLOT_OUT_OF_RANGE);
+    EXPECT(pciv_edit_list(out, MAP_LEN, slots, 2, NULL, 0, answers, 16, &count, &why) ==
+           PCIV_SLOT_OUT_OF_RANGE);
+    EXPECT(pciv_edit_list(out, MAP_LEN, slots, 2, distances, 2, NULL, 0, &count, &why) ==
+           PCIV_BUFFER_TOO_SMALL);
+    EXPECT(pciv_edit_list(out, MAP_LEN, NULL, 0, NULL, 0, NULL, 0, &count, &why) == PCIV_OK);
+    EXPECT(count == 0 && memcmp(out, file, MAP_LEN) == 0);
+}
+
+/* The same for masks: a mask of no slots has no words. */
+static void test_null_masks(const uint8_t *file)
+{
+    static threshold *const thresholds[] = {pciv_mask_below, pciv_mask_at_most, pciv_mask_above,
+                                            pciv_mask_at_least, pciv_near_mask};
+    static combine_masks *const pairs[] = {pciv_mask_and, pciv_mask_or, pciv_mask_xor};
+    static mask_file *const files[] = {pciv_keep_masked, pciv_increment_masked};
+    static const uint8_t empty[40] = "PCIV";
+    static const uint64_t mask[] = {6};
+    uint8_t out[100];
+    uint64_t word, count;
+    pciv_summary summary;
+    pciv_refusal why;
+    for (size_t i = 0; i < 5; i++) {
+        EXPECT(thresholds[i](NULL, 0, 9, &word, 1, &count, &why) == PCIV_TRUNCATED_HEADER);
+        EXPECT(thresholds[i](file, MAP_LEN, 9, NULL, 0, &count, &why) == PCIV_BUFFER_TOO_SMALL);
+        EXPECT(thresholds[i](empty, 40, 9, NULL, 0, &count, &why) == PCIV_OK && count == 0);
+    }
+    for (size_t i = 0; i < 3; i++) {
+        EXPECT(pairs[i](N, NULL, 0, mask, 1, &word, 1, &count, &why) == PCIV_BAD_MASK);
+        EXPECT(pairs[i](N, mask, 1, NULL, 0, &word, 1, &count, &why) == PCIV_BAD_MASK);
+        EXPECT(pairs[i](N, mask, 1, mask, 1, NULL, 0, &count, &why) == PCIV_BUFFER_TOO_SMALL);
+        EXPECT(pairs[i](0, NULL, 0, NULL, 0, NULL, 0, &count, &why) == PCIV_OK && count == 0);
+    }
+    EXPECT(pciv_mask_not(N, NULL, 0, &word, 1, &count, &why) == PCIV_BAD_MASK);
+    EXPECT(pciv_mask_not(N, mask, 1, NULL, 0, &count, &why) == PCIV_BUFFER_TOO_SMALL);
+    EXPECT(pciv_mask_not(0, NULL, 0, NULL, 0, &count, &why) == PCIV_OK && count == 0);
+    EXPECT(pciv_set_bits(N, NULL, 0, &count, &why) == PCIV_BAD_MASK);
+    EXPECT(pciv_set_bits(0, NULL, 0, &count, &why) == PCIV_OK && count == 0);
+    EXPECT(pciv_map_of_mask(N, NULL, 0, out, 44, &summary, &why) == PCIV_BAD_MASK);
+    EXPECT(pciv_map_of_mask(N, mask, 1, NULL, 0, &summary, &why) == PCIV_BUFFER_TOO_SMALL);
+    EXPECT(pciv_map_of_mask(0, NULL, 0, out, 40, &summary, &why) == PCIV_OK);
+    for (size_t i = 0; i < 2; i++) {
+        EXPECT(files[i](NULL, 0, mask, 1, out, 99, &summary, &why) == PCIV_TRUNCATED_HEADER);
+        EXPECT(files[i](file, MAP_LEN, NULL, 0, out, 99, &summary, &why) == PCIV_BAD_MASK);
+        EXPECT(files[i](file, MAP_LEN, mask, 1, NULL, 0, &summary, &why) == PCIV_BUFFER_TOO_SMALL);
+        EXPECT(files[i](empty, 40, NULL, 0, out, 40, &summary, &why) == PCIV_OK);
+    }
+}
+
 int main(void)
 {
     uint8_t file[MAP_LEN], other[OTHER_LEN];
@@ -606,8 +864,16 @@ int main(void)
     test_masks(file, other);
     test_figures(file, other);
     test_edit(file);
+    test_edit_capacity(file);
     test_edit_list(file);
     test_report(file);
+    test_version();
+    test_lengths();
+    test_refusal_text();
+    test_edit_all(file);
+    test_null_read(file);
+    test_null_write(file);
+    test_null_masks(file);
     test_damage(file, 0, 'p', PCIV_BAD_MAGIC, 0);
     test_damage(file, 15, 1, PCIV_TOO_MANY_SLOTS, 0);
     test_damage(file, 16, N + 1, PCIV_BAD_COUNTS, 0);

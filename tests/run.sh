@@ -1,6 +1,6 @@
 #!/bin/sh
-# Builds and runs the C and Rust side: header, C and C++ programs, what is shipped, Rust tests, interface, vectorised loops,
-# comparison, the fuzzer's corpus, report program.
+# Builds and runs the C and Rust side: header, C and C++ programs, what make shows and ships, Rust tests, interface,
+# vectorised loops, comparison, test vectors, the fuzzer's corpus, the names in docs/PROMISES.md, report program.
 # Wants libpciv_c.a in PCIV_LIB_DIR (default target/staticlib) and the report program at PCIV_REPORT
 # (default target/bin/report); relative paths start at the repository's root.
 set -u
@@ -11,6 +11,7 @@ report=${PCIV_REPORT:-target/bin/report}
 work=build/tests
 dist=build/dist
 programs=build/cargo/release
+version=$(sed -n 's/^version = "\(.*\)"/\1/p' Cargo.toml)
 failed=''
 
 # part NAME COMMAND..: runs a part, its output shown only where it fails.
@@ -24,6 +25,47 @@ part() {
         cat "$work/log"
         failed="$failed $name"
     fi
+}
+
+# expect STATUS TEXT COMMAND..: the command exits so and says the text.
+expect() {
+    wanted=$1
+    text=$2
+    shift 2
+    "$@" >"$work/said" 2>&1
+    status=$?
+    if [ "$status" -ne "$wanted" ] || ! grep -qF -e "$text" "$work/said"; then
+        echo "$*: exit status $status in place of $wanted, or not the text '$text':"
+        cat "$work/said"
+        return 1
+    fi
+}
+
+# as_it_comes: a line of progress is shown while the command still runs, which ends when the line was seen.
+as_it_comes() {
+    rm -f "$work/seen" "$work/shown"
+    sh packaging/progress.sh "$work/progress.log" \
+        sh -c "echo 'rt: first'; for i in 1 2 3 4 5 6 7 8 9 10; do [ -f $work/seen ] && exit 0; sleep 0.5; done; exit 1" \
+        2>"$work/shown" &
+    for i in 1 2 3 4 5 6 7 8; do
+        grep -qx 'rt: first' "$work/shown" && : >"$work/seen"
+        sleep 0.5
+    done
+    wait $!
+}
+
+# `make` lists its targets; rt's progress is shown as it comes, its log is kept, and its status is that of the call.
+make_help() {
+    for target in help report test dist fuzz bench benchmarks; do
+        expect 0 "make $target " make --no-print-directory || return 1
+    done
+    grep -c '^make ' "$work/said" | grep -qx 7 &&
+        expect 0 'rt: a proved (1 s)' sh packaging/progress.sh "$work/progress.log" \
+            sh -c 'echo "rt: a proved (1 s)"; echo other >&2' &&
+        ! grep -q other "$work/said" && grep -qx other "$work/progress.log" &&
+        expect 3 other sh packaging/progress.sh "$work/progress.log" sh -c 'echo other >&2; exit 3' &&
+        as_it_comes &&
+        echo 'lists its targets, and shows what rt says as it comes'
 }
 
 header_c() {
@@ -48,13 +90,22 @@ cpp_smoke() {
         "$work/cpp_smoke"
 }
 
+# What is shipped; without a shared library there is nothing, and an exit status that says so.
+dist() {
+    mkdir -p "$work/no-gcc" && printf '#!/bin/sh\nexit 1\n' >"$work/no-gcc/gcc" && chmod +x "$work/no-gcc/gcc" &&
+        expect 1 'gcc makes no shared library' env PATH="$PWD/$work/no-gcc:$PATH" sh packaging/dist.sh &&
+        [ ! -e "$dist" ] &&
+        expect 1 'no-archive/libpciv_c.a is missing' env PCIV_LIB_DIR="$work/no-archive" sh packaging/dist.sh &&
+        sh packaging/dist.sh
+}
+
 # with_shared PROGRAM COMMAND..: builds a program by the command with what is shipped alone, and runs it with the shared
-# library.
+# library, whose name has the version's first two numbers.
 with_shared() {
     program=$1
     shift
     "$@" -I"$dist/include" -L"$dist/lib" -lpciv_c -o "$program" &&
-        readelf -d "$program" | grep -q 'libpciv_c\.so\.0' &&
+        readelf -d "$program" | grep -F NEEDED | grep -qF "[libpciv_c.so.${version%.*}]" &&
         LD_LIBRARY_PATH="$dist/lib" "$program"
 }
 
@@ -82,15 +133,64 @@ block() {
         inside' README.md
 }
 
-# The examples: C and Rust print the same and write the same file.
+# limited COMMAND..: where a file may have a few blocks and no more.
+limited() {
+    (
+        trap '' XFSZ
+        ulimit -f 8
+        "$@"
+    )
+}
+
+# stroke_keeps PROGRAM: it does not write over its map, takes nothing for a distance that is none, and where it fails
+# leaves OUT as it was and nothing else.
+stroke_keeps() {
+    folder=$work/strokes
+    map=$folder/map
+    rm -rf "$folder" && mkdir "$folder" && cp examples/portrait-160x120.pciv "$map" &&
+        ln -s map "$folder/link" && ln "$map" "$folder/hard" && echo old >"$folder/old" &&
+        head -c 62147 "$map" >"$folder/short" || return 1
+    for same in map link hard; do
+        expect 1 'is the map itself' "$1" "$map" 100 "$folder/$same" || return 1
+    done
+    for number in abc -5 +5 4294967296 99999999999999999999 5x ' 5' ''; do
+        expect 2 'usage: stroke MAP DISTANCE OUT' "$1" "$map" "$number" "$folder/out" || return 1
+    done
+    expect 2 'usage: stroke MAP DISTANCE OUT' "$1" "$map" 100 &&
+        expect 1 'refused 5 map 1 place 0: the file is not as long as its header says' \
+            "$1" "$folder/short" 100 "$folder/out" &&
+        expect 1 'File too large' limited "$1" "$map" 100 "$folder/old" &&
+        cmp "$map" examples/portrait-160x120.pciv && grep -qx old "$folder/old" || return 1
+    left=$(cd "$folder" && echo *)
+    [ "$left" = 'hard link map old short' ] || { echo "$1: left $left"; return 1; }
+    expect 0 '52 edits' "$1" "$map" 100 "$folder/old" && cmp "$folder/old" "$work/c.pciv" && [ ! -e "$folder/old.tmp" ]
+}
+
+# strokes_agree MAP: C and Rust exit alike, say the same and write the same, a refusal included.
+strokes_agree() {
+    rm -f "$work/c.pciv" "$work/rust.pciv"
+    "$work/stroke" "$1" 100 "$work/c.pciv" >"$work/c.txt" 2>&1
+    status=$?
+    "$programs/examples/stroke" "$1" 100 "$work/rust.pciv" >"$work/rust.txt" 2>&1
+    [ $? -eq "$status" ] && cmp "$work/c.txt" "$work/rust.txt" || return 1
+    case $status in
+    0) cmp "$work/c.pciv" "$work/rust.pciv" ;;
+    1) grep -q '^stroke: refused ' "$work/c.txt" && [ ! -e "$work/c.pciv" ] && [ ! -e "$work/rust.pciv" ] ;;
+    *) return 1 ;;
+    esac
+}
+
+# The examples: C and Rust print the same and write the same file, also for damaged maps.
 examples() {
-    gcc -std=c11 -D_DEFAULT_SOURCE -pedantic -Wall -Wextra -Werror -O2 -Iinclude -o "$work/stroke" \
+    gcc -std=c11 -pedantic -Wall -Wextra -Werror -O2 -Iinclude -o "$work/stroke" \
         examples/stroke.c "$PCIV_LIB_DIR/libpciv_c.a" &&
         cargo build --release --offline -p pciv --examples &&
-        map=examples/portrait-160x120.pciv &&
-        "$work/stroke" $map 100 "$work/c.pciv" >"$work/c.txt" &&
-        "$programs/examples/stroke" $map 100 "$work/rust.pciv" >"$work/rust.txt" &&
-        cmp "$work/c.txt" "$work/rust.txt" && cmp "$work/c.pciv" "$work/rust.pciv" &&
+        "$programs/make_report_inputs" "$work/report" || return 1
+    for input in "$work"/report/*.pciv; do
+        strokes_agree "$input" || { echo "$input: C and Rust differ"; return 1; }
+    done
+    strokes_agree examples/portrait-160x120.pciv && grep -qx '52 edits: .*' "$work/c.txt" &&
+        stroke_keeps "$work/stroke" && stroke_keeps "$programs/examples/stroke" &&
         while IFS= read -r line; do
             grep -qxF -e "$line" README.md || { echo "README.md does not have: $line"; return 1; }
         done <"$work/c.txt" &&
@@ -103,19 +203,50 @@ rust_doc() {
     RUSTDOCFLAGS='-D warnings' cargo doc --offline --no-deps -p pciv && echo 'no warnings'
 }
 
+# A map of 1,024 by 768 slots, all of distance 0 but for slot 3.
+large_map() {
+    printf 'PCIV\0\0\0\0\0\0\014\0\0\0\0\0' && head -c 27 /dev/zero && printf '\007' && head -c 786428 /dev/zero
+}
+
+# A crate outside of the repository, which names rust/pciv as README.md says and has its program.
+outside() {
+    folder=$(mktemp -d) &&
+        ln -s "$PWD" "$folder/pciv" && mkdir -p "$folder/use/src" && block rust 1 >"$folder/use/src/main.rs" &&
+        { printf '[package]\nname = "use"\nedition = "2021"\n\n' && block toml 1; } >"$folder/use/Cargo.toml" &&
+        cargo build --offline --manifest-path "$folder/use/Cargo.toml" --target-dir "$folder/target" &&
+        "$folder/target/debug/use" | grep -xF '4 distances: [0, 254, 255, 300] cm'
+    status=$?
+    rm -rf "$folder"
+    return $status
+}
+
 readme() {
-    block c 1 >"$work/readme.c" &&
-        gcc -std=c11 -Wall -Wextra -Werror -I"$dist/include" -o "$work/readme_c" "$work/readme.c" \
-            "$dist/lib/libpciv_c.a" &&
+    block c 1 >build/use.c &&
+        gcc -std=c11 -Wall -Wextra -Werror -I"$dist/include" -o "$work/readme_c" build/use.c "$dist/lib/libpciv_c.a" &&
         "$work/readme_c" <examples/map-a.pciv | grep -x 'slot 3: 300 cm' &&
+        large_map | "$work/readme_c" | grep -x 'slot 3: 7 cm' &&
+        head -c 40 examples/map-a.pciv >"$work/short.pciv" &&
+        ! "$work/readme_c" <"$work/short.pciv" 2>"$work/readme.txt" &&
+        grep -x 'refused 5 place 0: the file is not as long as its header says' "$work/readme.txt" &&
+        block sh 1 >"$work/readme.sh" && env -u LD_LIBRARY_PATH sh -e "$work/readme.sh" >"$work/readme.txt" &&
+        grep -cx 'slot 3: 300 cm' "$work/readme.txt" | grep -x 3 &&
+        outside &&
         block rust 1 >"$work/readme.rs" &&
         rustc --edition 2021 --extern "pciv=$programs/libpciv.rlib" -o "$work/readme_rust" "$work/readme.rs" &&
-        "$work/readme_rust" | grep -x '4 distances, 300 cm at slot 3' &&
+        "$work/readme_rust" | grep -xF '4 distances: [0, 254, 255, 300] cm' &&
         echo 'the programs for C and Rust print what they should'
 }
 
 interface() {
     "$programs/interface" "$dist/lib/libpciv_c.a" "$dist/lib/libpciv_c.so"
+}
+
+# The test vectors: made anew they are the same, and the library gives their answers.
+vectors() {
+    rm -rf "$work/vectors" &&
+        "$programs/make_vectors" "$work/vectors" &&
+        diff -r -x README.md tests/vectors "$work/vectors" &&
+        "$programs/vectors" tests/vectors
 }
 
 report_program() {
@@ -127,7 +258,8 @@ part header-c header_c
 part header-c++ header_cpp
 part c_smoke c_smoke
 part cpp_smoke cpp_smoke
-part dist sh packaging/dist.sh
+part make make_help
+part dist dist
 part c-shared c_shared
 part c++-shared cpp_shared
 part cargo-build build
@@ -138,7 +270,9 @@ part readme readme
 part interface interface
 part kernels "$programs/kernels" "$PCIV_LIB_DIR/libpciv_c.a"
 part compare "$programs/compare"
+part vectors vectors
 part corpus "$programs/corpus" replay tests/fuzz/corpus.txt
+part promises sh tests/promises.sh
 part report report_program
 
 if [ -n "$failed" ]; then

@@ -2,7 +2,9 @@
 
 Takes a request a line, with tabs between its words, and answers each with a line:
     version LIBRARY            its version, or `none`
-    scene FOLDER HEIGHT WIDTH  takes the arrays of a scene from the files there
+    scene FOLDER HEIGHT WIDTH  takes the arrays of a further scene from the files there
+    use NUMBER                 makes calls on the arrays of that scene from here on, counted from 0
+    has LIBRARY CALL           `yes`, or `none` where the library lacks the call
     digest LIBRARY CALL        a number that the call's result determines, or `none` where the library lacks it
     time LIBRARY CALL REPEATS  nanoseconds of that many calls, after one that is not timed
     end
@@ -24,6 +26,8 @@ except ImportError:
 
 # Edits of a list of edits.
 EDITS = 1000
+# Kinds of masks.
+KINDS = ("half set", "1 % scattered", "1 % in a disc")
 
 
 class Scene:
@@ -42,6 +46,7 @@ class Scene:
         self.asked = load("asked").astype(np.intp)
         self.inline, self.overflow = (int(slot) for slot in load("places"))
         self.mask, self.other_mask = load("mask"), load("other_mask")
+        self.masks = {kind: load(kind) for kind in KINDS}
         self.out, self.out2 = np.zeros(n, np.uint32), np.zeros(n, np.uint32)
         self.signed = np.zeros(n, np.int64)
         self.words = np.zeros(n // 64, np.uint64)
@@ -84,8 +89,8 @@ def with_numpy(s):
             return int(np.bitwise_count(s.mask).sum())
         return int(np.take(bit_counts, s.mask.view(np.uint16), out=s.counts).sum())
 
-    def map_of_mask():
-        np.copyto(out, spread(s.mask))
+    def map_of_mask(mask):
+        np.copyto(out, spread(mask))
         return out
 
     def bray_curtis():
@@ -127,11 +132,12 @@ def with_numpy(s):
         "mask_xor": lambda: np.bitwise_xor(s.mask, s.other_mask, out=s.words),
         "mask_not": lambda: np.bitwise_not(s.mask, out=s.words),
         "set_bits": set_bits,
-        "map_of_mask": map_of_mask,
-        "keep_masked": lambda: np.multiply(a, spread(s.mask), out=out),
-        "increment_masked": lambda: np.add(a, spread(s.mask), out=out),
         "bray_curtis": bray_curtis,
     }
+    for kind, words_of_kind in s.masks.items():
+        calls[f"map_of_mask, {kind}"] = lambda m=words_of_kind: map_of_mask(m)
+        calls[f"keep_masked, {kind}"] = lambda m=words_of_kind: np.multiply(a, spread(m), out=out)
+        calls[f"increment_masked, {kind}"] = lambda m=words_of_kind: np.add(a, spread(m), out=out)
     for t in (200, 300):
         limit = np.uint32(t)
         calls[f"mask_below {t}"] = lambda t=limit: masked(np.less, t)
@@ -172,7 +178,6 @@ def with_opencv(s):
     signed = np.zeros(s.shape, np.float64)
     flags, flags2, flags3 = (np.zeros(s.shape, np.uint8) for _ in range(3))
     mask, other, words = (x.view(np.uint8).reshape(1, -1) for x in (s.mask, s.other_mask, s.words))
-    chosen = (spread(s.mask) * 255).reshape(s.shape)
 
     def difference(y):
         cv2.max(a, y, out)
@@ -181,11 +186,11 @@ def with_opencv(s):
     def compared(t, comparison):
         return Flags(cv2.compare(a, t, comparison, flags))
 
-    def keep_masked():
+    def keep_masked(chosen):
         out.fill(0)
         return cv2.copyTo(a, chosen, out)
 
-    def increment_masked():
+    def increment_masked(chosen):
         np.copyto(out, a)
         return cv2.add(out, 1.0, out, chosen)
 
@@ -216,8 +221,6 @@ def with_opencv(s):
         "mask_xor": lambda: cv2.bitwise_xor(mask, other, words),
         "mask_not": lambda: cv2.bitwise_not(mask, words),
         "set_bits": lambda: int(cv2.norm(mask, cv2.NORM_HAMMING)),
-        "keep_masked": keep_masked,
-        "increment_masked": increment_masked,
         "bray_curtis": lambda: cv2.norm(a, b, cv2.NORM_L1) / (total(a) + total(b)),
     }
     for t in (200, 300):
@@ -228,6 +231,10 @@ def with_opencv(s):
         calls[f"mask_at_least {t}"] = lambda t=limit: compared(t, cv2.CMP_GE)
         calls[f"near_mask {t}"] = calls[f"mask_at_most {t}"]
         calls[f"jaccard at {t}"] = lambda t=limit: jaccard(t)
+    for kind, words_of_kind in s.masks.items():
+        chosen = (spread(words_of_kind) * 255).reshape(s.shape)
+        calls[f"keep_masked, {kind}"] = lambda c=chosen: keep_masked(c)
+        calls[f"increment_masked, {kind}"] = lambda c=chosen: increment_masked(c)
     return calls
 
 
@@ -265,8 +272,8 @@ def timed(call, repeats):
     return time.perf_counter_ns() - start
 
 
-def answer(calls, request):
-    """The answer to a request; a scene replaces the calls."""
+def answer(scenes, used, request):
+    """The answer to a request; `used` holds the number of the scene that calls are made on."""
     kind, *words = request
     if kind == "version":
         library = {"numpy": np, "opencv": np and cv2}[words[0]]
@@ -274,23 +281,28 @@ def answer(calls, request):
     if kind == "scene":
         folder, height, width = words
         scene = Scene(folder, int(height), int(width))
-        calls["numpy"] = with_numpy(scene)
-        calls["opencv"] = with_opencv(scene) if cv2 else {}
+        opencv = with_opencv(scene) if cv2 else {}
+        scenes.append({"numpy": with_numpy(scene), "opencv": opencv})
+        return len(scenes) - 1
+    if kind == "use":
+        used[0] = int(words[0])
         return "ok"
     library, name = words[:2]
-    call = calls[library].get(name)
+    call = scenes[used[0]][library].get(name)
+    if kind == "has":
+        return "yes" if call else "none"
     if kind == "digest":
         return digest(call()) if call else "none"
     return timed(call, int(words[2]))
 
 
 def main():
-    calls = {}
+    scenes, used = [], [0]
     for line in sys.stdin:
         request = line.rstrip("\n").split("\t")
         if request == ["end"]:
             return
-        print(answer(calls, request), flush=True)
+        print(answer(scenes, used, request), flush=True)
 
 
 main()

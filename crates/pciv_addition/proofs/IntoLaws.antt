@@ -26,13 +26,13 @@ use Rattle.pciv_build.proofs.PrimaryLaws.{primary-at}
 use Rattle.pciv_addition.specs.Addition.{Fits}
 
 module _ (n : ℕ) (v : ℕ → ℕ) where
-  pub map-large : (room place : ℕ) → place ≡ firstBelow (λ (i : ℕ). ltb maxDistance (v i)) n → place < n
-      → mapInto n v room ≡ refuse 11 0 place
-  map-large room place is h = refuseFirst-some 11 0 (λ (i : ℕ). ltb maxDistance (v i)) n place (fileInto n v room) is h
+  pub map-large : (capacity place : ℕ) → place ≡ firstBelow (λ (i : ℕ). ltb maxDistance (v i)) n → place < n
+      → mapInto n v capacity ≡ refuse 11 0 place
+  map-large capacity place is h = refuseFirst-some 11 0 (λ (i : ℕ). ltb maxDistance (v i)) n place (fileInto n v capacity) is h
 
-  pub map-fits : (room : ℕ) → Fits n v → mapInto n v room ≡ fileInto n v room
-  map-fits room fits =
-      refuseFirst-none 11 0 (λ (i : ℕ). ltb maxDistance (v i)) n (fileInto n v room)
+  pub map-fits : (capacity : ℕ) → Fits n v → mapInto n v capacity ≡ fileInto n v capacity
+  map-fits capacity fits =
+      refuseFirst-none 11 0 (λ (i : ℕ). ltb maxDistance (v i)) n (fileInto n v capacity)
       (λ i h. le-ltb maxDistance (v i) (fits i h))
 
   pub fits-none : (place : ℕ) → place ≡ firstBelow (λ (i : ℕ). ltb maxDistance (v i)) n → n ≤ place → Fits n v
@@ -40,13 +40,13 @@ module _ (n : ℕ) (v : ℕ → ℕ) where
       ltb-false maxDistance (v i) (firstBelow-all (λ (i : ℕ). ltb maxDistance (v i)) n i (omega arith) inside)
 
   pub holds-primary : (d d' : List ℕ) → 40 + n ≤ length d → d' ≡ sets d 40 (primary n v) → HoldsPrimary n v d'
-  holds-primary d d' room is i h = ap (λ (b : List ℕ). byteAt b (40 + i)) is ∙ primary-at n v d room i h
+  holds-primary d d' capacity is i h = ap (λ (b : List ℕ). byteAt b (40 + i)) is ∙ primary-at n v d capacity i h
 
 -- ---- the distances of the n slots alone count
 
 module _ (n : ℕ) (v w : ℕ → ℕ) (same : (i : ℕ) → i < n → v i ≡ w i) where
-  pub mapInto-cong : (room : ℕ) → mapInto n v room ≡ mapInto n w room
-  mapInto-cong room =
+  pub mapInto-cong : (capacity : ℕ) → mapInto n v capacity ≡ mapInto n w capacity
+  mapInto-cong capacity =
       rw (
         firstBelow-cong (λ (i : ℕ). ltb maxDistance (v i)) (λ (i : ℕ). ltb maxDistance (w i)) n
             (λ i h. ap (ltb maxDistance) (same i h)),

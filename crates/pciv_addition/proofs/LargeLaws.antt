@@ -112,7 +112,7 @@ pub most-all : (P : Parts) → SoundParts P → ((i : ℕ) → P .byte i < 256) 
     → NoneAbove (P .n) (valueOf P) x
 most-all P sound bytes j x m all i h =
     slot-cases P sound bytes i h (λ small e. omega (arith, m .inline))
-    (λ t ht at e w far. omega (arith, m .entries t (omega arith)))
+    (λ t ht at e w overflows. omega (arith, m .entries t (omega arith)))
 
 pub none-large : (of : Addend) (P Q : Parts) (x y : ℕ) → NoneAbove (P .n) (valueOf P) x → NoneAbove (P .n) (addendAt of Q) y
     → y ≤ maxDistance - x → x ≤ maxDistance → P .n ≡ firstBelow (tooLarge of P Q) (P .n)

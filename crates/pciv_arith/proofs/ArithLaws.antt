@@ -34,9 +34,9 @@ use Rattle.pciv_merge.specs.declared.combine.MergeOp.the-variants.{Minimum, Max
 -- ---- the maps are refused
 
 module _ (o : MergeOp) (a b : List ℕ) (r : Refusal) (e : pairCounts a b ≡ refused r) where
-  pub combined-refused : (room : ℕ) → combineMapsOutcome (slotOpOf o) a b room ≡ refused r
+  pub combined-refused : (capacity : ℕ) → combineMapsOutcome (slotOpOf o) a b capacity ≡ refused r
   unfolding combineMapsOutcome
-  combined-refused room = pairOutcome-refused a b _ r e
+  combined-refused capacity = pairOutcome-refused a b _ r e
 
   pub refused-buffer : (out : List ℕ) → combineMapsBuffer (slotOpOf o) a b out ≡ out
   unfolding combineMapsBuffer
@@ -45,8 +45,8 @@ module _ (o : MergeOp) (a b : List ℕ) (r : Refusal) (e : pairCounts a b ≡ re
 -- ---- a file of the same distances
 
 module _ (n : ℕ) (v w : ℕ → ℕ) (same : (i : ℕ) → i < n → v i ≡ w i) where
-  fileInto-cong : (room : ℕ) → fileInto n v room ≡ fileInto n w room
-  fileInto-cong room = rw (file-cong n v w same, summary-cong n v w same)
+  fileInto-cong : (capacity : ℕ) → fileInto n v capacity ≡ fileInto n w capacity
+  fileInto-cong capacity = rw (file-cong n v w same, summary-cong n v w same)
 
   fileBuffer-cong : (o : Outcome Summary) (out : List ℕ) → fileBuffer o n v out ≡ fileBuffer o n w out
   fileBuffer-cong o out = rw (file-cong n v w same)
@@ -81,15 +81,15 @@ module _ (o : MergeOp) (a b : List ℕ) (bytesA : Bytes a) (bytesB : Bytes b) (c
         slotOpOf-le o _ _ (checked-value-le a (c .n) (c .ka) bytesA (p .first) i h) (checked-value-le b (c .n) (c .kb) bytesB (p .second) i h),
       ))
 
-  into : (room : ℕ) → mapInto (c .n) v room ≡ combinedInto o a b (c .n) (c .ka) (c .kb) room
-  into room =
-      refuseFirst-none 11 0 (λ (i : ℕ). ltb maxDistance (v i)) (c .n) (fileInto (c .n) v room) combined-fits
-      ∙ fileInto-cong (c .n) v w same-value room
+  into : (capacity : ℕ) → mapInto (c .n) v capacity ≡ combinedInto o a b (c .n) (c .ka) (c .kb) capacity
+  into capacity =
+      refuseFirst-none 11 0 (λ (i : ℕ). ltb maxDistance (v i)) (c .n) (fileInto (c .n) v capacity) combined-fits
+      ∙ fileInto-cong (c .n) v w same-value capacity
 
   module _ (e : pairCounts a b ≡ done c) where
-    pub combined-outcome : (room : ℕ) → combineMapsOutcome (slotOpOf o) a b room ≡ combinedInto o a b (c .n) (c .ka) (c .kb) room
+    pub combined-outcome : (capacity : ℕ) → combineMapsOutcome (slotOpOf o) a b capacity ≡ combinedInto o a b (c .n) (c .ka) (c .kb) capacity
     unfolding combineMapsOutcome
-    combined-outcome room = pairOutcome-ready a b _ c e ∙ into room
+    combined-outcome capacity = pairOutcome-ready a b _ c e ∙ into capacity
 
     pub combined-buffer : (out : List ℕ) → combineMapsBuffer (slotOpOf o) a b out ≡ combinedBuffer o a b (c .n) (c .ka) (c .kb) out
     unfolding combineMapsBuffer

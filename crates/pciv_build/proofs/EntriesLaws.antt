@@ -40,7 +40,7 @@ module _ (n : ℕ) (v : ℕ → ℕ) where
   slotsFrom-next i h = let e : n - i ≡ suc (n - (i + 1)) = omega arith in rw (e, add-one i)
 
   pub slotsFrom-more : (i : ℕ) → i < n → 255 ≤ v i → slotsFrom n v i ≡ i ∷ slotsFrom n v (i + 1)
-  slotsFrom-more i h far = slotsFrom-next i h ∙ rw (le-leb 255 (v i) far)
+  slotsFrom-more i h overflows = slotsFrom-next i h ∙ rw (le-leb 255 (v i) overflows)
 
   pub slotsFrom-skip : (i : ℕ) → i < n → v i < 255 → slotsFrom n v i ≡ slotsFrom n v (i + 1)
   slotsFrom-skip i h inline = slotsFrom-next i h ∙ rw (lt-leb 255 (v i) inline)
@@ -72,7 +72,7 @@ entriesFrom-start n v = rw (slotsFrom-start n v)
 
 entriesFrom-more : (n : ℕ) (v : ℕ → ℕ) (i : ℕ) → i < n → 255 ≤ v i → entriesFrom n v i ≡ overflowEntry v i ++ entriesFrom n v (i + 1)
 unfolding entriesFrom joined
-entriesFrom-more n v i h far = rw (slotsFrom-more n v i h far)
+entriesFrom-more n v i h overflows = rw (slotsFrom-more n v i h overflows)
 
 entriesFrom-cong : (n : ℕ) (v : ℕ → ℕ) (i s : ℕ) → slotsFrom n v i ≡ slotsFrom n v s → entriesFrom n v i ≡ entriesFrom n v s
 unfolding entriesFrom
@@ -110,30 +110,30 @@ entries-start n v d p h =
       size = refl;
       low = omega arith;
       count = refl;
-      room = omega (arith, count-slotsFrom n v);
+      space = omega (arith, count-slotsFrom n v);
       rest = refl;
     }
 
 module _ {n : ℕ} {v : ℕ → ℕ} {d₀ : List ℕ} {p₀ i : ℕ} {d : List ℕ} {p : ℕ} (e : EntriesLeft n v d₀ p₀ i d p) where
-  -- there is room for the entry of slot i
-  pub entries-room : i < n → 255 ≤ v i → p + 12 ≤ length d
-  entries-room h far = omega (arith, e .room, ap length (slotsFrom-more n v i h far))
+  -- there is space for the entry of slot i
+  pub entries-space : i < n → 255 ≤ v i → p + 12 ≤ length d
+  entries-space h overflows = omega (arith, e .space, ap length (slotsFrom-more n v i h overflows))
 
   -- the entry of slot i is written
   pub entries-more : i < n → 255 ≤ v i → (x : ℕ) (d' : List ℕ) (p' : ℕ) → x ≡ v i → d' ≡ sets d p (le 8 i ++ le 4 x) → p' ≡ p + 12
       → EntriesLeft n v d₀ p₀ (i + 1) d' p'
-  entries-more h far x d' p' is put next =
+  entries-more h overflows x d' p' is put next =
       let same : d' ≡ sets d p (overflowEntry v i) = put ∙ rw (is, overflowEntry-is v i) in
       let long : length d' ≡ length d = ap length same ∙ length-sets d p (overflowEntry v i) in
-      let slots = slotsFrom-more n v i h far in
+      let slots = slotsFrom-more n v i h overflows in
       record {
         inside = omega arith;
         size = long ∙ e .size;
         low = omega (arith, e .low);
         count = omega (arith, e .count, ap length slots);
-        room = omega (arith, e .room, ap length slots);
+        space = omega (arith, e .space, ap length slots);
         rest = e .rest
-            ∙ rw (entriesFrom-more n v i h far, same, next)
+            ∙ rw (entriesFrom-more n v i h overflows, same, next)
             (sets-append (overflowEntry v i) (entriesFrom n v (i + 1)) d p ∙ rw (length-overflowEntry v i));
       }
 
@@ -146,7 +146,7 @@ module _ {n : ℕ} {v : ℕ → ℕ} {d₀ : List ℕ} {p₀ i : ℕ} {d : List 
         size = e .size;
         low = e .low;
         count = omega (arith, e .count, ap length slots);
-        room = omega (arith, e .room, ap length slots);
+        space = omega (arith, e .space, ap length slots);
         rest = e .rest ∙ ap (sets d p) (entriesFrom-cong n v i s slots);
       }
 
@@ -168,7 +168,7 @@ module _ {n : ℕ} {v : ℕ → ℕ} {d₀ : List ℕ} {p₀ i : ℕ} {d : List 
         size = long ∙ e .size;
         low = e .low;
         count = e .count;
-        room = omega (arith, e .room);
+        space = omega (arith, e .space);
         rest = e .rest ∙ sym (rw put (sets-over g (entriesFrom n v i) d p (omega (arith, length-entriesFrom n v i))));
       }
 
@@ -196,11 +196,11 @@ counted-start n v =
 
 module _ {n : ℕ} {v : ℕ → ℕ} {i c : ℕ} (e : Counted n v i c) where
   pub counted-more : i < n → 255 ≤ v i → Counted n v (i + 1) (c + 1)
-  counted-more h far =
+  counted-more h overflows =
       record {
         inside = omega arith;
         below = omega (arith, e .below);
-        rest = omega (arith, e .rest, ap length (slotsFrom-more n v i h far));
+        rest = omega (arith, e .rest, ap length (slotsFrom-more n v i h overflows));
       }
 
   pub counted-gap : (s : ℕ) → i ≤ s → s ≤ n → ((j : ℕ) → i ≤ j → j < s → v j < 255) → Counted n v s c

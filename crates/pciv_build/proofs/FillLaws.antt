@@ -108,7 +108,7 @@ get-behind w vs d p q h = rw (drop-sets vs d p q h)
 -- the slots of the entries that were written
 blanks-read : (xs d : List ℕ) (p : ℕ) → p + 12 * length xs ≤ length d → (j : ℕ) → j < length xs → getD xs j 0 < 256 ^ 8
     → get 8 (sets d p (blankEntries xs)) (p + 12 * j) ≡ getD xs j 0
-blanks-read xs d p room j h small =
+blanks-read xs d p space j h small =
     let long = length-blankEntries xs in
     let s : ℕ = getD xs j 0 in
     let q : List ℕ = drop (p + length (blankEntries xs)) d in
@@ -125,7 +125,7 @@ pub record Filling (n : ℕ) (v : ℕ → ℕ) (d₀ : List ℕ) (i : ℕ) (d : 
   pub left : EntriesLeft n v d₀ (40 + n) i d at
   pub stand : (j : ℕ) → j < length (slotsFrom n v i) → get 8 d (at + 12 * j) ≡ getD (slotsFrom n v i) j 0
 
-module _ (n : ℕ) (v : ℕ → ℕ) (d₀ d : List ℕ) (holds : HoldsPrimary n v d₀) (room : 40 + n + 12 * overflowCount n v ≤ length d₀)
+module _ (n : ℕ) (v : ℕ → ℕ) (d₀ d : List ℕ) (holds : HoldsPrimary n v d₀) (space : 40 + n + 12 * overflowCount n v ≤ length d₀)
     (put : d ≡ sets d₀ (40 + n) (blankEntries (fullSlots d₀ 0 n))) where
   put-is : d ≡ sets d₀ (40 + n) (blankEntries (slotsFrom n v 0))
   put-is = put ∙ rw (same-slots n v d₀ holds)
@@ -158,10 +158,10 @@ module _ (n : ℕ) (v : ℕ → ℕ) (d₀ d : List ℕ) (holds : HoldsPrimary n
 pub record Next (n : ℕ) (v : ℕ → ℕ) (i : ℕ) (d : List ℕ) (at s : ℕ) : Type 0 where
   pub low : i ≤ s
   pub inside : s < n
-  pub far : 255 ≤ v s
+  pub overflows : 255 ≤ v s
   pub clear : (j : ℕ) → i ≤ j → j < s → v j < 255
   pub slots : slotsFrom n v i ≡ s ∷ slotsFrom n v (s + 1)
-  pub room : at + 12 ≤ length d
+  pub space : at + 12 ≤ length d
 
 module _ {n : ℕ} {v : ℕ → ℕ} {d₀ : List ℕ} {i : ℕ} {d : List ℕ} {at : ℕ} (e : Filling n v d₀ i d at) where
   pub fill-next : at < 40 + n + 12 * overflowCount n v → Next n v i d at (get 8 d at)
@@ -181,17 +181,17 @@ module _ {n : ℕ} {v : ℕ → ℕ} {d₀ : List ℕ} {i : ℕ} {d : List ℕ} 
           (record {
             low = f .low;
             inside = omega (arith, f .high, e .left .inside);
-            far = leb-true 255 (v s) (f .has);
+            overflows = leb-true 255 (v s) (f .has);
             clear = λ j h₁ h₂. leb-false 255 (v j) (f .clear j h₁ h₂);
             slots = is ∙ f .rest ∙ ap (λ (l : List ℕ). s ∷ l) (ap (positions (λ (j : ℕ). inOverflow (v j)) (s + 1)) left ∙ sym (slotsFrom-is n v (s + 1)));
-            room = omega (arith, e .left .room, some);
+            space = omega (arith, e .left .space, some);
           })
 
   pub fill-more : (s x : ℕ) (d' : List ℕ) (at' : ℕ) → Next n v i d at s → x ≡ v s → d' ≡ sets d at (le 8 s ++ le 4 x)
       → at' ≡ at + 12 → Filling n v d₀ (s + 1) d' at'
   fill-more s x d' at' next is put after =
       record {
-        left = entries-more (entries-gap (e .left) s (next .low) (omega (arith, next .inside)) (next .clear)) (next .inside) (next .far)
+        left = entries-more (entries-gap (e .left) s (next .low) (omega (arith, next .inside)) (next .clear)) (next .inside) (next .overflows)
             x d' at' is put after;
         stand = λ j h.
             (let there : at' + 12 * j ≡ at + 12 * suc j = omega arith in

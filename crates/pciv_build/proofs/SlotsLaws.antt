@@ -1,7 +1,7 @@
 -- Entries for slots whose distances are not known yet, written in the order of the slots.
 --   BlanksLeft      the invariant: the entries of the slots xs are left
 --   -start, -more, -part, -end    before the first; one entry on, several; after the last
---   blanks-room     there is room for the next ones
+--   blanks-space     there is space for the next ones
 --   blanks-before   what stands before the entries stays as it was
 --   slots-same, word-same    the slots with primary byte 255, and their word, where the primary bytes stay
 --   slots-part      these slots: those of a block, and then the others
@@ -54,8 +54,8 @@ unfolding joined
 blanks-nil d p = refl
 
 module _ {d₀ : List ℕ} {p₀ : ℕ} {xs₀ d : List ℕ} {p : ℕ} {xs : List ℕ} (e : BlanksLeft d₀ p₀ xs₀ d p xs) where
-  pub blanks-room : (ys zs : List ℕ) → xs ≡ ys ++ zs → p₀ + 12 * length xs₀ ≤ length d₀ → p + 12 * length ys ≤ length d
-  blanks-room ys zs split room = omega (arith, e .count, e .size, ap length split ∙ length-append ys zs)
+  pub blanks-space : (ys zs : List ℕ) → xs ≡ ys ++ zs → p₀ + 12 * length xs₀ ≤ length d₀ → p + 12 * length ys ≤ length d
+  blanks-space ys zs split space = omega (arith, e .count, e .size, ap length split ∙ length-append ys zs)
 
   pub blanks-before : (j : ℕ) → j < p₀ → getD d j 0 ≡ getD d₀ j 0
   blanks-before j h = rest-before (blankEntries xs₀) (blankEntries xs) d₀ d p₀ p (e .low) (e .rest) j h

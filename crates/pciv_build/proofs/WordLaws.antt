@@ -40,7 +40,7 @@ not-below x h =
     ]
 
 -- the mask of the primary bytes of slots i up to `to`, in the front of ws
-module _ (d ws : List ℕ) (i to : ℕ) (bytes : Bytes d) (h : i ≤ to) (fits : 40 + to ≤ length d) (room : to ≤ i + 64 * length ws) where
+module _ (d ws : List ℕ) (i to : ℕ) (bytes : Bytes d) (h : i ≤ to) (fits : 40 + to ≤ length d) (space : to ≤ i + 64 * length ws) where
   abbrev part : List ℕ
   part = take (40 + to - (40 + i)) (drop (40 + i) d)
 

@@ -24,5 +24,5 @@ pub record EntriesLeft (n : ℕ) (v : ℕ → ℕ) (d₀ : List ℕ) (p₀ i : �
   pub size : length d ≡ length d₀
   pub low : p₀ ≤ p
   pub count : p + 12 * length (slotsFrom n v i) ≡ p₀ + 12 * length (slotsFrom n v 0)
-  pub room : p + 12 * length (slotsFrom n v i) ≤ length d
+  pub space : p + 12 * length (slotsFrom n v i) ≤ length d
   pub rest : sets d₀ p₀ (entriesFrom n v 0) ≡ sets d p (entriesFrom n v i)

@@ -3,6 +3,7 @@
 --   firstBelow-clear/-has   what holds of each number, from its value
 --   table-rest/-done        what is left of a table at index i of n
 --   table-shift, -append    the same elements from another place on; a table in two parts
+--   getD-inside             inside a list the default does not matter
 use mathlib.Core.Path.{_≡_, refl, sym, ap, ap₂, _∙_}
 use Prim.Native.Nat.{ℕ, zero, suc, _+_, _-_, _≤_, _<_}
 use native.Mathlib.Nat.{zero-add, add-zero}
@@ -16,6 +17,13 @@ use Rattle.pciv_bytes.specs.Ranges.{firstFrom, firstBelow, table}
 
 pub true-false : true ≡ false → ⊥
 true-false e = let z : _≡_ {A = ℕ} 0 1 = cc in omega arith
+
+-- ---- an element of a list
+
+pub getD-inside : {A : Type 0} (xs : List A) (j : ℕ) (a b : A) → j < length xs → getD xs j a ≡ getD xs j b
+getD-inside [] j a b h = absurd (omega arith)
+getD-inside (x ∷ xs) zero a b h = refl
+getD-inside (x ∷ xs) (suc j) a b h = getD-inside xs j a b (omega arith)
 
 -- ---- firstBelow
 

@@ -30,15 +30,15 @@ module _ {A : Type 0} where
 
   -- what stands before, in, and behind the place where a list was written
   sets-split : (d l : List A) (p : ℕ) → p + length l ≤ length d → sets d p l ≡ take p d ++ (l ++ drop (p + length l) d)
-  sets-split d l p room = sets-eq l d p room ∙ append-assoc (take p d) l (drop (p + length l) d)
+  sets-split d l p space = sets-eq l d p space ∙ append-assoc (take p d) l (drop (p + length l) d)
 
   -- what is read where a list was written
   pub sets-at : (d l : List A) (p i : ℕ) (z : A) → p + length l ≤ length d → i < length l
       → getD (sets d p l) (p + i) z ≡ getD l i z
-  sets-at d l p i z room h =
+  sets-at d l p i z space h =
       let rest : List A = drop (p + length l) d in
       let front : length (take p d) ≡ p = length-take-le p d (omega arith) in
-      ap (λ (m : List A). getD m (p + i) z) (sets-split d l p room)
+      ap (λ (m : List A). getD m (p + i) z) (sets-split d l p space)
       ∙ ap (λ (m : ℕ). getD (take p d ++ (l ++ rest)) (m + i) z) (sym front)
       ∙ getD-append-add (take p d) (l ++ rest) i z
       ∙ List·getD-append l rest z i h
@@ -52,24 +52,24 @@ module _ {A : Type 0} where
   -- an element written where a list was written
   pub set-sets : (d l : List A) (p i : ℕ) (x : A) → p + length l ≤ length d → i < length l
       → set (sets d p l) (p + i) x ≡ sets d p (set l i x)
-  set-sets d l p i x room h =
+  set-sets d l p i x space h =
       let rest : List A = drop (p + length l) d in
       let front : length (take p d) ≡ p = length-take-le p d (omega arith) in
       let same : length (set l i x) ≡ length l = length-set l i x in
-      ap (λ (m : List A). set m (p + i) x) (sets-split d l p room)
+      ap (λ (m : List A). set m (p + i) x) (sets-split d l p space)
       ∙ ap (λ (m : ℕ). set (take p d ++ (l ++ rest)) (m + i) x) (sym front)
       ∙ set-behind (take p d) (l ++ rest) i x
       ∙ ap (λ (m : List A). take p d ++ m) (set-append-left l rest i x h)
-      ∙ sym (sets-split d (set l i x) p (rw same room) ∙ rw same)
+      ∙ sym (sets-split d (set l i x) p (rw same space) ∙ rw same)
 
   -- the second of two lists of one length, written to the same place
   pub sets-again : (d l l' : List A) (p : ℕ) → length l ≡ length l' → p + length l ≤ length d
       → sets (sets d p l) p l' ≡ sets d p l'
-  sets-again d l l' p same room =
+  sets-again d l l' p same space =
       let at : ℕ = p + length l' in
       let front : length (take p d ++ l) ≡ at = simp (length-append, length-take-le p d (omega arith)) (omega arith) in
       let behind : drop at (sets d p l) ≡ drop at d =
-      ap (drop at) (sets-eq l d p room) ∙ drop-at (take p d ++ l) (drop (p + length l) d) at front
+      ap (drop at) (sets-eq l d p space) ∙ drop-at (take p d ++ l) (drop (p + length l) d) at front
       ∙ ap (λ (c : ℕ). drop (p + c) d) same in
       sets-eq l' (sets d p l) p (rw length-sets (omega arith))
       ∙ ap₂ (λ (x y : List A). x ++ l' ++ y) (take-sets p l d p (le-refl p)) behind
@@ -84,9 +84,9 @@ module _ {A : Type 0} where
 
   pub getD-sets : (vs d : List A) (z : A) (i j : ℕ) → j < length vs → i + length vs ≤ length d
       → getD (sets d i vs) (i + j) z ≡ getD vs j z
-  getD-sets vs d z i j h room =
+  getD-sets vs d z i j h space =
       let front : length (take i d) ≡ i = length-take-le i d (omega arith) in
-      ap (λ (l : List A). getD l (i + j) z) (sets-eq vs d i room)
+      ap (λ (l : List A). getD l (i + j) z) (sets-eq vs d i space)
       ∙ List·getD-append (take i d ++ vs) (drop (i + length vs) d) z (i + j) (simp length-append (omega arith))
       ∙ ap (λ (k : ℕ). getD (take i d ++ vs) (k + j) z) (sym front)
       ∙ getD-append-add (take i d) vs j z

@@ -1,6 +1,7 @@
 -- How an outcome is told to C: a number, and what the caller's cells hold afterwards (include/pciv.h).
 --   codeOf o              the call's own answer: 0 when done, else the refusal's number
---   refusalCells o        the cells of pciv_refusal: all 0 when done
+--   noCells, cellsOf r    the cells of pciv_refusal where there is no refusal, and for a refusal r
+--   refusalCells o        the same for an outcome o
 --   cellAfter o old       a number's cell: the result when done, else as it was
 --   summaryCells o old    the cells of pciv_summary: the counts when done, else as they were
 --   spanCells o           where the primary part starts, and its length; 0 and 0 for a refused file
@@ -13,6 +14,7 @@ use mathlib.Core.List.{List, [], _∷_}
 use lib.Ieee.{Float}
 use Rattle.pciv_format.specs.Refusals.{Outcome, done, refused}
 use Rattle.pciv_format.specs.declared.Summary.{Summary}
+use Rattle.pciv_format.specs.declared.Refusal.{Refusal}
 use Rattle.pciv_format.specs.declared.FileAnswer.{FileAnswer}
 use Rattle.pciv_format.specs.declared.FileAnswer.the-variants as InFile
 use Rattle.pciv_format.specs.declared.NumberAnswer.{NumberAnswer}
@@ -22,14 +24,20 @@ use Rattle.pciv_format.specs.declared.DistanceAnswer.the-variants as InDistance
 use Rattle.pciv_format.specs.declared.FigureAnswer.{FigureAnswer}
 use Rattle.pciv_format.specs.declared.FigureAnswer.the-variants as InFigure
 
+abbrev pub noCells : List ℕ
+noCells = 0 ∷ 0 ∷ 0 ∷ []
+
+abbrev pub cellsOf : Refusal → List ℕ
+cellsOf r = r .number ∷ r .map ∷ r .place ∷ []
+
 module _ {A : Type 0} where
   abbrev pub codeOf : Outcome A → ℕ
   codeOf (done a) = 0
   codeOf (refused r) = r .number
 
   abbrev pub refusalCells : Outcome A → List ℕ
-  refusalCells (done a) = 0 ∷ 0 ∷ 0 ∷ []
-  refusalCells (refused r) = r .number ∷ r .map ∷ r .place ∷ []
+  refusalCells (done a) = noCells
+  refusalCells (refused r) = cellsOf r
 
   abbrev pub cellAfter : Outcome A → A → A
   cellAfter (done x) old = x

@@ -1,4 +1,4 @@
-// The C interface (include/pciv.h): one thin function for each public routine.
+// The C interface (include/pciv.h): a thin function for each routine that C has, and one for each comparison of threshold.
 // A pciv_refusal is three numbers, a pciv_summary five. Each call but pciv_primary_span answers the refusal's
 // number, 0 when done, and always writes the refusal; a result is written only when the call is done
 // (specs/Cells.antt).
@@ -16,7 +16,7 @@ ghost use Rattle.pciv_format.specs.Figures.{brayCurtisOutcome, jaccardOutcome};
 ghost use Rattle.pciv_format.specs.Edit.{editOutcome, editBuffer, editListOutcome, editListBuffer, editListAnswers};
 ghost use Rattle.pciv_format.specs.Report.{reportOutcome, reportBuffer};
 ghost use Rattle.pciv_close.specs.Entries.{slotsOf, distancesOf};
-ghost use Rattle.pciv_c.specs.Cells.{ToldNumber, ToldFile, spanCells, spanLength, fileOutcome, numberOutcome, distanceOutcome, figureOutcome};
+ghost use Rattle.pciv_c.specs.Cells.{ToldNumber, ToldFile, noCells, cellsOf, spanCells, spanLength, fileOutcome, numberOutcome, distanceOutcome, figureOutcome};
 use pciv_arith::difference;
 use pciv_arith::maximum;
 use pciv_arith::minimum;
@@ -35,6 +35,7 @@ use pciv_format::FigureAnswer;
 use pciv_format::FileAnswer;
 use pciv_format::HEADER_LEN;
 use pciv_format::NumberAnswer;
+use pciv_format::Refusal;
 use pciv_mask::and;
 use pciv_mask::complement;
 use pciv_mask::or;
@@ -57,19 +58,33 @@ use pciv_write::write;
 
 // ---- answers, told to C
 
+// The call is done: no refusal is told, and 0 is its answer.
+fn tell_done(refusal: &mut [usize; 3]) -> usize
+    ensures code { λ r. ⌜ r ≡ 0 ⌝ }
+    ensures cells { λ _. ⌜ now (refusal .exit) ≡ noCells ⌝ }
+{
+    *refusal = [0, 0, 0];
+    0
+}
+
+// The call is refused: its answer is the refusal's number.
+fn tell_refused(why: Refusal, refusal: &mut [usize; 3]) -> usize
+    ensures code { λ r. ⌜ r ≡ why .number ⌝ }
+    ensures cells { λ _. ⌜ now (refusal .exit) ≡ cellsOf why ⌝ }
+{
+    *refusal = [why.number, why.map, why.place];
+    why.number
+}
+
 fn tell_file(a: FileAnswer, summary: &mut [usize; 5], refusal: &mut [usize; 3]) -> usize
     ensures told { λ r. ⌜ ToldFile (fileOutcome a) r (now (summary .entry)) (now (summary .exit)) (now (refusal .exit)) ⌝ }
 {
     match a {
         FileAnswer::Done(s) => {
             *summary = [s.n, s.k, s.m, s.step, s.len];
-            *refusal = [0, 0, 0];
-            0
+            tell_done(refusal)
         }
-        FileAnswer::Refused(r) => {
-            *refusal = [r.number, r.map, r.place];
-            r.number
-        }
+        FileAnswer::Refused(r) => tell_refused(r, refusal),
     }
 }
 
@@ -79,13 +94,9 @@ fn tell_number(a: NumberAnswer, cell: &mut usize, refusal: &mut [usize; 3]) -> u
     match a {
         NumberAnswer::Number(x) => {
             *cell = x;
-            *refusal = [0, 0, 0];
-            0
+            tell_done(refusal)
         }
-        NumberAnswer::Refused(r) => {
-            *refusal = [r.number, r.map, r.place];
-            r.number
-        }
+        NumberAnswer::Refused(r) => tell_refused(r, refusal),
     }
 }
 
@@ -95,13 +106,9 @@ fn tell_distance(a: DistanceAnswer, cell: &mut u32, refusal: &mut [usize; 3]) ->
     match a {
         DistanceAnswer::Distance(x) => {
             *cell = x;
-            *refusal = [0, 0, 0];
-            0
+            tell_done(refusal)
         }
-        DistanceAnswer::Refused(r) => {
-            *refusal = [r.number, r.map, r.place];
-            r.number
-        }
+        DistanceAnswer::Refused(r) => tell_refused(r, refusal),
     }
 }
 
@@ -111,13 +118,9 @@ fn tell_figure(a: FigureAnswer, cell: &mut f64, refusal: &mut [usize; 3]) -> usi
     match a {
         FigureAnswer::Quotient(x) => {
             *cell = x;
-            *refusal = [0, 0, 0];
-            0
+            tell_done(refusal)
         }
-        FigureAnswer::Refused(r) => {
-            *refusal = [r.number, r.map, r.place];
-            r.number
-        }
+        FigureAnswer::Refused(r) => tell_refused(r, refusal),
     }
 }
 
@@ -131,7 +134,7 @@ pub extern "C" fn pciv_check(
 ) -> usize
     ensures told { λ r. ⌜ ToldFile (checkFile 1 (now (file .entry))) r (now (summary .entry)) (now (summary .exit)) (now (refusal .exit)) ⌝ }
 {
-    tell_file(check(file, 1), summary, refusal)
+    tell_file(check(file), summary, refusal)
 }
 
 // The primary part as its start in the file and its length, since no reference is returned to C.
@@ -140,7 +143,7 @@ pub extern "C" fn pciv_primary_span(file: &[u8], span: &mut [usize; 2]) -> usize
     ensures len { λ r. ⌜ r ≡ spanLength (checkFile 1 (now (file .entry))) ⌝ }
     ensures cells { λ _. ⌜ now (span .exit) ≡ spanCells (checkFile 1 (now (file .entry))) ⌝ }
 {
-    let checked = check(file, 1);
+    let checked = check(file);
     match checked {
         FileAnswer::Done(s) => {
             let n = s.n;

@@ -31,12 +31,12 @@ module _ (a b : List ℕ) (bytes : Bytes a) where
   -- c of them, raised in a list t of their own
   part-lowered : (t : List ℕ) (i c : ℕ) → c ≤ length t
       → table (loweredAt (sets t 0 (table (raisedAt (byteAt a) (byteAt b) i) 0 c))) 0 c ≡ table (differenceAt (byteAt a) (byteAt b)) i c
-  part-lowered t i c room =
+  part-lowered t i c space =
       let g : ℕ → ℕ = raisedAt (byteAt a) (byteAt b) i in
       table-shift _ (differenceAt (byteAt a) (byteAt b)) 0 i c
       (λ j h.
       ap (λ (r : ℕ). pos r -ℤ pos 255)
-      (getD-sets (table g 0 c) t 0 0 j (rw length-table h) (rw (length-table, zero-add) room)
+      (getD-sets (table g 0 c) t 0 0 j (rw length-table h) (rw (length-table, zero-add) space)
       ∙ getD-table g 0 0 c j h
       ∙ ap g (zero-add j))
       ∙ lowered-raised (byteAt a (i + j)) (byteAt b (i + j)) (bytes (i + j)))
@@ -46,8 +46,8 @@ module _ (a b : List ℕ) (bytes : Bytes a) where
       → sets out i (table (differenceAt (byteAt a) (byteAt b)) i (n - i))
       ≡ sets (sets out i (table (loweredAt (sets t 0 (table (raisedAt (byteAt a) (byteAt b) i) 0 c))) 0 c)) (i + c)
       (table (differenceAt (byteAt a) (byteAt b)) (i + c) (n - (i + c)))
-  bytes-more n out t i c room inside =
-      rw (part-lowered t i c room)
+  bytes-more n out t i c space inside =
+      rw (part-lowered t i c space)
       (rw (zero-add i, zero-add (i + c)) at (sets-table-part (differenceAt (byteAt a) (byteAt b)) 0 n i c out inside))
 
 -- ---- remaining work
@@ -77,7 +77,7 @@ module _ (side : Side) (f : ℕ → ℕ → ℤ) (excess : (i e : ℕ) → moved
     moved-entry : (j : ℕ) (d : List ℤ) → j < P .k → movedAt side P j (over f P j d) ≡ over f P (suc j) d
     moved-entry j d here =
         let at : ℕ = P .slot j in
-        let e : 255 + (P .distance j - 255) ≡ P .distance j = omega (arith, entry-good P s j here .far) in
+        let e : 255 + (P .distance j - 255) ≡ P .distance j = omega (arith, entry-good P s j here .overflows) in
         rw (over-at f P s bytes j d (pos 0) here, excess at (P .distance j - 255), e)
         (rw add-one at (over-more f P s bytes j d here))
 
@@ -128,7 +128,7 @@ module _ (a b : List ℕ) (n ka kb : ℕ) where
   abbrev pub withBoth : List ℤ → List ℤ
   withBoth d = sets d 0 (table (differenceAt (valueOf (fileParts a n ka)) (valueOf (fileParts b n kb))) 0 n)
 
--- the maps, and a list d with room for the differences
+-- the maps, and a list d with space for the differences
 pub record Given (a b : List ℕ) (n ka kb : ℕ) (d : List ℤ) : Type 0 where
   pub first : CheckedMap a n ka
   pub second : CheckedMap b n kb

@@ -24,22 +24,22 @@ use Rattle.pciv_check.proofs.PairLaws.{pair-checked, pairOutcome-ready, pairOut
 use Rattle.pciv_change.specs.Change.{differenceAt}
 use Rattle.pciv_change.proofs.ChangeLaws.{withBoth}
 
-pub difference-refused : (a b : List ℕ) (r : Refusal) → pairCounts a b ≡ refused r → (room : ℕ)
-    → signedDifferenceOutcome a b room ≡ refused r
+pub difference-refused : (a b : List ℕ) (r : Refusal) → pairCounts a b ≡ refused r → (capacity : ℕ)
+    → signedDifferenceOutcome a b capacity ≡ refused r
 unfolding signedDifferenceOutcome
-difference-refused a b r e room = pairOutcome-refused a b (λ n. itemsInto n room) r e
+difference-refused a b r e capacity = pairOutcome-refused a b (λ n. itemsInto n capacity) r e
 
 module _ (a b : List ℕ) (c : PairCounts) (e : pairCounts a b ≡ done c) where
   checked : CheckedPair a b (c .n) (c .ka) (c .kb)
   checked = pair-checked a b c e
 
-  pub difference-short : (room : ℕ) → room < c .n → signedDifferenceOutcome a b room ≡ refuse 12 0 0
+  pub difference-short : (capacity : ℕ) → capacity < c .n → signedDifferenceOutcome a b capacity ≡ refuse 12 0 0
   unfolding signedDifferenceOutcome
-  difference-short room h = pairOutcome-ready a b (λ n. itemsInto n room) c e ∙ rw (lt-ltb room (c .n) h)
+  difference-short capacity h = pairOutcome-ready a b (λ n. itemsInto n capacity) c e ∙ rw (lt-ltb capacity (c .n) h)
 
-  pub difference-done : (room : ℕ) → c .n ≤ room → signedDifferenceOutcome a b room ≡ done (c .n)
+  pub difference-done : (capacity : ℕ) → c .n ≤ capacity → signedDifferenceOutcome a b capacity ≡ done (c .n)
   unfolding signedDifferenceOutcome
-  difference-done room h = pairOutcome-ready a b (λ n. itemsInto n room) c e ∙ rw (le-ltb room (c .n) h)
+  difference-done capacity h = pairOutcome-ready a b (λ n. itemsInto n capacity) c e ∙ rw (le-ltb capacity (c .n) h)
 
   differences-are : signedDifferences (listOf a) (listOf b)
       ≡ table (differenceAt (valueOf (fileParts a (c .n) (c .ka))) (valueOf (fileParts b (c .n) (c .kb)))) 0 (c .n)

@@ -25,9 +25,9 @@ module _ (P : Parts) (j : ℕ) where
   pub badEntry-byte : P .slot j < P .n → lowestSlot P j ≤ P .slot j → 255 ≤ P .distance j
       → badEntry P j ≡ not (eqb (P .byte (P .slot j)) 255)
   unfolding badEntry
-  badEntry-byte inside above far =
+  badEntry-byte inside above overflows =
       rw (
         lt-leb (P .n) (P .slot j) inside,
         le-ltb (P .slot j) (lowestSlot P j) above,
-        le-ltb (P .distance j) 255 far,
+        le-ltb (P .distance j) 255 overflows,
       )

@@ -1,6 +1,7 @@
 -- Laws of the check of two files.
 --   pairCounts-first, -second, -sizes, -both    its cases
 --   pair-checked                what it has shown of the two files
+--   file-pairCounts             on the files of two lists: refusal 10, or the counts of both
 --   pairOutcome-is              what follows the check of two files follows its counts; -ready and -refused
 --   pairAnswer-ready, -refused  what an answer says of its outcome
 use mathlib.Core.Path.{_≡_, refl, sym, ap, _∙_}
@@ -9,6 +10,7 @@ use native.Mathlib.Omega.{arith}
 use mathlib.Core.Bool.{Bool, true, false, not}
 use mathlib.Core.List.{List}
 use lib.Dec.{eqb}
+use Rattle.pciv_format.specs.Layout.{countsOf, summary, fileOf, summaryOf, Limits}
 use Rattle.pciv_format.specs.Refusals.{Outcome, done, refused, refuse, refuseIf, andThen}
 use Rattle.pciv_format.specs.Check.{checkFile, CheckedMap}
 use Rattle.pciv_format.specs.Arith.{pairOutcome}
@@ -17,6 +19,8 @@ use Rattle.pciv_format.specs.declared.Refusal.{Refusal}
 use Rattle.pciv_format.proofs.PartsLaws.{not-eqb, eqb-not, neb-not}
 use Rattle.pciv_format.proofs.RefusalsLaws.{refuseIf-done, andThen-done}
 use Rattle.pciv_format.proofs.CheckLaws.{done-counts}
+use Rattle.pciv_format.proofs.Acceptance.{file-accepted}
+use Rattle.pciv_format.proofs.ListLaws.{refuseSizes}
 use Rattle.pciv_check.specs.Pair.{bothCounts, pairCounts, pairAnswer, CheckedPair}
 use Rattle.pciv_check.specs.declared.pair.PairCounts.{PairCounts}
 use Rattle.pciv_check.specs.declared.pair.PairAnswer.the-variants.{Ready, Refused}
@@ -57,6 +61,13 @@ module _ (a b : List ℕ) where
       let second = andThen-done (checkFile 2 b) _ c (first .2) in
       let sizes = refuseIf-done (not (eqb (first .0 .n) (second .0 .n))) _ _ c (second .2) in
       both-checked (first .0) (second .0) c (first .1) (second .1) (not-eqb _ _ (sizes .0)) (sizes .1)
+
+-- ---- of lists
+
+pub file-pairCounts : (xs ys : List ℕ) → Limits xs → Limits ys
+    → pairCounts (fileOf xs) (fileOf ys) ≡ refuseSizes xs ys (done (bothCounts (summaryOf xs) (summaryOf ys)))
+unfolding pairCounts summary countsOf
+file-pairCounts xs ys l m = rw (file-accepted 1 xs l, file-accepted 2 ys m)
 
 -- ---- what follows
 

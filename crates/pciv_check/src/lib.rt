@@ -212,7 +212,8 @@ fn wrong_length(whole: bool, have: usize, len: usize) -> bool
     have < len
 }
 
-// Refusals 1 to 8, of a whole file or of the file at the front of a buffer.
+// Refusals 1 to 8 with the map's number, of a whole file or of the file at the front of a buffer. The number is 1, or 2
+// for the second map of a call.
 fn check_with(file: &[u8], map: usize, whole: bool) -> FileAnswer
     ensures { λ r. ⌜ r ≡ fileAnswer (checkWith (wrongLength whole) map (now (file .entry))) ⌝ }
 {
@@ -231,18 +232,17 @@ fn check_with(file: &[u8], map: usize, whole: bool) -> FileAnswer
     }
 }
 
-// The summary of a whole file, or why it is none. `map` is handed on as the map's number in a refusal: 1, or 2
-// for the second map of a call.
-pub fn check(file: &[u8], map: usize) -> FileAnswer
-    ensures answer { λ r. ⌜ r ≡ fileAnswer (checkFile map (now (file .entry))) ⌝ }
+// The summary of a whole file, or why it is none. Refusals: 1 to 8, with map 1.
+pub fn check(file: &[u8]) -> FileAnswer
+    ensures answer { λ r. ⌜ r ≡ fileAnswer (checkFile 1 (now (file .entry))) ⌝ }
 {
-    check_with(file, map, true)
+    check_with(file, 1, true)
 }
 
-// The same of the file at the front of a buffer that is to be edited: refusal 5 only where the buffer is shorter than
-// the file.
-pub fn check_buffer(buffer: &[u8], map: usize) -> FileAnswer
-    ensures answer { λ r. ⌜ r ≡ fileAnswer (checkBuffer map (now (buffer .entry))) ⌝ }
+// The same of the file at the front of a buffer that is to be edited. Refusals: 1 to 8, with map 1, and 5 only where the
+// buffer is shorter than the file.
+pub fn check_buffer(buffer: &[u8]) -> FileAnswer
+    ensures answer { λ r. ⌜ r ≡ fileAnswer (checkBuffer 1 (now (buffer .entry))) ⌝ }
 {
-    check_with(buffer, map, false)
+    check_with(buffer, 1, false)
 }

@@ -1,7 +1,7 @@
 // The check of two files that are to be combined (docs/FORMAT.md, "Arithmetic").
 ghost use mathlib.Core.Path.{_≡_};
 ghost use Rattle.pciv_check.specs.Pair.{pairCounts, pairAnswer};
-use crate::check;
+use crate::check_with;
 use pciv_format::FileAnswer;
 use pciv_format::Refusal;
 use pciv_format::SIZE_MISMATCH;
@@ -19,15 +19,16 @@ pub enum PairAnswer {
     Refused(Refusal),
 }
 
-// The counts of two files with equally many slots. Refusals: 1 to 8 of the first, 1 to 8 of the second, then 10.
+// The counts of two files with equally many slots. Refusals: 1 to 8 of the first with map 1, 1 to 8 of the second with
+// map 2, then 10.
 pub fn check_pair(a: &[u8], b: &[u8]) -> PairAnswer
     ensures answer { λ r. ⌜ r ≡ pairAnswer (pairCounts (now (a .entry)) (now (b .entry))) ⌝ }
 {
-    let first = check(a, 1);
+    let first = check_with(a, 1, true);
     match first {
         FileAnswer::Refused(r) => PairAnswer::Refused(r),
         FileAnswer::Done(s) => {
-            let second = check(b, 2);
+            let second = check_with(b, 2, true);
             match second {
                 FileAnswer::Refused(r) => PairAnswer::Refused(r),
                 FileAnswer::Done(t) => {

@@ -68,7 +68,7 @@ module _ (R : RattleType) (κ κ′ : Lft) (q : Share) (γ : GName) (b o : ℕ) 
     pub comes-back : (γ₁ : GName) (zs : List (R .Denot)) (n : ℕ) → length ys ≡ n → Room R n → length zs ≡ length ys
         → ent 𝓤 (sep 𝓤 (A .dead κ′) (sep 𝓤 (sem 𝓤 H A (LentAgain γ₁ ys)) (sem 𝓤 H A (finally R γ₁ zs))))
         (H .⇛ (sep 𝓤 (sem 𝓤 H A (MutSlice ℓ κ R .own (at-list γ zs) (vals n))) (A .lft κ q)))
-    comes-back γ₁ zs n size room e =
+    comes-back γ₁ zs n size space e =
         qed W (‵ (fdead κ′) ∷ ‵ (LentAgain γ₁ ys) ∷ ‵ (finally R γ₁ zs) ∷ []) ∵ updating ! $ move ! (1 ∷ []) $ fsplit ! $
         move ! (2 ∷ 0 ∷ 3 ∷ []) $
         use3 W (later (‵ (Arr (mem R) (length ys) .lies zs b o))) (slice-back 𝓤 H A W R κ′ γ₁ zs (length ys) b o) $ await ! tt $
@@ -76,4 +76,4 @@ module _ (R : RattleType) (κ κ′ : Lft) (q : Share) (γ : GName) (b o : ℕ) 
         move ! (1 ∷ []) $ fsplit ! $ move ! (1 ∷ []) $ fsplit ! $ move ! (3 ∷ 2 ∷ 0 ∷ 1 ∷ []) $
         closes-slice ! tt R ys zs e b o $ at-once ! $ fjoin ! $
         pureI ! (at-slice R (at-list γ zs) (vals n)) (tt, (tt, tt))
-        (ap (λ (m : ℕ). sliceVal (b, o) m ∷ []) (sym (e ∙ size)), subst (Room R) (sym (e ∙ size)) room) $ fjoin ! $ done !
+        (ap (λ (m : ℕ). sliceVal (b, o) m ∷ []) (sym (e ∙ size)), subst (Room R) (sym (e ∙ size)) space) $ fjoin ! $ done !

@@ -11,19 +11,13 @@ use lib.ListN.{length, getD, List·getD-eq-default}
 use lib.Dec.{ltb, leb, eqb}
 use borrow.Author.Tests.{lt-ltb, le-ltb, le-leb, lt-leb}
 use Rattle.pciv_bytes.specs.Ranges.{firstBelow}
-use Rattle.pciv_bytes.proofs.RangesLaws.{true-false, firstBelow-none, firstBelow-at, firstBelow-cong}
+use Rattle.pciv_bytes.proofs.RangesLaws.{true-false, getD-inside, firstBelow-none, firstBelow-at, firstBelow-cong}
 use Rattle.pciv_format.specs.Layout.{at}
 use Rattle.pciv_format.specs.Parts.{Parts, lowestSlot, badEntry, entryOf, badSlot}
 use Rattle.pciv_format.specs.Write.{closeParts}
 use Rattle.pciv_format.proofs.PartsLaws.{GoodEntry, goodEntry-of-test, badEntry-good, or-true}
 use Rattle.pciv_check.proofs.EntryLaws.{badEntry-outside, badEntry-inline}
 use Rattle.pciv_close.specs.Close.{wrongEntry, slotParts, EntriesRight}
-
--- inside a list the default does not matter
-pub getD-inside : {A : Type 0} (xs : List A) (j : ℕ) (a b : A) → j < length xs → getD xs j a ≡ getD xs j b
-getD-inside [] j a b h = absurd (omega arith)
-getD-inside (x ∷ xs) zero a b h = refl
-getD-inside (x ∷ xs) (suc j) a b h = getD-inside xs j a b (omega arith)
 
 -- ---- the test of an entry
 
@@ -44,8 +38,8 @@ module _ (bytes : List ℕ) (lowest slot distance : ℕ) where
   pub wrongEntry-byte : slot < length bytes → lowest ≤ slot → 255 ≤ distance
       → wrongEntry bytes lowest slot distance ≡ not (eqb (at bytes slot) 255)
   unfolding wrongEntry
-  wrongEntry-byte inside above far =
-      rw (lt-leb (length bytes) slot inside, le-ltb slot lowest above, le-ltb distance 255 far)
+  wrongEntry-byte inside above overflows =
+      rw (lt-leb (length bytes) slot inside, le-ltb slot lowest above, le-ltb distance 255 overflows)
 
 -- ---- two lists of entries
 
@@ -107,7 +101,7 @@ module _ (bytes slots distances : List ℕ) where
         (record {
           inside = rw s at (g .inside);
           above = rw (lowest-is j h, ← s) (g .above);
-          far = omega arith;
+          overflows = omega arith;
           marked = rw s at (g .marked);
         })
 

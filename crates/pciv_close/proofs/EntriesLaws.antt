@@ -4,7 +4,7 @@
 --   right-sound, right-search           every entry is right: what comes next
 --   searching-found, -more, -last, -none   the pass Search, by the first byte 255 that is found
 --   sound-refused, sound-begun          the parts are sound: what `begin` says
---   writing-room, -more, -end           the pass Write
+--   writing-space, -more, -end           the pass Write
 use mathlib.Core.Path.{_≡_, refl, sym, ap, _∙_}
 use Prim.Native.Nat.{ℕ, zero, _+_, _*_, max, _≤_, _<_}
 use native.Mathlib.Numerals.{add-one}
@@ -239,8 +239,8 @@ module _ (bytes : List ℕ) (call : Call) where
       pub writing-fits : fileLen (length bytes) k ≤ length out
       writing-fits = rw (← nx .count) (omega (arith, c .fits, writing-size))
 
-      pub writing-room : 40 + length bytes + 12 * job .next + 12 ≤ length out
-      writing-room = omega (arith, writing-fits, fileLen-is (length bytes) k, nx .more)
+      pub writing-space : 40 + length bytes + 12 * job .next + 12 ≤ length out
+      writing-space = omega (arith, writing-fits, fileLen-is (length bytes) k, nx .more)
 
       module _ (out' : List ℕ)
           (put : out' ≡ sets out (40 + length bytes + 12 * job .next) (le 8 (e .slot) ++ le 4 (e .distance))) where

@@ -167,7 +167,8 @@ fn put_file(out: &mut [u8], primary: &[u8], slots: &[usize], distances: &[u32]) 
 
 // Writes the file of a primary array and its overflow entries, entry j being slots[j] with distances[j], to the
 // front of the caller's buffer. Refusals: 3, 6 and 7 with map 1, then 12. Where the lists differ in length, the
-// first entry that one of them lacks is wrong (6). A refused call changes no byte, and bytes past the file stay.
+// first entry that one of them lacks is wrong (6); this is chosen here: the format's source has no such case.
+// A refused call changes no byte, and bytes past the file stay.
 pub fn close(primary: &[u8], slots: &[usize], distances: &[u32], out: &mut [u8]) -> FileAnswer
     ensures answer { λ r. ⌜ r ≡ fileAnswer (closeOutcome (now (primary .entry)) (now (slots .entry)) (now (distances .entry)) (length (now (out .entry)))) ⌝ }
     ensures buffer { λ _. ⌜ now (out .exit) ≡ closeBuffer (now (primary .entry)) (now (slots .entry)) (now (distances .entry)) (now (out .entry)) ⌝ }

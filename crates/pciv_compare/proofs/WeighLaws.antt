@@ -136,7 +136,7 @@ module _ (A B : Parts) (n : A .n ≡ B .n) (sa : SoundParts A) (sb : SoundParts 
   -- ---- of primary bytes: each is the distance, cut at 255
 
   byte-cut : (P : Parts) → SoundParts P → ((i : ℕ) → P .byte i < 256) → (i : ℕ) → i < P .n → P .byte i ≡ min (valueOf P i) 255
-  byte-cut P s bytes i h = slot-cases P s bytes i h (λ small e. omega arith) (λ j hj at e w far. omega arith)
+  byte-cut P s bytes i h = slot-cases P s bytes i h (λ small e. omega arith) (λ j hj at e w overflows. omega arith)
 
   cut-at : (i : ℕ) → i < A .n
       → (min (A .byte i) (B .byte i) ≡ min (min (valueOf A i) (valueOf B i)) 255)

@@ -111,7 +111,7 @@ module _ (b : List ℕ) (n k : ℕ) (bytes : Bytes b) (e : Edit) (p : EditAt b n
         arith,
         holds .each (e .slot) (p .inside),
         q .1,
-        entry-good P (p .checked .parts) (entriesBelow P (e .slot)) (q .0) .far,
+        entry-good P (p .checked .parts) (entriesBelow P (e .slot)) (q .0) .overflows,
       )
 
   -- where its entry stands

@@ -116,7 +116,7 @@ pub record Crossing (b : List ℕ) (n k : ℕ) (e : Edit) (count : ℕ) : Type 0
   pub few : count ≤ n
   -- the answer is that of beginning the new file
   pub answer : editOutcome b e ≡ beginOutcome n count (length b)
-  pub room : (j : ℕ) → j ≡ entriesBelow (fileParts b n k) (e .slot) → fileLen n count ≤ length b
+  pub space : (j : ℕ) → j ≡ entriesBelow (fileParts b n k) (e .slot) → fileLen n count ≤ length b
       → Changes (length b) n k j (e .slot) (e .distance)
   -- d₁: header, byte and entries are changed; d₂: so are the index and what is left behind it
   pub buffer : (j : ℕ) (d₁ d₂ : List ℕ) → j ≡ entriesBelow (fileParts b n k) (e .slot) → fileLen n count ≤ length b
@@ -201,7 +201,7 @@ module _ (b : List ℕ) (n k : ℕ) (bytes : Bytes b) (e : Edit) (p : EditAt b n
 
   -- ---- into overflow
 
-  module _ (was : at (held b) (e .slot) < 255) (far : 255 ≤ e .distance) where
+  module _ (was : at (held b) (e .slot) < 255) (overflows : 255 ≤ e .distance) where
     entered : (count j : ℕ) → 12 * j ≡ low → putIn (sets b 0 (header n count)) n k j (e .slot) (e .distance)
         ≡ sets (sets (sets b 0 (header n count)) 40 (primary n (newAt b e))) (40 + n) (overflowPart n (newAt b e))
     unfolding putIn overflowEntry entries low
@@ -209,16 +209,16 @@ module _ (b : List ℕ) (n k : ℕ) (bytes : Bytes b) (e : Edit) (p : EditAt b n
         let E : List ℕ = le 8 (e .slot) ++ le 4 (e .distance) in
         let d : List ℕ = set (sets b 0 (header n count)) (40 + e .slot) 255 in
         let part : overflowPart n (newAt b e) ≡ take low entries ++ (E ++ drop low entries) =
-        entries-in n (at (held b)) (newAt b e) (e .slot) (p .inside) (others b n k bytes e p) was (rw (new-at b n k bytes e p) far)
+        entries-in n (at (held b)) (newAt b e) (e .slot) (p .inside) (others b n k bytes e p) was (rw (new-at b n k bytes e p) overflows)
         ∙ ap (λ (x : ℕ). take low entries ++ ((le 8 (e .slot) ++ le 4 x) ++ drop low entries)) (new-at b n k bytes e p) in
         let moved : take (entryAt n k - (40 + n + low)) (drop (40 + n + low) d) ≡ drop low entries =
         ap (take (entryAt n k - (40 + n + low))) (put-behind count 255 d refl)
         ∙ take-at (drop low entries) rest (entryAt n k - (40 + n + low)) (length-behind ∙ omega arith) in
-        rw (is, moved) (put-entries count 255 d refl (E ++ drop low entries) (primaryByte-overflow (e .distance) far) part)
+        rw (is, moved) (put-entries count 255 d refl (E ++ drop low entries) (primaryByte-overflow (e .distance) overflows) part)
 
     entered-count : overflowCount n (newAt b e) ≡ k + 1
     entered-count =
-        count-in n (at (held b)) (newAt b e) (e .slot) (p .inside) (others b n k bytes e p) was (rw (new-at b n k bytes e p) far)
+        count-in n (at (held b)) (newAt b e) (e .slot) (p .inside) (others b n k bytes e p) was (rw (new-at b n k bytes e p) overflows)
         ∙ ap (λ (c : ℕ). c + 1) (holds b n k bytes e p .count)
 
   -- ---- out of overflow
@@ -267,8 +267,8 @@ module _ (b : List ℕ) (n k : ℕ) (bytes : Bytes b) (e : Edit) (p : EditAt b n
         → (at (held b) (e .slot) < 255 → 255 ≤ e .distance → B) → B
     by-case out into =
         elim (decLe 255 (e .distance)) [
-          | yes far ↦ (let ne = eqb-false _ _ (crosses ∙ le-ltb (e .distance) 255 far) in
-              into (old-inline b n k bytes e p (below-of _ (bytes (40 + e .slot)) ne)) far)
+          | yes overflows ↦ (let ne = eqb-false _ _ (crosses ∙ le-ltb (e .distance) 255 overflows) in
+              into (old-inline b n k bytes e p (below-of _ (bytes (40 + e .slot)) ne)) overflows)
           | no near ↦ (let h : e .distance < 255 = omega arith in
               out (old-overflow b n k bytes e p (eqb-true _ _ (crosses ∙ lt-ltb (e .distance) 255 h))) h)
         ]
@@ -287,10 +287,10 @@ module _ (b : List ℕ) (n k : ℕ) (bytes : Bytes b) (e : Edit) (p : EditAt b n
     cross-few : count ≤ n
     cross-few = omega (arith, cross-count, overflowCount-le n (newAt b e))
 
-    cross-room : (j : ℕ) → j ≡ entriesBelow (fileParts b n k) (e .slot) → fileLen n count ≤ length b
+    cross-space : (j : ℕ) → j ≡ entriesBelow (fileParts b n k) (e .slot) → fileLen n count ≤ length b
         → Changes (length b) n k j (e .slot) (e .distance)
     unfolding low
-    cross-room j found fits =
+    cross-space j found fits =
         let all = fileLen-is n k in
         let new = fileLen-is n count in
         let there = found ∙ below-count b n k bytes e p in
@@ -316,7 +316,7 @@ module _ (b : List ℕ) (n k : ℕ) (bytes : Bytes b) (e : Edit) (p : EditAt b n
         is-changed
         ∙ by-case
         (λ was near. rw (lt-ltb (e .distance) 255 near) (left was near count j there))
-        (λ was far. rw (le-ltb (e .distance) 255 far) (entered was far count j there)) in
+        (λ was overflows. rw (le-ltb (e .distance) 255 overflows) (entered was overflows count j there)) in
         let new : length (file n w) ≡ fileLen n count = length-file n w ∙ ap (fileLen n) (sym cross-count) in
         let old : length (fileOf (held b)) ≡ fileLen n k =
         ap (λ (m : ℕ). length (file m (at (held b)))) (h .slots) ∙ length-file n (at (held b)) ∙ ap (fileLen n) (h .count) in
@@ -330,7 +330,7 @@ module _ (b : List ℕ) (n k : ℕ) (bytes : Bytes b) (e : Edit) (p : EditAt b n
         record {
           few = cross-few;
           answer = answer;
-          room = cross-room;
+          space = cross-space;
           buffer = λ j d₁ d₂ found fits is-changed finished.
               (finished
               ∙ cross-file j d₁ found fits is-changed

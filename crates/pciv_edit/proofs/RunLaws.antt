@@ -168,7 +168,7 @@ module _ (o : Outcome Summary) where
 module _ (b : List ℕ) (n k : ℕ) (bytes : Bytes b) (c : CheckedMap b n k) (es : List Edit) (small : Distances es) where
   pub checked-run : (editOutcomes b es ≡ plainOutcomes (length b) (startOf b) es)
       × (editRun b es ≡ bufferOf (plainRun (length b) (startOf b) es) b)
-      × RunLimits b es
+      × RunLimits (length b) (startOf b) b es
   checked-run =
       let h = there b n k bytes c in
       rw (← h .apart) at (edit-run (held b) (drop (fileLen n k) b) es (h .limits) small)

@@ -18,7 +18,7 @@ pub fn edit(buffer: &mut [u8], slot: usize, distance: u32) -> EditAnswer
     ensures answer { λ r. ⌜ r ≡ editAnswer (editOutcome (now (buffer .entry)) (record { slot = slot; distance = distance })) ⌝ }
     ensures buffer { λ _. ⌜ now (buffer .exit) ≡ editBuffer (now (buffer .entry)) (record { slot = slot; distance = distance }) ⌝ }
 {
-    let checked = check_buffer(buffer, 1);
+    let checked = check_buffer(buffer);
     match checked {
         FileAnswer::Refused(r) => EditAnswer {
             outcome: FileAnswer::Refused(r),

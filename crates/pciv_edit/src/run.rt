@@ -119,7 +119,8 @@ fn edit_all(
 // Its answer is ANSWER_LEN numbers from `answers[ANSWER_LEN * j]` on: refusal number, map and place, then n, k, m, step
 // and length; 0 where it is the other. A refused edit changes no byte, and the run goes on. Answers how many edits.
 // Refusals of the run: 1 to 8, with map 1; then 9 where the lists differ in length, with the least position that has no
-// edit; then 12 where `answers` is too short. A refused run changes nothing.
+// edit; then 12 where `answers` is too short. A refused run changes nothing. The 9 for lists of unequal length is chosen
+// here: the format's source has no such case.
 pub fn edit_list(
     buffer: &mut [u8],
     slots: &[usize],
@@ -130,7 +131,7 @@ pub fn edit_list(
     ensures buffer { λ _. ⌜ now (buffer .exit) ≡ editListBuffer (now (buffer .entry)) (now (slots .entry)) (now (distances .entry)) (length (now (answers .entry))) ⌝ }
     ensures answers { λ _. ⌜ now (answers .exit) ≡ editListAnswers (now (buffer .entry)) (now (slots .entry)) (now (distances .entry)) (now (answers .entry)) ⌝ }
 {
-    let checked = check_buffer(buffer, 1);
+    let checked = check_buffer(buffer);
     match checked {
         FileAnswer::Refused(r) => NumberAnswer::Refused(r),
         FileAnswer::Done(s) => {

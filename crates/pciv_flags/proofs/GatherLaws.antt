@@ -30,13 +30,13 @@ use Rattle.pciv_flags.specs.Flags.{spread, transposed, Gathered}
 module _ (b : List ℕ) (lo hi : ℕ) (bytes : (k : ℕ) → lo ≤ k → k < hi → getD b k 0 < 256) (inside : hi ≤ length b) where
   pub bitAt-get : (w at k j : ℕ) → lo ≤ at → at + w ≤ hi → k < w → j < 8
       → bitAt (get w b at) (8 * k + j) ≡ bitAt (byteAt b (at + k)) j
-  bitAt-get zero at k j low room h l = absurd (omega arith)
-  bitAt-get (suc w) at zero j low room h l =
+  bitAt-get zero at k j low space h l = absurd (omega arith)
+  bitAt-get (suc w) at zero j low space h l =
       let e : 8 * 0 + j ≡ j = omega arith in
       let byte : (getD b at 0 + 256 * get w b (suc at)) % 2 ^ 8 ≡ getD b at 0 = omega (arith, bytes at low (omega arith)) in
       rw (e, add-zero at, get-suc w b at (omega arith))
       (sym (bitAt-mod (getD b at 0 + 256 * get w b (suc at)) 8 j l) ∙ rw byte)
-  bitAt-get (suc w) at (suc k) j low room h l =
+  bitAt-get (suc w) at (suc k) j low space h l =
       let e : 8 * suc k + j ≡ 8 + (8 * k + j) = omega arith in
       let f : at + suc k ≡ suc at + k = omega arith in
       let rest : (getD b at 0 + 256 * get w b (suc at)) / 2 ^ 8 ≡ get w b (suc at) = omega (arith, bytes at low (omega arith)) in

@@ -1,32 +1,29 @@
 -- Which files are accepted, and as what they are read (docs/PROMISES.md, "Acceptance").
 --   file-accepted     the file of a list within the limits is accepted, with that list's summary
 --   file-read         it is read as that list
---   file-table        the file of n slots with distances v is the file of the list of these distances
+--   file-table, summary-table, table-limits
+--                     the file of n slots with distances v is the file of the list of these distances, with its
+--                     counts; that list is within the limits where n and every distance are
 --   file-table-read   so it is read as that list: what a routine that computes each slot's distance has written
 --   accepted-is-file  an accepted file is the file of the list that it is read as, which is within the limits,
 --                     and the answer is that list's summary
 --   accepted-iff      so a file is accepted exactly when it is the file of some list within the limits
---   file-lookup, file-sum, file-readings, file-threshold    the routines on a list's file answer that list's own
 --   fileOf-inj        two lists within the limits with one file are one list: it is read as no other
-use mathlib.Core.Path.{_≡_, refl, sym, ap, _∙_}
+use mathlib.Core.Path.{_≡_, sym, ap, _∙_}
 use mathlib.Core.Logic.{_↔_}
-use Prim.Native.Nat.{ℕ, _+_, _≤_, _<_}
+use Prim.Native.Nat.{ℕ, _≤_, _<_}
 use native.Mathlib.Nat.{zero-add}
 use native.Mathlib.Omega.{arith}
-use mathlib.Core.List.{List, _++_}
-use lib.ListN.{length, getD, drop}
+use mathlib.Core.List.{List}
+use lib.ListN.{length}
 use lib.Seq.{ext-getD}
-use borrow.Author.Tests.{lt-leb, le-ltb}
 use Rattle.pciv_bytes.specs.Ranges.{table}
 use Rattle.pciv_bytes.specs.LittleEndian.{Bytes}
 use Rattle.pciv_bytes.proofs.RangesLaws.{length-table, getD-table}
-use Rattle.pciv_format.specs.Layout.{maxSlots, maxDistance, fileLen, overflowCount, file, countsOf, summary, at, fileOf, summaryOf, Limits}
+use Rattle.pciv_format.specs.Layout.{maxSlots, maxDistance, overflowCount, file, countsOf, summary, at, fileOf, summaryOf, Limits}
 use Rattle.pciv_format.specs.Refusals.{done}
-use Rattle.pciv_format.specs.Parts.{valueOf}
-use Rattle.pciv_format.specs.Check.{nField, kField, fileParts, checkFile, CheckedMap}
-use Rattle.pciv_format.specs.Read.{valueAt, listOf, lookupOutcome, total, readings, sumOutcome, readingsOutcome}
-use Rattle.pciv_format.specs.Mask.{maskLen, maskOf, holds, thresholdWords}
-use Rattle.pciv_format.specs.declared.Comparison.{Comparison}
+use Rattle.pciv_format.specs.Check.{nField, kField, checkFile, CheckedMap}
+use Rattle.pciv_format.specs.Read.{valueAt, listOf}
 use Rattle.pciv_format.specs.declared.Summary.{Summary}
 use Rattle.pciv_format.proofs.LayoutLaws.{length-file, file-cong, summary-cong}
 use Rattle.pciv_format.proofs.CheckLaws.{checkFile-done, done-checkFile, accepted-length}
@@ -58,16 +55,21 @@ module _ (n : ℕ) (v : ℕ → ℕ) where
   pub file-table : file n v ≡ fileOf (table v 0 n)
   file-table = rw (length-table v 0 n) (file-cong n v (at (table v 0 n)) (λ i h. sym (at-table i h)))
 
-  pub file-table-read : n ≤ maxSlots → ((i : ℕ) → i < n → v i ≤ maxDistance) → listOf (file n v) ≡ table v 0 n
-  file-table-read few each =
-      ap listOf file-table
-      ∙ file-read (table v 0 n)
-      (record {
-        count = omega (arith, few, length-table v 0 n);
-        each =
-            λ i h.
-            (let i<n : i < n = omega (arith, h, length-table v 0 n) in omega (arith, at-table i i<n, each i i<n));
-      })
+  pub summary-table : summary n v ≡ summaryOf (table v 0 n)
+  summary-table = rw (length-table v 0 n) (summary-cong n v (at (table v 0 n)) (λ i h. sym (at-table i h)))
+
+  module _ (few : n ≤ maxSlots) (each : (i : ℕ) → i < n → v i ≤ maxDistance) where
+    pub table-limits : Limits (table v 0 n)
+    table-limits =
+        record {
+          count = omega (arith, few, length-table v 0 n);
+          each =
+              λ i h.
+              (let i<n : i < n = omega (arith, h, length-table v 0 n) in omega (arith, at-table i i<n, each i i<n));
+        }
+
+    pub file-table-read : listOf (file n v) ≡ table v 0 n
+    file-table-read = ap listOf file-table ∙ file-read (table v 0 n) table-limits
 
 -- what an accepted file is
 pub record IsFile (b : List ℕ) (s : Summary) : Type 0 where
@@ -104,26 +106,3 @@ accepted-iff mp b bytes = (
 
 pub fileOf-inj : (xs ys : List ℕ) → Limits xs → Limits ys → fileOf xs ≡ fileOf ys → xs ≡ ys
 fileOf-inj xs ys l m e = sym (file-read xs l) ∙ ap listOf e ∙ file-read ys m
-
--- ---- the reading routines on the file of a list
-
-module _ (xs : List ℕ) (l : Limits xs) where
-  pub file-lookup : (slot : ℕ) → slot < length xs → lookupOutcome (fileOf xs) slot ≡ done (at xs slot)
-  unfolding lookupOutcome summary countsOf
-  file-lookup slot h = rw (file-accepted 1 xs l, file-read xs l, lt-leb (length xs) slot h)
-
-  pub file-sum : sumOutcome (fileOf xs) ≡ done (total xs)
-  unfolding sumOutcome
-  file-sum = rw (file-accepted 1 xs l, file-read xs l)
-
-  pub file-readings : readingsOutcome (fileOf xs) ≡ done (readings xs)
-  unfolding readingsOutcome
-  file-readings = rw (file-accepted 1 xs l, file-read xs l)
-
-  -- the mask of a list's file is the mask of the list
-  pub file-threshold : (c : Comparison) (t : ℕ) (out : List ℕ) → maskLen (length xs) ≤ length out
-      → thresholdWords c (fileOf xs) t out
-      ≡ maskOf (length xs) (λ i. holds c (at xs i) t) ++ drop (length (maskOf (length xs) (λ i. holds c (at xs i) t))) out
-  unfolding thresholdWords summary countsOf
-  file-threshold c t out fits =
-      rw (file-accepted 1 xs l, file-read xs l, le-ltb (length out) (maskLen (length xs)) fits)

@@ -2,7 +2,8 @@
 --   A, B        the two maps of "Worked examples"
 --   cases       the cases that "Worked examples" marks as proved, under one statement: a component for each
 --   lengths     the table of "Derived counts"
---   further     cases of the routines that the examples leave out, and masks of more than a word
+--   further     cases of the routines that the examples leave out, edits before other bytes, and masks of more
+--               than a word
 --   examples    the other cases of "Worked examples", and texts of "The report program"
 -- A caller's buffer or list holds 7 in each place, so that what is left unchanged shows.
 use mathlib.Core.Path.{_≡_, refl}
@@ -188,6 +189,11 @@ pub further :
     × (writeBuffer A (replicate 69 7) ≡ fileOf A ++ (7 ∷ []))
     × (closeBuffer (0 ∷ 254 ∷ 255 ∷ 255 ∷ []) (2 ∷ 3 ∷ []) (255 ∷ 300 ∷ []) (replicate 69 7) ≡ fileOf A ++ (7 ∷ []))
     × (closeOutcome (0 ∷ 254 ∷ 255 ∷ 255 ∷ []) (2 ∷ 3 ∷ []) (255 ∷ []) 99 ≡ refuse 6 1 1)
+    -- an edit of A in 71 bytes to the same distance; slot 2 to 254: 12 bytes freed, and those behind the file stay
+    × (editOutcome (fileOf A ++ replicate 3 7) (setTo 3 300) ≡ done (counts 4 2 0 0 68))
+    × (editBuffer (fileOf A ++ replicate 3 7) (setTo 3 300) ≡ fileOf A ++ replicate 3 7)
+    × (editBuffer (fileOf A ++ replicate 3 7) (setTo 2 254)
+    ≡ fileOf (0 ∷ 254 ∷ 254 ∷ 300 ∷ []) ++ (replicate 12 0 ++ replicate 3 7))
     -- edits of A in 69 bytes: slot 2 to 254, slot 4, slot 0 to 7
     × (editListOutcome (fileOf A ++ (7 ∷ [])) (2 ∷ 4 ∷ 0 ∷ []) (254 ∷ 1 ∷ 7 ∷ []) 25 ≡ done 3)
     × (editListBuffer (fileOf A ++ (7 ∷ [])) (2 ∷ 4 ∷ 0 ∷ []) (254 ∷ 1 ∷ 7 ∷ []) 25
@@ -232,9 +238,13 @@ unfolding
     quotient countAt jaccardOutcome ofBits ofInt div shiftedBy shiftOutcome shiftBuffer
     signedDifferences signedDifferenceOutcome signedDifferenceList xor
     lookupListOutcome lookupListBuffer scanOutcome scanBuffer writeOutcome writeBuffer closeOutcome closeBuffer
-    plainOutcome editedFile plainStart plainStep plainRun plainOutcomes bufferOf answerCells allCells editsOf
+    plainOutcome editedFile editOutcome replaced editBuffer
+    plainStart plainStep plainRun plainOutcomes bufferOf answerCells allCells editsOf
     editListOutcome editListBuffer editListAnswers
 further = (
+  refl,
+  refl,
+  refl,
   refl,
   refl,
   refl,

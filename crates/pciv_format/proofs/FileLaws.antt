@@ -32,9 +32,9 @@ module _ (n : ℕ) (v : ℕ → ℕ) (few : n ≤ maxSlots) (each : (i : ℕ) �
   unfolding overflowCount overflowSlots
   slot-inside j h = omega (arith, positions-at (λ (i : ℕ). inOverflow (v i)) 0 n j h .high)
 
-  slot-far : (j : ℕ) → j < overflowCount n v → 255 ≤ v (getD (overflowSlots n v) j 0)
+  slot-overflows : (j : ℕ) → j < overflowCount n v → 255 ≤ v (getD (overflowSlots n v) j 0)
   unfolding overflowCount overflowSlots
-  slot-far j h = leb-true _ _ (positions-at (λ (i : ℕ). inOverflow (v i)) 0 n j h .has)
+  slot-overflows j h = leb-true _ _ (positions-at (λ (i : ℕ). inOverflow (v i)) 0 n j h .has)
 
   slot-rise : (j : ℕ) → suc j < overflowCount n v → getD (overflowSlots n v) j 0 < getD (overflowSlots n v) (suc j) 0
   unfolding overflowCount overflowSlots
@@ -42,7 +42,7 @@ module _ (n : ℕ) (v : ℕ → ℕ) (few : n ≤ maxSlots) (each : (i : ℕ) �
 
   slot-every : (i : ℕ) → i < n → 255 ≤ v i → (j : ℕ) × (j < overflowCount n v) × (getD (overflowSlots n v) j 0 ≡ i)
   unfolding overflowCount overflowSlots
-  slot-every i h far = positions-all (λ (i : ℕ). inOverflow (v i)) 0 n i (omega arith) (omega arith) (le-leb 255 (v i) far)
+  slot-every i h overflows = positions-all (λ (i : ℕ). inOverflow (v i)) 0 n i (omega arith) (omega arith) (le-leb 255 (v i) overflows)
 
   -- ---- the header
 
@@ -99,14 +99,14 @@ module _ (n : ℕ) (v : ℕ → ℕ) (few : n ≤ maxSlots) (each : (i : ℕ) �
   file-entry j h =
       (_, drop-primary (12 * j) ∙ joined-piece (overflowEntry v) 12 (length-overflowEntry v) (overflowSlots n v) _ j h)
 
-  file-slot : (j : ℕ) → j < overflowCount n v → get 8 (file n v) (40 + n + 12 * j) ≡ getD (overflowSlots n v) j 0
+  pub file-slot : (j : ℕ) → j < overflowCount n v → get 8 (file n v) (40 + n + 12 * j) ≡ getD (overflowSlots n v) j 0
   unfolding overflowEntry le
   file-slot j h =
       let s : ℕ = getD (overflowSlots n v) j 0 in
       let e = file-entry j h in
       get-at 8 (file n v) (40 + n + 12 * j) s (le 4 (v s) ++ e .0) (e .1) (omega (arith, slot-inside j h))
 
-  file-distance : (j : ℕ) → j < overflowCount n v → get 4 (file n v) (40 + n + 12 * j + 8) ≡ v (getD (overflowSlots n v) j 0)
+  pub file-distance : (j : ℕ) → j < overflowCount n v → get 4 (file n v) (40 + n + 12 * j + 8) ≡ v (getD (overflowSlots n v) j 0)
   unfolding overflowEntry le
   file-distance j h =
       let s : ℕ = getD (overflowSlots n v) j 0 in
@@ -147,14 +147,14 @@ module _ (n : ℕ) (v : ℕ → ℕ) (few : n ≤ maxSlots) (each : (i : ℕ) �
       (record {
         inside = omega (arith, e, slot-inside j h);
         above = omega (arith, e, lowest j h);
-        far = omega (arith, file-distance j h, slot-far j h);
-        marked = ap (λ (i : ℕ). getD (file n v) (40 + i) 0) e ∙ file-byte s (slot-inside j h) ∙ primaryByte-overflow (v s) (slot-far j h);
+        overflows = omega (arith, file-distance j h, slot-overflows j h);
+        marked = ap (λ (i : ℕ). getD (file n v) (40 + i) 0) e ∙ file-byte s (slot-inside j h) ∙ primaryByte-overflow (v s) (slot-overflows j h);
       })
 
   entry-exists : (i : ℕ) → i < n → 255 ≤ v i → entryOf (fileParts (file n v) n (overflowCount n v)) i < overflowCount n v
   unfolding entryOf
-  entry-exists i h far =
-      let a = slot-every i h far in
+  entry-exists i h overflows =
+      let a = slot-every i h overflows in
       firstBelow-lt (λ (j : ℕ). eqb (get 8 (file n v) (40 + n + 12 * j)) i) (overflowCount n v) (a .0) (a .1)
       (eq-eqb _ _ (file-slot (a .0) (a .1) ∙ a .2))
 
@@ -162,7 +162,7 @@ module _ (n : ℕ) (v : ℕ → ℕ) (few : n ≤ maxSlots) (each : (i : ℕ) �
   unfolding badSlot
   slot-right i h =
       elim (decLe 255 (v i)) [
-        | yes far ↦ rw (lt-leb (overflowCount n v) _ (entry-exists i h far)) (and-false (eqb (getD (file n v) (40 + i) 0) 255))
+        | yes overflows ↦ rw (lt-leb (overflowCount n v) _ (entry-exists i h overflows)) (and-false (eqb (getD (file n v) (40 + i) 0) 255))
         | no near ↦ rw (file-byte i h, primaryByte-inline (v i) (omega arith), ne-eqb (v i) 255 (λ q. omega arith))
       ]
 
@@ -195,7 +195,7 @@ module _ (n : ℕ) (v : ℕ → ℕ) (few : n ≤ maxSlots) (each : (i : ℕ) �
       let P = fileParts (file n v) n (overflowCount n v) in
       let s : SoundParts P = record { entries = entry-right; slots = slot-right } in
       elim (decLe 255 (v i)) [
-        | yes far ↦ (let a = slot-every i h far in
+        | yes overflows ↦ (let a = slot-every i h overflows in
             let e : get 8 (file n v) (40 + n + 12 * a .0) ≡ i = file-slot (a .0) (a .1) ∙ a .2 in
             ap (valueOf P) (sym e) ∙ valueOf-slot P s (a .0) (a .1) ∙ file-distance (a .0) (a .1) ∙ ap v (a .2))
         | no near ↦ (let e : getD (file n v) (40 + i) 0 ≡ v i = file-byte i h ∙ primaryByte-inline (v i) (omega arith) in

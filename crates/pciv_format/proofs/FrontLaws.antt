@@ -67,7 +67,7 @@ module _ (P Q : Parts) (same : SameParts P Q) where
             (record {
               inside = omega (arith, e, g .inside, same .nSame);
               above = omega (arith, e, g .above, lowest-same j h');
-              far = omega (arith, same .distanceSame j h', g .far);
+              overflows = omega (arith, same .distanceSame j h', g .overflows);
               marked = ap (Q .byte) e ∙ same .byteSame (P .slot j) (g .inside) ∙ g .marked;
             }));
         slots = λ i h.
@@ -76,7 +76,7 @@ module _ (P Q : Parts) (same : SameParts P Q) where
       }
 
 -- where Q has the numbers of P, P has those of Q
-same-back : (P Q : Parts) → SameParts P Q → SameParts Q P
+pub same-back : (P Q : Parts) → SameParts P Q → SameParts Q P
 same-back P Q s =
     record {
       nSame = sym (s .nSame);
@@ -87,13 +87,13 @@ same-back P Q s =
     }
 
 -- and each slot its distance
-valueOf-same : (P Q : Parts) → SameParts P Q → SoundParts P → ((i : ℕ) → P .byte i < 256) → (i : ℕ) → i < P .n
+pub valueOf-same : (P Q : Parts) → SameParts P Q → SoundParts P → ((i : ℕ) → P .byte i < 256) → (i : ℕ) → i < P .n
     → valueOf Q i ≡ valueOf P i
 valueOf-same P Q same sound bytes i h =
     let soundQ = sound-same P Q same sound in
     slot-cases P sound bytes i h
     (λ small e. valueOf-inline Q soundQ i (rw (same .byteSame i h) small) ∙ same .byteSame i h ∙ sym e)
-    (λ j hj there e w far.
+    (λ j hj there e w overflows.
     ap (valueOf Q) (sym (same .slotSame j hj ∙ there))
     ∙ valueOf-slot Q soundQ j (omega (arith, same .kSame))
     ∙ same .distanceSame j hj

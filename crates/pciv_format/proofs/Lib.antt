@@ -11,3 +11,4 @@ pub mod FrontLaws
 pub mod RunLaws
 pub mod EditLaws
 pub mod LimitLaws
+pub mod ListLaws

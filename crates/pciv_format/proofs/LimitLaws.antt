@@ -1,33 +1,36 @@
--- The limits on changed bytes (docs/FORMAT.md, "The editor"): between just before and just after an accepted edit.
+-- What an edit does to the bytes of a buffer (docs/FORMAT.md, "The editor"), between just before and just after it.
+--   edit-plain            an edit is answered as by the plain editor
 --   edit-stays-inline     the buffer after an edit that stays inline: one byte is set
 --   edit-stays-overflow   after one that stays in overflow: four bytes are set
---   edit-limits           a byte that differs is one that may change
 --   edit-same             an edit to the same distance changes nothing
-use mathlib.Core.Path.{_≡_, refl, sym, ap, ap₂, _∙_}
+--   edit-front, edit-freed, edit-past
+--                         the file of the edited list, then zeros up to the old length, then what stood there
+--   edit-length           the buffer is as long as before
+--   edit-limits           a byte that differs is one that may change
+--   edit-step             all of these, of an edit that is accepted or refused
+use mathlib.Core.Path.{_≡_, refl, sym, ap, _∙_}
 use mathlib.Core.Logic.{_⊎_, inl, inr}
-use Prim.Native.Nat.{ℕ, zero, suc, _+_, _-_, _*_, _≤_, _<_, max}
-use native.Mathlib.Nat.{le-refl, sub-self, zero-add}
+use Prim.Native.Nat.{ℕ, suc, _+_, _-_, _*_, _≤_, _<_, max}
 use native.Mathlib.Omega.{arith}
 use native.Mathlib.Decide.{decLe, ℕ-discrete}
 use mathlib.Core.Bool.{Bool, true, false}
 use mathlib.Core.List.{List, [], _∷_, _++_, append-assoc}
-use lib.ListN.{length, getD, take, drop, set, replicate, length-append, length-set, List·getD-append}
-use lib.Seq.{drop-at, length-sets, getD-append-add, getD-set-same, getD-set-other, set-getD, sets, getD-take, length-take-le}
+use lib.ListN.{length, getD, take, set, replicate, length-append, length-drop, length-replicate, length-set, getD-replicate, List·getD-append}
+use lib.Seq.{take-at, drop-at, length-sets, getD-append-add, getD-set-same, getD-set-other, set-getD, sets, getD-take, getD-drop, length-take-le}
 use lib.Dec.{ltb, leb}
-use borrow.Author.Tests.{leb-true, leb-false}
+use borrow.Author.Tests.{leb-true, leb-false, ltb-false}
 use Rattle.pciv_bytes.specs.LittleEndian.{le}
 use Rattle.pciv_bytes.proofs.LittleEndianLaws.{length-le}
 use Rattle.pciv_bytes.proofs.WriteLaws.{getD-sets-below, getD-sets-above}
-use Rattle.pciv_format.specs.Layout.{magic, fileLen, indexLen, indexStep, inOverflow, primaryByte, primary, overflowSlots, overflowCount, overflowPart, overflowEntry, indexPart, header, file, at, fileOf, summaryOf, Limits}
-use Rattle.pciv_format.specs.Refusals.{Outcome, done}
-use Rattle.pciv_format.specs.Check.{checkBuffer}
-use Rattle.pciv_format.specs.Edit.{Edit, edited, plainOutcome, editOutcome, editBuffer, replaced, entryPlace, limitsBy, MayChange, editedFile}
-use Rattle.pciv_format.specs.Read.{listOf}
+use Rattle.pciv_format.specs.Layout.{magic, indexLen, indexStep, inOverflow, primaryByte, primary, overflowSlots, overflowCount, overflowPart, indexPart, header, file, at, fileOf, Limits}
+use Rattle.pciv_format.specs.Refusals.{Outcome, done, refused}
+use Rattle.pciv_format.specs.Edit.{Edit, edited, plainOutcome, editOutcome, editBuffer, replaced, entryPlace, limitsBy, MayChange, StepLimits}
 use Rattle.pciv_format.specs.declared.Summary.{Summary}
+use Rattle.pciv_format.specs.declared.Refusal.{Refusal}
 use Rattle.pciv_format.proofs.LayoutLaws.{length-header, length-primary, length-overflowPart, length-file, fileLen-is}
-use Rattle.pciv_format.proofs.RefusalsLaws.{refuseIf-done, andThen-done}
-use Rattle.pciv_format.proofs.FrontLaws.{front-list}
-use Rattle.pciv_format.proofs.EditLaws.{set-behind, set-front, primary-edited, file-inline, file-overflow, entries-in, entries-out, count-below, count-inside, below-count}
+use Rattle.pciv_format.proofs.RefusalsLaws.{refuseIf-done}
+use Rattle.pciv_format.proofs.FrontLaws.{front-check, front-list}
+use Rattle.pciv_format.proofs.EditLaws.{set-front, primary-edited, file-inline, file-overflow, entries-in, entries-out, count-below, count-inside, below-count}
 
 -- ---- bytes of three joined stretches
 
@@ -118,16 +121,28 @@ sets-part xs ys i (v ∷ vs) h =
     ap (λ (l : List ℕ). sets l (suc i) vs) (set-front xs ys i v (omega arith))
     ∙ sets-part (set xs i v) ys (suc i) vs (rw length-set (omega arith))
 
--- ---- an accepted edit of x, whose file stands at the front of b
+-- ---- an edit of x, whose file stands at the front of b, is answered as by the plain editor
+
+module _ (x t : List ℕ) (l : Limits x) (e : Edit) where
+  pub edit-plain : editOutcome (fileOf x ++ t) e ≡ plainOutcome x (length (fileOf x ++ t)) e
+  unfolding editOutcome
+  edit-plain = rw (front-list x t l, front-check x t l 1)
+
+-- ---- an accepted one
 
 module _ (x t : List ℕ) (l : Limits x) (e : Edit) (sm : Summary) (accepted : editOutcome (fileOf x ++ t) e ≡ done sm) where
+  plain-accepted : plainOutcome x (length (fileOf x ++ t)) e ≡ done sm
+  plain-accepted = sym (edit-plain x t l e) ∙ accepted
+
   slot-inside : e .slot < length x
-  unfolding editOutcome plainOutcome
-  slot-inside =
-      let o = andThen-done (checkBuffer 1 (fileOf x ++ t)) _ sm accepted in
-      let g = refuseIf-done (leb (length (listOf (editedFile (fileOf x ++ t)))) (e .slot)) _ _ sm (o .2) in
-      let h : e .slot < length (listOf (editedFile (fileOf x ++ t))) = leb-false _ _ (g .0) in
-      rw (front-list x t l) at h
+  unfolding plainOutcome
+  slot-inside = leb-false _ _ (refuseIf-done (leb (length x) (e .slot)) _ _ sm plain-accepted .0)
+
+  new-fits : length (fileOf (edited x e)) ≤ length (fileOf x ++ t)
+  unfolding plainOutcome
+  new-fits =
+      let g = refuseIf-done (leb (length x) (e .slot)) _ _ sm plain-accepted in
+      ltb-false _ _ (refuseIf-done (ltb (length (fileOf x ++ t)) (length (fileOf (edited x e)))) _ _ sm (g .1) .0)
 
   buffer-is : editBuffer (fileOf x ++ t) e ≡ replaced (fileOf x ++ t) x (edited x e)
   unfolding editBuffer
@@ -192,6 +207,46 @@ module _ (x t : List ℕ) (l : Limits x) (e : Edit) (sm : Summary) (accepted : e
       let f : edited x e ≡ x = ap (set x (e .slot)) q ∙ set-getD x (e .slot) 0 in
       buffer-is ∙ replaced-same (ap (λ (y : List ℕ). length (fileOf y)) f) ∙ ap (λ (y : List ℕ). fileOf y ++ t) f
 
+  -- ---- the three stretches of the buffer afterwards, and its length
+
+  byte-is : (i : ℕ) → getD (editBuffer (fileOf x ++ t) e) i 0 ≡ getD (replaced (fileOf x ++ t) x (edited x e)) i 0
+  byte-is i = ap (λ (b : List ℕ). getD b i 0) buffer-is
+
+  pub edit-front : take (length (fileOf (edited x e))) (editBuffer (fileOf x ++ t) e) ≡ fileOf (edited x e)
+  unfolding replaced
+  edit-front = ap (take (length (fileOf (edited x e)))) buffer-is ∙ take-at (fileOf (edited x e)) _ _ refl
+
+  pub edit-freed : (i : ℕ) → length (fileOf (edited x e)) ≤ i → i < length (fileOf x)
+      → getD (editBuffer (fileOf x ++ t) e) i 0 ≡ 0
+  unfolding replaced
+  edit-freed i low high =
+      let Ly : ℕ = length (fileOf (edited x e)) in
+      let free : ℕ = length (fileOf x) - Ly in
+      byte-is i
+      ∙ getD-behind (fileOf (edited x e)) _ i low
+      ∙ getD-front (replicate free 0) _ (i - Ly) (rw length-replicate (omega arith))
+      ∙ getD-replicate free (i - Ly) 0 0 (omega arith)
+
+  pub edit-past : (i : ℕ) → length (fileOf x) ≤ i → length (fileOf (edited x e)) ≤ i
+      → getD (editBuffer (fileOf x ++ t) e) i 0 ≡ getD (fileOf x ++ t) i 0
+  unfolding replaced
+  edit-past i old new =
+      let Lx : ℕ = length (fileOf x) in
+      let Ly : ℕ = length (fileOf (edited x e)) in
+      let free : length (replicate {A = ℕ} (Lx - Ly) 0) ≡ Lx - Ly = length-replicate (Lx - Ly) 0 in
+      let place : max Lx Ly + (i - Ly - length (replicate {A = ℕ} (Lx - Ly) 0)) ≡ i = omega arith in
+      byte-is i
+      ∙ getD-behind (fileOf (edited x e)) _ i new
+      ∙ getD-behind (replicate (Lx - Ly) 0) _ (i - Ly) (omega arith)
+      ∙ getD-drop (max Lx Ly) (fileOf x ++ t) _ 0
+      ∙ ap (λ (j : ℕ). getD (fileOf x ++ t) j 0) place
+
+  pub edit-length : length (editBuffer (fileOf x ++ t) e) ≡ length (fileOf x ++ t)
+  unfolding replaced
+  edit-length =
+      ap length buffer-is
+      ∙ simp (length-append, length-replicate, length-drop) (omega (arith, new-fits, length-append (fileOf x) t))
+
   -- ---- the limits
 
   -- bytes below the entry's place that a move into or out of overflow leaves alone
@@ -207,7 +262,7 @@ module _ (x t : List ℕ) (l : Limits x) (e : Edit) (sm : Summary) (accepted : e
         let inNew : i < length (fileOf (edited x e)) =
         omega (arith, ap length file-edited, length-file (length x) (at (edited x e)), fileLen-is (length x) k') in
         let inOld : i < length (fileOf x) = omega (arith, length-file (length x) (at x), fileLen-is (length x) k) in
-        ap (λ (b : List ℕ). getD b i 0) buffer-is
+        byte-is i
         ∙ getD-front (fileOf (edited x e)) _ i inNew
         ∙ ap (λ (b : List ℕ). getD b i 0) file-edited
         ∙ kept (length x) (at x) (at (edited x e)) (e .slot) slot-inside others prefix few few' i low counts other
@@ -288,3 +343,34 @@ module _ (x t : List ℕ) (l : Limits x) (e : Edit) (sm : Summary) (accepted : e
           ]
       go true false hp hq = crossing (prefix-out (leb-true _ _ hp) (leb-false _ _ hq)) few-new i changed
       go false true hp hq = crossing (prefix-in (leb-false _ _ hp) (leb-true _ _ hq)) few-new i changed
+
+-- ---- accepted or refused
+
+module _ (x t : List ℕ) (l : Limits x) (e : Edit) where
+  refused-same : (r : Refusal) → editOutcome (fileOf x ++ t) e ≡ refused r → editBuffer (fileOf x ++ t) e ≡ fileOf x ++ t
+  unfolding editBuffer
+  refused-same r is = rw is
+
+  pub edit-step : StepLimits (length (fileOf x ++ t)) x (fileOf x ++ t) e
+  edit-step =
+      record {
+        whole = refl;
+        holdsFile = take-at (fileOf x) t _ refl;
+        setsSlot = λ s is. edit-front x t l e s (edit-plain x t l e ∙ is);
+        onRefusal = λ r is. refused-same r (edit-plain x t l e ∙ is);
+        changed = λ i differs.
+            either (λ s is. edit-limits x t l e s is i differs) (λ q. absurd (differs (ap (λ (b : List ℕ). getD b i 0) q)));
+        freed = λ s is. edit-freed x t l e s (edit-plain x t l e ∙ is);
+        past = λ i old new. either (λ s is. edit-past x t l e s is i old new) (ap (λ (b : List ℕ). getD b i 0));
+        same = λ d. either (λ s is. edit-same x t l e s is d) (λ q. q);
+        lengthStays = either (λ s is. edit-length x t l e s is) (ap length);
+      }
+    where
+      -- what holds of an accepted edit and of an unchanged buffer
+      either : {P : Type 0} → ((s : Summary) → editOutcome (fileOf x ++ t) e ≡ done s → P)
+          → (editBuffer (fileOf x ++ t) e ≡ fileOf x ++ t → P) → P
+      either {P} accepted unchanged = go (editOutcome (fileOf x ++ t) e) refl
+        where
+          go : (o : Outcome Summary) → editOutcome (fileOf x ++ t) e ≡ o → P
+          go (done s) is = accepted s is
+          go (refused r) is = unchanged (refused-same r is)

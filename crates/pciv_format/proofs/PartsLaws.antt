@@ -56,7 +56,7 @@ primaryByte-inline x h = rw (lt-ltb x 255 h)
 pub record GoodEntry (P : Parts) (j : ℕ) : Type 0 where
   pub inside : P .slot j < P .n
   pub above : lowestSlot P j ≤ P .slot j
-  pub far : 255 ≤ P .distance j
+  pub overflows : 255 ≤ P .distance j
   pub marked : P .byte (P .slot j) ≡ 255
 
 pub goodEntry-of-test : (P : Parts) (j : ℕ) → badEntry P j ≡ false → GoodEntry P j
@@ -65,7 +65,7 @@ goodEntry-of-test P j e =
     let o₃ = or-false _ _ e in
     let o₂ = or-false _ _ (o₃ .0) in
     let o₁ = or-false _ _ (o₂ .0) in
-    record { inside = leb-false _ _ (o₁ .0); above = ltb-false _ _ (o₁ .1); far = ltb-false _ _ (o₂ .1); marked = not-eqb _ _ (o₃ .1) }
+    record { inside = leb-false _ _ (o₁ .0); above = ltb-false _ _ (o₁ .1); overflows = ltb-false _ _ (o₂ .1); marked = not-eqb _ _ (o₃ .1) }
 
 pub badEntry-good : (P : Parts) (j : ℕ) → GoodEntry P j → badEntry P j ≡ false
 unfolding badEntry
@@ -73,7 +73,7 @@ badEntry-good P j g =
     rw (
       lt-leb (P .n) (P .slot j) (g .inside),
       le-ltb (P .slot j) (lowestSlot P j) (g .above),
-      le-ltb (P .distance j) 255 (g .far),
+      le-ltb (P .distance j) 255 (g .overflows),
       eq-eqb (P .byte (P .slot j)) 255 (g .marked),
     )
 
@@ -121,7 +121,7 @@ module _ (P : Parts) (s : SoundParts P) where
           | yes d ↦ (let e : P .byte i ≡ 255 = omega (arith, bytes i) in
               let q = slot-entry i h e in
               let w : valueOf P i ≡ P .distance (q .0) = ap (valueOf P) (sym (q .2)) ∙ valueOf-slot (q .0) (q .1) in
-              overflow (q .0) (q .1) (q .2) e w (omega (arith, w, entry-good (q .0) (q .1) .far)))
+              overflow (q .0) (q .1) (q .2) e w (omega (arith, w, entry-good (q .0) (q .1) .overflows)))
           | no d ↦ inline (omega arith) (valueOf-inline i (omega arith))
         ]
 
@@ -129,13 +129,13 @@ module _ (P : Parts) (s : SoundParts P) where
     pub primaryByte-valueOf : (i : ℕ) → i < P .n → primaryByte (valueOf P i) ≡ P .byte i
     primaryByte-valueOf i h =
         slot-cases i h (λ small e. rw e (primaryByte-inline _ small))
-        (λ j hj at e w far. primaryByte-overflow (valueOf P i) far ∙ sym e)
+        (λ j hj at e w overflows. primaryByte-overflow (valueOf P i) overflows ∙ sym e)
 
     pub valueOf-le : ((j : ℕ) → j < P .k → P .distance j ≤ maxDistance) → (i : ℕ) → i < P .n → valueOf P i ≤ maxDistance
-    valueOf-le each i h = slot-cases i h (λ small e. omega arith) (λ j hj at e w far. omega (arith, each j hj))
+    valueOf-le each i h = slot-cases i h (λ small e. omega arith) (λ j hj at e w overflows. omega (arith, each j hj))
 
     byte-of-overflow : (i : ℕ) → i < P .n → 255 ≤ valueOf P i → P .byte i ≡ 255
-    byte-of-overflow i h far = slot-cases i h (λ small e. absurd (omega arith)) (λ j hj at e w far'. e)
+    byte-of-overflow i h overflows = slot-cases i h (λ small e. absurd (omega arith)) (λ j hj at e w overflows'. e)
 
     -- the slots in overflow are the entries' slots
     pub overflowSlots-are : overflowSlots (P .n) (valueOf P) ≡ table (P .slot) 0 (P .k)
@@ -147,7 +147,7 @@ module _ (P : Parts) (s : SoundParts P) where
               record {
                 low = omega arith;
                 high = omega (arith, entry-good j hj .inside);
-                has = le-leb 255 (valueOf P (P .slot j)) (omega (arith, valueOf-slot j hj, entry-good j hj .far));
+                has = le-leb 255 (valueOf P (P .slot j)) (omega (arith, valueOf-slot j hj, entry-good j hj .overflows));
               });
           rise = λ j l h₁ h₂ h₃. slots-rise j l h₂ (omega arith);
           every = λ t h₁ h₂ q.

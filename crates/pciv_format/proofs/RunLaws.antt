@@ -1,27 +1,27 @@
 -- A run of edits (docs/PROMISES.md, "A run of edits"): for every list of edits, of any length, on a buffer with a
 -- sound file at its front, the editor's answers are the plain editor's, in order, and the buffer holds the plain
 -- editor's list as a fresh file, zeros up to the longest file of the run, and then what stood there at the start;
--- a refused edit changes no byte, and an accepted one only bytes that may change.
+-- and of each edit, on the plain editor's list and the buffer that it finds, all that docs/FORMAT.md, "The editor",
+-- says of the bytes just after it (a field of `StepLimits` for each sentence).
 --   edit-run   the theorem
 use mathlib.Core.Path.{_≡_, refl, sym, ap, ap₂, _∙_}
-use Prim.Native.Nat.{ℕ, zero, suc, _+_, _-_, _≤_, _<_, max}
+use Prim.Native.Nat.{ℕ, suc, _+_, _-_, _≤_, _<_, max}
 use native.Mathlib.Nat.{le-refl, sub-self}
 use native.Mathlib.Omega.{arith}
 use native.Mathlib.Decide.{decLe}
 use mathlib.Core.Bool.{Bool, true, false}
 use mathlib.Core.List.{List, [], _∷_, _++_, append-assoc}
-use lib.ListN.{length, getD, take, drop, set, replicate, length-append, length-drop, length-set, length-replicate, replicate-append-replicate}
+use lib.ListN.{length, getD, drop, replicate, length-append, length-drop, length-set, length-replicate, replicate-append-replicate}
 use lib.Seq.{drop-at, drop-drop, getD-set-same, getD-set-other}
 use lib.Dec.{ltb, leb}
 use borrow.Author.Tests.{ltb-false}
 use Rattle.pciv_format.specs.Layout.{maxDistance, fileOf, summaryOf, Limits}
 use Rattle.pciv_format.specs.Refusals.{Outcome, done, refused, refuse, refuseIf}
-use Rattle.pciv_format.specs.Check.{checkBuffer}
 use Rattle.pciv_format.specs.Read.{listOf}
-use Rattle.pciv_format.specs.Edit.{Edit, edited, plainOutcome, editedFile, editOutcome, replaced, ifAccepted, editBuffer, State, plainStart, plainStep, plainRun, plainOutcomes, bufferOf, editRun, editOutcomes, MayChange, StepLimits, RunLimits}
+use Rattle.pciv_format.specs.Edit.{Edit, edited, plainOutcome, editedFile, editOutcome, replaced, ifAccepted, editBuffer, State, plainStart, plainStep, plainRun, plainOutcomes, bufferOf, editRun, editOutcomes, StepLimits, RunLimits}
 use Rattle.pciv_format.specs.declared.Summary.{Summary}
-use Rattle.pciv_format.proofs.FrontLaws.{front-check, front-list}
-use Rattle.pciv_format.proofs.LimitLaws.{edit-limits}
+use Rattle.pciv_format.proofs.FrontLaws.{front-list}
+use Rattle.pciv_format.proofs.LimitLaws.{edit-plain, edit-step}
 
 -- ---- what follows the file: zeros, then what stood there at the start
 
@@ -82,18 +82,14 @@ module _ (b₀ : List ℕ) (z : State) (at : Reached b₀ z) where
   unfolding bufferOf
   list-there = front-list (z .list) _ (at .limits)
 
-  check-there : checkBuffer 1 (bufferOf z b₀) ≡ done (summaryOf (z .list))
-  unfolding bufferOf
-  check-there = front-check (z .list) _ (at .limits) 1
-
   pub length-there : length (bufferOf z b₀) ≡ length b₀
   unfolding bufferOf
   length-there = simp (length-append, length-replicate, length-drop) (omega (arith, at .low, at .high))
 
   -- the editor answers as the plain editor
   pub edit-answer : (e : Edit) → editOutcome (bufferOf z b₀) e ≡ plainOutcome (z .list) (length b₀) e
-  unfolding editOutcome
-  edit-answer e = rw (list-there, length-there, check-there)
+  unfolding bufferOf
+  edit-answer e = edit-plain (z .list) _ (at .limits) e ∙ ap (λ (R : ℕ). plainOutcome (z .list) R e) length-there
 
   replaced-is : (y : List ℕ) → replaced (bufferOf z b₀) (z .list) y
       ≡ bufferOf (record { list = y; filled = max (z .filled) (length (fileOf y)) }) b₀
@@ -148,16 +144,11 @@ module _ (b₀ : List ℕ) (z : State) (at : Reached b₀ z) where
 -- ---- its limits
 
 module _ (b₀ : List ℕ) (z : State) (at : Reached b₀ z) where
-  pub edit-step-limits : (e : Edit) → StepLimits (bufferOf z b₀) e
-  unfolding bufferOf editBuffer
-  edit-step-limits e =
+  edit-limited : (e : Edit) → StepLimits (length b₀) (z .list) (bufferOf z b₀) e
+  unfolding bufferOf
+  edit-limited e =
       let t : List ℕ = replicate (z .filled - length (fileOf (z .list))) 0 ++ drop (z .filled) b₀ in
-      record {
-        onRefusal = λ r is. rw is;
-        onAccept = λ s is i changed.
-            (let m : MayChange (z .list) e i = edit-limits (z .list) t (at .limits) e s is i changed in
-            rw (front-list (z .list) t (at .limits)) m);
-      }
+      rw (length-there b₀ z at) at (edit-step (z .list) t (at .limits) e)
 
 -- ---- the run
 
@@ -169,7 +160,7 @@ module _ (b₀ : List ℕ) where
   run-from : (es : List Edit) (z : State) → Reached b₀ z → Distances es
       → (editOutcomes (bufferOf z b₀) es ≡ plainOutcomes (length b₀) z es)
       × (editRun (bufferOf z b₀) es ≡ bufferOf (plainRun (length b₀) z es) b₀)
-      × RunLimits (bufferOf z b₀) es
+      × RunLimits (length b₀) z (bufferOf z b₀) es
   unfolding editRun plainRun editOutcomes plainOutcomes
   run-from [] z at small = (refl, refl, tt)
   run-from (e ∷ es) z at small =
@@ -179,7 +170,7 @@ module _ (b₀ : List ℕ) where
         ap₂ (λ (o : Outcome Summary) (l : List (Outcome Summary)). o ∷ l) (edit-answer b₀ z at e)
             (ap (λ (b : List ℕ). editOutcomes b es) q ∙ r .0),
         ap (λ (b : List ℕ). editRun b es) q ∙ r .1,
-        (edit-step-limits b₀ z at e, rw q (r .2)),
+        (edit-limited b₀ z at e, rw q (r .2)),
       )
 
 -- a buffer with x's file at its front and any bytes t behind it
@@ -187,7 +178,7 @@ pub edit-run : (x t : List ℕ) (es : List Edit) → Limits x → Distances es
     → (let b = fileOf x ++ t in
     (editOutcomes b es ≡ plainOutcomes (length b) (plainStart x) es)
     × (editRun b es ≡ bufferOf (plainRun (length b) (plainStart x) es) b)
-    × RunLimits b es)
+    × RunLimits (length b) (plainStart x) b es)
 unfolding bufferOf plainStart
 edit-run x t es l small =
     let b : List ℕ = fileOf x ++ t in

@@ -6,7 +6,8 @@
 --   plainRun, plainOutcomes   the plain editor's state after a list of edits, and its answers in order
 --   bufferOf z b₀             what the buffer holds in state z, where it was b₀ at the start
 --   editRun, editOutcomes     the editor's buffer after a list of edits, and its answers in order
---   RunLimits b es            every edit of a run keeps to the limits on changed bytes
+--   StepLimits R x b e        what an edit of a buffer b of R bytes does to its bytes, x being the plain editor's list
+--   RunLimits R z b es        the same of every edit of a run, from the plain editor's state z
 --   answerCells o             one answer of a run as answerLen numbers
 --   editsOf                   the edits of a list of slots and a list of distances
 --   editListOutcome, editListBuffer, editListAnswers
@@ -75,6 +76,7 @@ editBuffer b e =
 abbrev pub entryPlace : List ℕ → ℕ → ℕ
 entryPlace x s = 40 + length x + 12 * overflowCount s (at x)
 
+-- by whether the old and the new distance are in overflow: the bytes that may change
 abbrev pub limitsBy : Bool → Bool → List ℕ → ℕ → ℕ → Type 0
 limitsBy false false x s i = i ≡ 40 + s
 limitsBy true true x s i = (entryPlace x s + 8 ≤ i) × (i < entryPlace x s + 12)
@@ -94,16 +96,6 @@ editRun b (e ∷ es) = editRun (editBuffer b e) es
 unfoldable pub editOutcomes : List ℕ → List Edit → List (Outcome Summary)
 editOutcomes b [] = []
 editOutcomes b (e ∷ es) = editOutcome b e ∷ editOutcomes (editBuffer b e) es
-
--- each refused edit changes no byte, and each accepted one only bytes that may change
-pub record StepLimits (b : List ℕ) (e : Edit) : Type 0 where
-  pub onRefusal : (r : Refusal) → editOutcome b e ≡ refused r → editBuffer b e ≡ b
-  pub onAccept : (s : Summary) → editOutcome b e ≡ done s → (i : ℕ) → (getD (editBuffer b e) i 0 ≡ getD b i 0 → ⊥)
-      → MayChange (listOf (editedFile b)) e i
-
-abbrev pub RunLimits : List ℕ → List Edit → Type 0
-RunLimits b [] = Unit {0}
-RunLimits b (e ∷ es) = StepLimits b e × RunLimits (editBuffer b e) es
 
 -- ---- the plain editor's run
 
@@ -131,6 +123,38 @@ plainOutcomes R z (e ∷ es) = plainOutcome (z .list) R e ∷ plainOutcomes R (p
 -- x's file, zeros up to the longest file so far, then the bytes that stood there at the start
 unfoldable pub bufferOf : State → List ℕ → List ℕ
 bufferOf z b₀ = fileOf (z .list) ++ (replicate (z .filled - length (fileOf (z .list))) 0 ++ drop (z .filled) b₀)
+
+-- ---- each edit of a run
+
+-- x is the plain editor's list; b and editBuffer b e are the buffer just before and just after the edit, which is
+-- accepted or refused as the plain editor says
+pub record StepLimits (R : ℕ) (x b : List ℕ) (e : Edit) : Type 0 where
+  -- the edit gets the whole buffer
+  pub whole : length b ≡ R
+  -- the buffer holds a file at its front, and it is x's
+  pub holdsFile : take (length (fileOf x)) b ≡ fileOf x
+  -- an accepted edit sets the slot to the distance: the file at the front is then that of the edited list
+  pub setsSlot : (s : Summary) → plainOutcome x R e ≡ done s
+      → take (length (fileOf (edited x e))) (editBuffer b e) ≡ fileOf (edited x e)
+  -- a refused edit changes no byte
+  pub onRefusal : (r : Refusal) → plainOutcome x R e ≡ refused r → editBuffer b e ≡ b
+  -- a byte that changes is one that may change
+  pub changed : (i : ℕ) → (getD (editBuffer b e) i 0 ≡ getD b i 0 → ⊥) → MayChange x e i
+  -- where the file becomes shorter, bytes from its new length up to the old one become 0
+  pub freed : (s : Summary) → plainOutcome x R e ≡ done s
+      → (i : ℕ) → length (fileOf (edited x e)) ≤ i → i < length (fileOf x) → getD (editBuffer b e) i 0 ≡ 0
+  -- bytes past both lengths stay
+  pub past : (i : ℕ) → length (fileOf x) ≤ i → length (fileOf (edited x e)) ≤ i
+      → getD (editBuffer b e) i 0 ≡ getD b i 0
+  -- an edit to the same distance changes nothing
+  pub same : e .distance ≡ at x (e .slot) → editBuffer b e ≡ b
+  -- the buffer stays as long as it is
+  pub lengthStays : length (editBuffer b e) ≡ length b
+
+-- each edit's limits, with the plain editor's list and the buffer as the edits before it left them
+abbrev pub RunLimits : ℕ → State → List ℕ → List Edit → Type 0
+RunLimits R z b [] = Unit {0}
+RunLimits R z b (e ∷ es) = StepLimits R (z .list) b e × RunLimits R (plainStep R z e) (editBuffer b e) es
 
 -- ---- a run of edits in one call
 
@@ -161,7 +185,8 @@ allCells (o ∷ os) = answerCells o ++ allCells os
 unfoldable pub editsOf : List ℕ → List ℕ → List Edit
 editsOf slots distances = table (λ (j : ℕ). record { slot = at slots j; distance = at distances j }) 0 (length slots)
 
--- refusals 1 to 8; 9 at the least position that has no edit, where one list is longer; 12; else how many edits
+-- refusals 1 to 8; 9 at the least position that has no edit, where one list is longer; 12; else how many edits.
+-- 9 for lists of unequal length is chosen here: the format's source has no such case
 unfoldable pub editListOutcome : List ℕ → List ℕ → List ℕ → ℕ → Outcome ℕ
 editListOutcome b slots distances capacity =
     andThen (checkBuffer 1 b)

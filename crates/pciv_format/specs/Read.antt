@@ -1,10 +1,12 @@
 -- What the reading routines answer (docs/FORMAT.md, "Reading").
 --   listOf b         the list that a file b is read as
 --   primaryPart b    the primary bytes of b, a part of b; empty where b is refused
+--   behind i p       the place i bytes behind the place p
+--   primaryPlace b p    where the primary part of b starts, if b starts at p
 --   lookupOutcome, lookupListOutcome and -Buffer, scanOutcome and -Buffer
 --   total xs, readings xs    the sum of all distances, and how many are not 0
 -- Laws are in proofs/ReadLaws.antt. Axioms: none.
-use Prim.Native.Nat.{ℕ}
+use Prim.Native.Nat.{ℕ, _+_}
 use mathlib.Core.Bool.{not}
 use mathlib.Core.List.{List, [], map}
 use lib.ListN.{length, take, drop}
@@ -31,6 +33,18 @@ onlyDone (refused r) l = []
 
 unfoldable pub primaryPart : List ℕ → List ℕ
 primaryPart b = onlyDone (checkFile 1 b) (take (nField b) (drop 40 b))
+
+-- a place is a block of memory and an offset in it, as `ptr` gives it for a reference
+abbrev pub behind : ℕ → ℕ × ℕ → ℕ × ℕ
+behind i p = (p .0, i + p .1)
+
+-- how many bytes of a file stand before its primary part; 0 for a refused one, whose part has length 0, is chosen here
+abbrev pub bytesBefore : Outcome Summary → ℕ
+bytesBefore (done s) = 40
+bytesBefore (refused r) = 0
+
+unfoldable pub primaryPlace : List ℕ → ℕ × ℕ → ℕ × ℕ
+primaryPlace b p = behind (bytesBefore (checkFile 1 b)) p
 
 -- ---- lookup and scan
 

@@ -30,7 +30,8 @@ unfoldable pub writeBuffer : List ℕ → List ℕ → List ℕ
 writeBuffer xs out = fileBuffer (writeOutcome xs (length out)) (length xs) (at xs) out
 
 -- entry j is slot j of the one list and distance j of the other; where one list is shorter, the entry that it
--- lacks is wrong (its slot would be n, its distance 0)
+-- lacks is wrong (its slot would be n, its distance 0), so that 6 is the refusal. That is chosen here: the format's
+-- source has no such case
 abbrev pub closeParts : List ℕ → List ℕ → List ℕ → Parts
 closeParts bytes slots distances =
     record {

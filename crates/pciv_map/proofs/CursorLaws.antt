@@ -54,7 +54,7 @@ module _ (P : Parts) (sound : SoundParts P) (bytes : (i : ℕ) → P .byte i < 2
 
   module _ (j s : ℕ) (c : Cursor P j s) (inside : s < P .n) where
     pub cursor-at : 255 ≤ P .byte s → (j < P .k) × (P .slot j ≡ s)
-    cursor-at far =
+    cursor-at overflows =
         elim (decLe (P .k) j) [
           | yes d ↦ absurd (omega (arith, gap-inline P sound bytes j s (c .few) (c .low) (λ more. absurd (omega arith)) inside))
           | no d ↦ elim (decLe (P .slot j) s) [
@@ -64,8 +64,8 @@ module _ (P : Parts) (sound : SoundParts P) (bytes : (i : ℕ) → P .byte i < 2
         ]
 
     pub cursor-more : 255 ≤ P .byte s → Cursor P (j + 1) (s + 1)
-    cursor-more far =
-        let at = cursor-at far in
+    cursor-more overflows =
+        let at = cursor-at overflows in
         rw (add-one j)
         (record {
           few = omega (arith, at .0);
@@ -88,7 +88,7 @@ module _ (P : Parts) (sound : SoundParts P) (bytes : (i : ℕ) → P .byte i < 2
 
     -- the distance at s
     pub value-at : 255 ≤ P .byte s → P .distance j ≡ valueOf P s
-    value-at far = let at = cursor-at far in sym (valueOf-slot P sound j (at .0)) ∙ ap (valueOf P) (at .1)
+    value-at overflows = let at = cursor-at overflows in sym (valueOf-slot P sound j (at .0)) ∙ ap (valueOf P) (at .1)
 
   pub cursor-gap : (j i s : ℕ) → Cursor P j i → i ≤ s → ((u : ℕ) → i ≤ u → u < s → valueOf P u < 255) → Cursor P j s
   cursor-gap j i s c h none =
@@ -102,7 +102,7 @@ module _ (P : Parts) (sound : SoundParts P) (bytes : (i : ℕ) → P .byte i < 2
                 arith,
                 none (P .slot j) (c .high more) (omega arith),
                 valueOf-slot P sound j more,
-                entry-good P sound j more .far,
+                entry-good P sound j more .overflows,
               ))
             ];
       }

@@ -81,16 +81,16 @@ module _ (P : Parts) (sound : SoundParts P) where
       ]
 
   -- a slot in overflow has an entry
-  pub far-some : (xs : List ℕ) (b p : ℕ) → OverflowPlace P xs b p → 0 < P .k
-  far-some xs b p f =
-      let q = slot-entry P sound (getD xs p 0) (f .inside) (f .far) in
+  pub overflow-some : (xs : List ℕ) (b p : ℕ) → OverflowPlace P xs b p → 0 < P .k
+  overflow-some xs b p f =
+      let q = slot-entry P sound (getD xs p 0) (f .inside) (f .overflows) in
       omega (arith, q .1)
 
   -- and where one entry is left, that is it
   pub holds-value : (xs : List ℕ) (b p lo : ℕ) → OverflowPlace P xs b p → Holds P (getD xs p 0) lo 1
       → (lo < P .k) × (valueOf P (getD xs p 0) ≡ P .distance lo)
   holds-value xs b p lo f w =
-      let q = slot-entry P sound (getD xs p 0) (f .inside) (f .far) in
+      let q = slot-entry P sound (getD xs p 0) (f .inside) (f .overflows) in
       let at = w .entry (q .0) (q .1) (q .2) in
       let e : q .0 ≡ lo = omega arith in
       (omega (arith, w .within), ap (valueOf P) (sym (q .2)) ∙ valueOf-slot P sound (q .0) (q .1) ∙ ap (P .distance) e)

@@ -42,7 +42,7 @@ module _ (P : Parts) (s : SoundParts P) (bytes : (i : ℕ) → P .byte i < 256) 
       → P .byte i < 255
   gap-inline j i few low high inside =
       slot-cases P s bytes i inside (λ small e. small)
-      (λ t ht at e w far.
+      (λ t ht at e w overflows.
       elim (decLe j t) [
         | yes d ↦ absurd (omega (arith, high (omega arith), slots-sorted P s j t d ht))
         | no d ↦ absurd (omega (arith, slot-below j t (omega arith) few))
@@ -103,7 +103,7 @@ module _ (P : Parts) (s : SoundParts P) (bytes : (i : ℕ) → P .byte i < 256) 
   pub sum-entries : sumFrom (valueOf P) 0 (P .n)
       ≡ sumFrom (P .byte) 0 (P .n) + sumFrom (excess P) 0 (P .k)
   sum-entries =
-      sum-entries-of (λ (i x : ℕ). x) (excess P) (λ j h. omega (arith, entry-good P s j h .far))
+      sum-entries-of (λ (i x : ℕ). x) (excess P) (λ j h. omega (arith, entry-good P s j h .overflows))
 
   -- a byte 255 is a reading already
   pub readings-bytes : sumFrom (λ (i : ℕ). reading (valueOf P i)) 0 (P .n)
@@ -111,7 +111,7 @@ module _ (P : Parts) (s : SoundParts P) (bytes : (i : ℕ) → P .byte i < 256) 
   readings-bytes =
       sumFrom-cong (λ (i : ℕ). reading (valueOf P i)) (λ (i : ℕ). reading (P .byte i)) 0 (P .n)
       (λ i h₁ h₂. slot-cases P s bytes i (omega arith) (λ small e. ap reading e)
-      (λ j hj at e w far.
+      (λ j hj at e w overflows.
       ap flag (neb-not (valueOf P i) 0 (λ q. omega arith) ∙ sym (neb-not (P .byte i) 0 (λ q. omega arith)))))
 
 -- ---- of bytes alone

@@ -13,7 +13,7 @@ use Rattle.pciv_format.specs.Parts.{Parts}
 pub record OverflowPlace (P : Parts) (xs : List ℕ) (b p : ℕ) : Type 0 where
   pub before : p < b
   pub inside : getD xs p 0 < P .n
-  pub far : P .byte (getD xs p 0) ≡ 255
+  pub overflows : P .byte (getD xs p 0) ≡ 255
 
 pub record OverflowPlaces (P : Parts) (xs : List ℕ) (b : ℕ) (ps : List ℕ) (c : ℕ) : Type 0 where
   pub long : c ≤ length ps

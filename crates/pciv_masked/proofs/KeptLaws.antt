@@ -1,8 +1,8 @@
 -- A map kept where a mask is 1, along its overflow entries (the walk's laws are in pciv_merge, proofs/LedLaws.antt).
 --   kept-counted, -all     one entry on, in a walk that counts those that are kept; after the last
 --   kept-small             no distance of the result is too large
---   kept-room, -here, -more, -written
---                          the same in a walk that writes them: there is room and an entry, one entry on, and after the last
+--   kept-space, -here, -more, -written
+--                          the same in a walk that writes them: there is space and an entry, one entry on, and after the last
 -- Axioms: none.
 use mathlib.Core.Path.{_≡_, refl, sym, ap, _∙_}
 use Prim.Native.Nat.{ℕ, _+_, _*_, _≤_, _<_}
@@ -53,8 +53,8 @@ module _ (P : Parts) (s : SoundParts P) (bytes : (i : ℕ) → P .byte i < 256) 
     value-set : 0 < maskValue ws (P .slot j) → v (P .slot j) ≡ P .distance j
     value-set on = kept-set (maskHas ws (P .slot j)) (valueOf P (P .slot j)) on ∙ valueOf-slot P s j here
 
-    far : 0 < maskValue ws (P .slot j) → 255 ≤ v (P .slot j)
-    far on = omega (arith, value-set on, entry-good P s j here .far)
+    overflows : 0 < maskValue ws (P .slot j) → 255 ≤ v (P .slot j)
+    overflows on = omega (arith, value-set on, entry-good P s j here .overflows)
 
     inline : maskValue ws (P .slot j) ≤ 0 → v (P .slot j) < 255
     inline off = omega (arith, kept-clear (maskHas ws (P .slot j)) (valueOf P (P .slot j)) off)
@@ -64,7 +64,7 @@ module _ (P : Parts) (s : SoundParts P) (bytes : (i : ℕ) → P .byte i < 256) 
     kept-counted {c} {bit} e is = rw is (go (maskHas ws (P .slot j)) refl)
       where
         go : (b : Bool) → maskHas ws (P .slot j) ≡ b → Counted (P .n) v (lowestSlot P (j + 1)) (c + flag (maskHas ws (P .slot j)))
-        go true q = rw q (counted-entry P s bytes v led j here e (far (omega (arith, ap flag q))))
+        go true q = rw q (counted-entry P s bytes v led j here e (overflows (omega (arith, ap flag q))))
         go false q = rw (q, add-zero c) (counted-pass P s bytes v led j here e (inline (omega (arith, ap flag q))))
 
     module _ {d₀ : List ℕ} {p₀ : ℕ} {d : List ℕ} {p : ℕ} (e : EntriesLeft (P .n) (maskedAt Keep P ws) d₀ p₀ (lowestSlot P j) d p) where
@@ -72,7 +72,7 @@ module _ (P : Parts) (s : SoundParts P) (bytes : (i : ℕ) → P .byte i < 256) 
           → d' ≡ sets d p (le 8 slot ++ le 4 x) → p' ≡ p + 12
           → EntriesLeft (P .n) v d₀ p₀ (lowestSlot P (j + 1)) d' p'
       kept-put on slot x d' p' at is put next =
-          entries-entry P s bytes v led j here e (far on) slot x d' p' at (is ∙ sym (value-set on)) put next
+          entries-entry P s bytes v led j here e (overflows on) slot x d' p' at (is ∙ sym (value-set on)) put next
 
       -- what is written for an entry that is not kept is written over
       kept-over : maskValue ws (P .slot j) ≤ 0 → p < p₀ + 12 * overflowCount (P .n) v → (slot x : ℕ) (d' : List ℕ)
@@ -98,8 +98,8 @@ module _ (P : Parts) (s : SoundParts P) (bytes : (i : ℕ) → P .byte i < 256) 
   module _ {j : ℕ} (inside : j ≤ P .k) {d₀ : List ℕ} {p₀ : ℕ} {d : List ℕ} {p : ℕ}
       (e : EntriesLeft (P .n) (maskedAt Keep P ws) d₀ p₀ (lowestSlot P j) d p)
       (more : p < p₀ + 12 * overflowCount (P .n) (maskedAt Keep P ws)) where
-    pub kept-room : p + 12 ≤ length d
-    kept-room = omega (arith, e .count, e .room, more, count-slotsFrom (P .n) v)
+    pub kept-space : p + 12 ≤ length d
+    kept-space = omega (arith, e .count, e .space, more, count-slotsFrom (P .n) v)
 
     pub kept-here : j < P .k
     kept-here =

@@ -1,6 +1,6 @@
 pub mod RowLaws
+pub mod WalkLaws
 pub mod ByteLaws
 pub mod KeptLaws
-pub mod WalkLaws
 pub mod RaisedLaws
 pub mod MaskedLaws

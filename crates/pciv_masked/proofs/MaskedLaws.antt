@@ -28,20 +28,20 @@ use Rattle.pciv_addition.proofs.IntoLaws.{map-fits, mapInto-cong, mapBuffer-con
 -- ---- a mask as a map
 
 module _ (n : ℕ) (ws : List ℕ) where
-  module _ (room : ℕ) where
-    pub map-many : maxSlots < n → mapOfMaskOutcome n ws room ≡ refuse 3 1 0
+  module _ (capacity : ℕ) where
+    pub map-many : maxSlots < n → mapOfMaskOutcome n ws capacity ≡ refuse 3 1 0
     unfolding mapOfMaskOutcome
     map-many many = rw (lt-ltb maxSlots n many)
 
-    pub map-bad : n ≤ maxSlots → badMask n ws ≡ true → mapOfMaskOutcome n ws room ≡ refuse 13 0 0
+    pub map-bad : n ≤ maxSlots → badMask n ws ≡ true → mapOfMaskOutcome n ws capacity ≡ refuse 13 0 0
     unfolding mapOfMaskOutcome
     map-bad few bad = rw (le-ltb maxSlots n few, bad)
 
-    pub map-good : n ≤ maxSlots → badMask n ws ≡ false → mapOfMaskOutcome n ws room ≡ fileInto n (maskValue ws) room
+    pub map-good : n ≤ maxSlots → badMask n ws ≡ false → mapOfMaskOutcome n ws capacity ≡ fileInto n (maskValue ws) capacity
     unfolding mapOfMaskOutcome
     map-good few good =
         rw (le-ltb maxSlots n few, good)
-        (map-fits n (maskValue ws) room (λ i h. omega (arith, flag-le (maskHas ws i))))
+        (map-fits n (maskValue ws) capacity (λ i h. omega (arith, flag-le (maskHas ws i))))
 
   pub map-refused : (out : List ℕ) (r : Refusal) → mapOfMaskOutcome n ws (length out) ≡ refused r → mapOfMaskBuffer n ws out ≡ out
   unfolding mapOfMaskBuffer
@@ -55,15 +55,15 @@ module _ (n : ℕ) (ws : List ℕ) where
 -- ---- what a mask makes of a map
 
 module _ (f : Bool → ℕ → ℕ) (b ws : List ℕ) where
-  pub masked-refused : (r : Refusal) → checkFile 1 b ≡ refused r → (room : ℕ) → maskedOutcome f b ws room ≡ refused r
-  masked-refused r e room = rw e
+  pub masked-refused : (r : Refusal) → checkFile 1 b ≡ refused r → (capacity : ℕ) → maskedOutcome f b ws capacity ≡ refused r
+  masked-refused r e capacity = rw e
 
   pub masked-kept : (out : List ℕ) (r : Refusal) → maskedOutcome f b ws (length out) ≡ refused r → maskedBuffer f b ws out ≡ out
   masked-kept out r e = ap (λ (o : Outcome Summary). fileBuffer o (length (listOf b)) (λ i. f (maskHas ws i) (at (listOf b) i)) out) e
 
   module _ (s : Summary) (e : checkFile 1 b ≡ done s) where
-    pub masked-bad : badMask (s .n) ws ≡ true → (room : ℕ) → maskedOutcome f b ws room ≡ refuse 13 0 0
-    masked-bad bad room = rw (e, bad)
+    pub masked-bad : badMask (s .n) ws ≡ true → (capacity : ℕ) → maskedOutcome f b ws capacity ≡ refuse 13 0 0
+    masked-bad bad capacity = rw (e, bad)
 
     abbrev v : ℕ → ℕ
     v i = f (maskHas ws i) (valueOf (fileParts b (s .n) (s .k)) i)
@@ -79,9 +79,9 @@ module _ (f : Bool → ℕ → ℕ) (b ws : List ℕ) where
         ap (f (maskHas ws i)) (sym (at-list b (s .n) (s .k) (checked .header .nIs) (checked .header .kIs) i h))
 
     module _ (good : badMask (s .n) ws ≡ false) where
-      pub masked-outcome : (room : ℕ)
-          → mapInto (s .n) (λ (i : ℕ). f (maskHas ws i) (valueOf (fileParts b (s .n) (s .k)) i)) room ≡ maskedOutcome f b ws room
-      masked-outcome room = mapInto-cong (s .n) v w same room ∙ rw (e, good)
+      pub masked-outcome : (capacity : ℕ)
+          → mapInto (s .n) (λ (i : ℕ). f (maskHas ws i) (valueOf (fileParts b (s .n) (s .k)) i)) capacity ≡ maskedOutcome f b ws capacity
+      masked-outcome capacity = mapInto-cong (s .n) v w same capacity ∙ rw (e, good)
 
       pub masked-buffer : (out : List ℕ)
           → fileBuffer (mapInto (s .n) (λ (i : ℕ). f (maskHas ws i) (valueOf (fileParts b (s .n) (s .k)) i)) (length out)) (s .n)

@@ -40,7 +40,7 @@ use Rattle.pciv_words.specs.Words.{IsMask}
 use Rattle.pciv_words.proofs.MaskLaws.{flag-maskHas}
 use Rattle.pciv_masked.specs.Masked.{maskedAt, raisedAt, picked}
 use Rattle.pciv_masked.specs.declared.bytes.MaskedOp.the-variants.{Increment}
-use Rattle.pciv_masked.proofs.ByteLaws.{mask-room}
+use Rattle.pciv_masked.proofs.ByteLaws.{mask-covers}
 use Rattle.pciv_masked.proofs.WalkLaws.{picked-sum}
 
 -- ---- refusal 11
@@ -167,7 +167,7 @@ module _ (b : List ℕ) (n k : ℕ) (c : CheckedMap b n k) (bytes : Bytes b) (ws
   pub raised-count : k + sumFrom (raisedAt (primaryOf b n) ws) 0 (64 * length ws) ≡ overflowCount n (maskedAt Increment (fileParts b n k) ws)
   raised-count =
       let own : overflowCount n (valueOf P) ≡ k = overflowCount-is P (c .parts) (λ t. bytes (40 + t)) in
-      let split = simp sub-zero at (sumFrom-split raised 0 n (64 * length ws) (omega arith) (mask-room mask)) in
+      let split = simp sub-zero at (sumFrom-split raised 0 n (64 * length ws) (omega arith) (mask-covers mask)) in
       let rest : sumFrom raised n (64 * length ws - n) ≡ 0 = sumFrom-zeros raised (64 * length ws - n) n raised-past in
       let sum =
       sumFrom-plus (λ (i : ℕ). flag (inOverflow (maskedAt Increment P ws i))) (λ (i : ℕ). flag (inOverflow (valueOf P i))) raised n 0

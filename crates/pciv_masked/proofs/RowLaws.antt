@@ -2,6 +2,7 @@
 --   bitRows-at, bitsRow-table       a row of the table, byte by byte
 --   bit-of-word, slot-bit           one bit of a word is one slot
 --   row-of-word, word-of-mask       a row is eight bits of a word, a word 64 slots;  word-bit  a word as 64 bytes
+--   no-bytes, last-bit              the word after the last whole one as 64 bytes, and its slots;  sets-whole  an array filled
 --   primary-bits                    bits are primary bytes
 --   count-none, part-none, index-none    a map below 255 has no overflow entry, and its file no index
 -- Axioms: none.
@@ -9,21 +10,21 @@ use mathlib.Core.Path.{_≡_, refl, sym, ap, ap₂, _∙_}
 use Prim.Native.Nat.{ℕ, _+_, _*_, _/_, _%_, _^_, _≤_, _<_}
 use native.Mathlib.Nat.{zero-add}
 use native.Mathlib.Omega.{arith}
-use mathlib.Core.List.{List, []}
-use lib.ListN.{length, getD}
+use mathlib.Core.List.{List, [], _++_, append-nil}
+use lib.ListN.{length, getD, replicate, drop-of-length-le, List·getD-eq-default}
 use lib.Seq.{sets}
 use Rattle.pciv_bytes.specs.Ranges.{table, joined}
 use Rattle.pciv_bytes.specs.Counts.{byteAt}
 use Rattle.pciv_bytes.proofs.RangesLaws.{length-table, getD-table, table-cong, table-shift}
 use Rattle.pciv_bytes.proofs.SumLaws.{flag-le}
-use Rattle.pciv_bytes.proofs.WriteLaws.{sets-at}
+use Rattle.pciv_bytes.proofs.WriteLaws.{sets-front, sets-at}
 use Rattle.pciv_format.specs.Layout.{primaryByte, primary, overflowCount, overflowSlots, overflowPart}
 use Rattle.pciv_format.specs.Mask.{bitAt, bitsRow, maskHas, maskValue}
 use Rattle.pciv_format.proofs.PartsLaws.{primaryByte-inline}
 use Rattle.pciv_format.proofs.LayoutLaws.{indexStep-few, indexLen-zero}
 use Rattle.pciv_build.specs.Build.{indexFrom}
 use Rattle.pciv_build.proofs.EntriesLaws.{slotsFrom-start, slotsFrom-gap, slotsFrom-end}
-use Rattle.pciv_words.proofs.BitLaws.{bitAt-shr, bitAt-mod}
+use Rattle.pciv_words.proofs.BitLaws.{bitAt-shr, bitAt-mod, bitAt-none}
 use Rattle.pciv_words.proofs.MaskLaws.{flag-maskHas}
 use Rattle.pciv_masked.specs.Rows.{bitRows}
 
@@ -59,7 +60,7 @@ row-of-word x j =
 
 -- the bits of a word as they stand in 64 bytes
 pub word-bit : (d b : List ℕ) (x j : ℕ) → 64 ≤ length d → b ≡ sets d 0 (table (bitAt x) 0 64) → j < 64 → byteAt b j ≡ bitAt x j
-word-bit d b x j room is h =
+word-bit d b x j space is h =
     let l : length (table (bitAt x) 0 64) ≡ 64 = length-table (bitAt x) 0 64 in
     ap₂ byteAt is (sym (zero-add j))
     ∙ sets-at d (table (bitAt x) 0 64) 0 j 0 (omega arith) (omega arith)
@@ -76,6 +77,33 @@ pub word-of-mask : (ws : List ℕ) (i : ℕ) → i % 64 ≡ 0 → table (bitAt (
 word-of-mask ws i whole =
     let x : ℕ = getD ws (i / 64) 0 in
     table-shift (bitAt x) (maskValue ws) 0 i 64 (λ t h. ap (bitAt x) (zero-add t) ∙ slot-bit ws i t whole h)
+
+-- ---- the slots after the last whole word
+
+-- a list that is written over as a whole
+pub sets-whole : (d l : List ℕ) → length l ≡ length d → sets d 0 l ≡ l
+sets-whole d l same =
+    sets-front l d (omega arith)
+    ∙ ap (λ (rest : List ℕ). l ++ rest) (drop-of-length-le d {i = length l} (omega arith))
+    ∙ append-nil l
+
+-- where there is no word
+pub no-bytes : (ws : List ℕ) (w : ℕ) → length ws ≤ w → replicate 64 0 ≡ table (bitAt (getD ws w 0)) 0 64
+unfolding table
+no-bytes ws w past =
+    rw (List·getD-eq-default ws 0 past)
+    (table-cong (λ (j : ℕ). 0) (bitAt 0) 0 64 (λ j h. sym (bitAt-none j)))
+
+pub last-bit : (b ws : List ℕ) (n i : ℕ) → b ≡ table (bitAt (getD ws (n / 64) 0)) 0 64 → 64 * (n / 64) ≤ i → i < n
+    → byteAt b (i % 64) ≡ maskValue ws i
+last-bit b ws n i is low high =
+    let x : ℕ = getD ws (n / 64) 0 in
+    let e : 64 * (n / 64) + i % 64 ≡ i = omega arith in
+    ap (λ (l : List ℕ). byteAt l (i % 64)) is
+    ∙ getD-table (bitAt x) 0 0 64 (i % 64) (omega arith)
+    ∙ ap (bitAt x) (zero-add (i % 64))
+    ∙ sym (flag-maskHas ws (n / 64) (i % 64) (omega arith))
+    ∙ ap (maskValue ws) e
 
 -- ---- a map of 0 and 1
 

@@ -1,6 +1,7 @@
 -- A walk over the set bits of a word, the lowest first: the number of zeros below it is its place, and x & (x - 1) is x
 -- without it.
---   trailing-bit      the bit at that place is set
+--   trailing-bit, trailing-lt    the bit at that place is set, and the place is below the number of bits
+--   less-lowest, less-other      it is not among the bits that are left, and all others are
 --   picked-lowest     what is picked at it, and at the bits that are left
 --   picked-none, -zero    nothing is picked of no bits, and of zeros alone
 --   picked-le         at most one is picked for each bit
@@ -43,6 +44,68 @@ trailing-bit (suc c) x pos small = go (x % 2) refl (trailing-bit c (x / 2))
         bitAt-suc x (trailingZeros c (x / 2)) ∙ rest (h .0) (h .1)
     go (suc d) e rest = bitAt-lowest x ∙ omega arith
 
+pub trailing-lt : (c x : ℕ) → 0 < x → x < 2 ^ c → trailingZeros c x < c
+trailing-lt c x pos small =
+    elim (decLe c (trailingZeros c x)) [
+      | yes past ↦ absurd (omega (arith, trailing-bit c x pos small, bitAt-past x c (trailingZeros c x) small past))
+      | no d ↦ omega arith
+    ]
+
+-- x & (x - 1), halved: the same of x / 2 where x is even, else x / 2
+less-even : (x : ℕ) → 0 < x → x % 2 ≡ 0
+    → (bitAnd x (x - 1) % 2 ≡ 0) × (bitAnd x (x - 1) / 2 ≡ bitAnd (x / 2) (x / 2 - 1))
+less-even x pos even =
+    let below : (x - 1) / 2 ≡ x / 2 - 1 = omega arith in
+    let step : bitAnd x (x - 1) ≡ bitAnd (x / 2) ((x - 1) / 2) * 2 + min (x % 2) ((x - 1) % 2) = and-step x (x - 1) in
+    let is : bitAnd x (x - 1) ≡ bitAnd (x / 2) (x / 2 - 1) * 2 + min (x % 2) ((x - 1) % 2) = step ∙ rw below in
+    (omega arith, omega arith)
+
+less-odd : (x : ℕ) → x % 2 ≡ 1 → (bitAnd x (x - 1) % 2 ≡ 0) × (bitAnd x (x - 1) / 2 ≡ x / 2)
+less-odd x odd =
+    let below : (x - 1) / 2 ≡ x / 2 = omega arith in
+    let step : bitAnd x (x - 1) ≡ bitAnd (x / 2) ((x - 1) / 2) * 2 + min (x % 2) ((x - 1) % 2) = and-step x (x - 1) in
+    let is : bitAnd x (x - 1) ≡ x / 2 * 2 + min (x % 2) ((x - 1) % 2) = step ∙ rw (below, and-self (x / 2)) in
+    (omega arith, omega arith)
+
+-- the lowest set bit is not left
+pub less-lowest : (c x : ℕ) → 0 < x → x < 2 ^ c → bitAt (bitAnd x (x - 1)) (trailingZeros c x) ≡ 0
+unfolding trailingZeros
+less-lowest zero x pos small = absurd (omega arith)
+less-lowest (suc c) x pos small = go (x % 2) refl (less-lowest c (x / 2))
+  where
+    go : (d : ℕ) → x % 2 ≡ d
+        → (0 < x / 2 → x / 2 < 2 ^ c → bitAt (bitAnd (x / 2) (x / 2 - 1)) (trailingZeros c (x / 2)) ≡ 0)
+        → bitAt (bitAnd x (x - 1)) (under d (trailingZeros c (x / 2))) ≡ 0
+    go zero e rest =
+        let h = half-pos c x pos small e in
+        let t : ℕ = trailingZeros c (x / 2) in
+        bitAt-suc (bitAnd x (x - 1)) t ∙ ap (λ (y : ℕ). bitAt y t) (less-even x pos e .1) ∙ rest (h .0) (h .1)
+    go (suc d) e rest = bitAt-lowest (bitAnd x (x - 1)) ∙ less-odd x (omega arith) .0
+
+-- all other bits are
+pub less-other : (c x j : ℕ) → 0 < x → x < 2 ^ c → (j ≡ trailingZeros c x → ⊥) → bitAt (bitAnd x (x - 1)) j ≡ bitAt x j
+unfolding trailingZeros
+less-other zero x j pos small other = absurd (omega arith)
+less-other (suc c) x j pos small other = go (x % 2) refl j other (less-other c (x / 2))
+  where
+    go : (d : ℕ) → x % 2 ≡ d → (j : ℕ) → (j ≡ under d (trailingZeros c (x / 2)) → ⊥)
+        → ((k : ℕ) → 0 < x / 2 → x / 2 < 2 ^ c → (k ≡ trailingZeros c (x / 2) → ⊥)
+        → bitAt (bitAnd (x / 2) (x / 2 - 1)) k ≡ bitAt (x / 2) k)
+        → bitAt (bitAnd x (x - 1)) j ≡ bitAt x j
+    go zero e zero other rest =
+        bitAt-lowest (bitAnd x (x - 1)) ∙ less-even x pos e .0 ∙ sym (bitAt-lowest x ∙ e)
+    go zero e (suc k) other rest =
+        let h = half-pos c x pos small e in
+        bitAt-suc (bitAnd x (x - 1)) k
+        ∙ ap (λ (y : ℕ). bitAt y k) (less-even x pos e .1)
+        ∙ rest k (h .0) (h .1) (λ q. other (ap suc q))
+        ∙ sym (bitAt-suc x k)
+    go (suc d) e zero other rest = absurd (other refl)
+    go (suc d) e (suc k) other rest =
+        bitAt-suc (bitAnd x (x - 1)) k
+        ∙ ap (λ (y : ℕ). bitAt y k) (less-odd x (omega arith) .1)
+        ∙ sym (bitAt-suc x k)
+
 -- ---- what is picked
 
 module _ (g : ℕ → ℕ) where
@@ -66,22 +129,17 @@ module _ (g : ℕ → ℕ) where
           → picked g i (suc c) x ≡ g (i + under d (trailingZeros c (x / 2))) + picked g i (suc c) (bitAnd x (x - 1))
       go zero e rest =
           let h = half-pos c x pos small e in
-          let below : (x - 1) / 2 ≡ x / 2 - 1 = omega arith in
           let y : ℕ = bitAnd x (x - 1) in
-          let z : ℕ = bitAnd (x / 2) (x / 2 - 1) in
-          let step : y ≡ bitAnd (x / 2) ((x - 1) / 2) * 2 + min (x % 2) ((x - 1) % 2) = and-step x (x - 1) in
-          let is : y ≡ z * 2 + min (x % 2) ((x - 1) % 2) = step ∙ rw below in
+          let less = less-even x pos e in
           let place : suc i + trailingZeros c (x / 2) ≡ i + suc (trailingZeros c (x / 2)) = omega arith in
           picked-even i c x (x / 2) e refl
           ∙ rest (h .0) (h .1)
-          ∙ ap₂ (λ (s m : ℕ). g s + m) place (sym (picked-even i c y z (omega arith) (omega arith)))
+          ∙ ap₂ (λ (s m : ℕ). g s + m) place (sym (picked-even i c y (bitAnd (x / 2) (x / 2 - 1)) (less .0) (less .1)))
       go (suc d) e rest =
-          let below : (x - 1) / 2 ≡ x / 2 = omega arith in
-          let y : ℕ = bitAnd x (x - 1) in
-          let step : y ≡ bitAnd (x / 2) ((x - 1) / 2) * 2 + min (x % 2) ((x - 1) % 2) = and-step x (x - 1) in
-          let is : y ≡ x / 2 * 2 + min (x % 2) ((x - 1) % 2) = step ∙ rw (below, and-self (x / 2)) in
-          picked-odd i c x (omega arith)
-          ∙ ap₂ (λ (s m : ℕ). g s + m) (sym (add-zero i)) (sym (picked-even i c y (x / 2) (omega arith) (omega arith)))
+          let odd : x % 2 ≡ 1 = omega arith in
+          let less = less-odd x odd in
+          picked-odd i c x odd
+          ∙ ap₂ (λ (s m : ℕ). g s + m) (sym (add-zero i)) (sym (picked-even i c (bitAnd x (x - 1)) (x / 2) (less .0) (less .1)))
 
   pub picked-none : (c i : ℕ) → picked g i c 0 ≡ 0
   unfolding picked

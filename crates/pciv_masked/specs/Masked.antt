@@ -3,6 +3,8 @@
 --   maskedAt op P ws i     the distance of the result at slot i
 --   maskedByte op bit x    what becomes of the primary byte x where the bit is 0 or 1
 --   maskedWord op b i word j    of the primary byte of slot i + j in the file b, by bit j of a word
+--   raisedByte bit x       a byte with 1 added where the bit is 1, at most 255
+--   raisedWord d i word j       of the byte i + j of d, by bit j of a word
 --   raisedAt xs ws i       1 where slot i is set and has byte 254, which comes to overflow when 1 is added, else 0
 --   picked g i c x         g i, g (i + 1), .. at the set ones of the c lowest bits of x, added up
 --   SetBelow to i x        every set bit j of x has i + j below `to`
@@ -31,6 +33,13 @@ maskedByte Increment bit x = min 255 (x + bit)
 
 abbrev pub maskedWord : MaskedOp → List ℕ → ℕ → ℕ → ℕ → ℕ
 maskedWord op b i word j = maskedByte op (bitAt word j) (byteAt b (40 + i + j))
+
+abbrev pub raisedByte : ℕ → ℕ → ℕ
+raisedByte zero x = x
+raisedByte (suc _) x = min 255 (x + 1)
+
+abbrev pub raisedWord : List ℕ → ℕ → ℕ → ℕ → ℕ
+raisedWord d i word j = raisedByte (bitAt word j) (byteAt d (i + j))
 
 abbrev pub raisedAt : List ℕ → List ℕ → ℕ → ℕ
 raisedAt xs ws i = maskValue ws i * byteIs xs 254 i

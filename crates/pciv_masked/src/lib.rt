@@ -72,7 +72,7 @@ fn mask_map(op: MaskedOp, file: &[u8], words: &[u64], out: &mut [u8]) -> FileAns
     ensures answer { λ r. ⌜ r ≡ fileAnswer (maskedOutcome (maskedOf op) (now (file .entry)) (now (words .entry)) (length (now (out .entry)))) ⌝ }
     ensures buffer { λ _. ⌜ now (out .exit) ≡ maskedBuffer (maskedOf op) (now (file .entry)) (now (words .entry)) (now (out .entry)) ⌝ }
 {
-    let checked = check(file, 1);
+    let checked = check(file);
     match checked {
         FileAnswer::Refused(r) => FileAnswer::Refused(r),
         FileAnswer::Done(s) => {

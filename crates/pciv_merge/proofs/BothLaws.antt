@@ -22,12 +22,12 @@ use Rattle.pciv_merge.proofs.CombineLaws.{shrinks-minimum}
 use Rattle.pciv_merge.proofs.LedLaws.{counted-entry, counted-pass, combined-led}
 
 -- 1 for a distance in overflow
-abbrev far : ℕ → ℕ
-far x = flag (inOverflow x)
+abbrev overflows : ℕ → ℕ
+overflows x = flag (inOverflow x)
 
 -- the smaller and the larger of two distances are the two
-far-both : (x y : ℕ) → far (min x y) + far (max x y) ≡ far x + far y
-far-both x y =
+overflow-both : (x y : ℕ) → overflows (min x y) + overflows (max x y) ≡ overflows x + overflows y
+overflow-both x y =
     elim (decLe x y) [
       | yes d ↦ (let e : min x y ≡ x = omega arith in let g : max x y ≡ y = omega arith in rw (e, g))
       | no d ↦ (let e : min x y ≡ y = omega arith in let g : max x y ≡ x = omega arith in rw (e, g) (omega arith))
@@ -46,23 +46,23 @@ module _ (A B : Parts) (n : A .n ≡ B .n) (sa : SoundParts A) (sb : SoundParts 
       (λ small is. rw (ne-eqb (B .byte (A .slot j)) 255 (λ q. omega arith), add-zero c)
       (counted-pass A sa bytesA v led j here e (omega arith)))
       (λ t ht at full is distant. rw (eq-eqb (B .byte (A .slot j)) 255 full)
-      (counted-entry A sa bytesA v led j here e (omega (arith, good .far, first))))
+      (counted-entry A sa bytesA v led j here e (omega (arith, good .overflows, first))))
 
   pub extremes-count : overflowCount (A .n) (combinedOf Minimum A B) + overflowCount (A .n) (combinedOf Maximum A B) ≡ A .k + B .k
   extremes-count =
       let u : ℕ → ℕ = valueOf A in
       let v : ℕ → ℕ = valueOf B in
-      let two : ℕ → ℕ = λ i. far (u i) + far (v i) in
+      let two : ℕ → ℕ = λ i. overflows (u i) + overflows (v i) in
       rw (overflowCount-sum (A .n) (combinedOf Minimum A B), overflowCount-sum (A .n) (combinedOf Maximum A B))
-      (sumFrom-plus (λ (i : ℕ). far (min (u i) (v i))) (λ (i : ℕ). far (max (u i) (v i))) two 0 (A .n)
-      (λ i h₁ h₂. far-both (u i) (v i))
-      ∙ sym (sumFrom-plus (λ (i : ℕ). far (u i)) (λ (i : ℕ). far (v i)) two 0 (A .n) (λ i h₁ h₂. refl))
+      (sumFrom-plus (λ (i : ℕ). overflows (min (u i) (v i))) (λ (i : ℕ). overflows (max (u i) (v i))) two 0 (A .n)
+      (λ i h₁ h₂. overflow-both (u i) (v i))
+      ∙ sym (sumFrom-plus (λ (i : ℕ). overflows (u i)) (λ (i : ℕ). overflows (v i)) two 0 (A .n) (λ i h₁ h₂. refl))
       ∙ ap₂ (λ (x y : ℕ). x + y) (sym (overflowCount-sum (A .n) u) ∙ overflowCount-is A sa bytesA)
       (sym (overflowCount-sum (A .n) v) ∙ rw n (overflowCount-is B sb bytesB)))
 
 pub minimum-swap : (A B : Parts) (n : ℕ) → overflowCount n (combinedOf Minimum B A) ≡ overflowCount n (combinedOf Minimum A B)
 minimum-swap A B n =
     overflowCount-sum n (combinedOf Minimum B A)
-    ∙ sumFrom-cong (λ (i : ℕ). far (combinedOf Minimum B A i)) (λ (i : ℕ). far (combinedOf Minimum A B i)) 0 n
-    (λ i h₁ h₂. (let same : min (valueOf B i) (valueOf A i) ≡ min (valueOf A i) (valueOf B i) = omega arith in ap far same))
+    ∙ sumFrom-cong (λ (i : ℕ). overflows (combinedOf Minimum B A i)) (λ (i : ℕ). overflows (combinedOf Minimum A B i)) 0 n
+    (λ i h₁ h₂. (let same : min (valueOf B i) (valueOf A i) ≡ min (valueOf A i) (valueOf B i) = omega arith in ap overflows same))
     ∙ sym (overflowCount-sum n (combinedOf Minimum A B))

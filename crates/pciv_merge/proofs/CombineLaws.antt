@@ -49,7 +49,7 @@ shrinks-difference x y = omega arith
 primaryByte-min : (x : ℕ) → primaryByte x ≡ min x 255
 primaryByte-min x =
     elim (decLe 255 x) [
-      | yes far ↦ primaryByte-overflow x far ∙ omega arith
+      | yes overflows ↦ primaryByte-overflow x overflows ∙ omega arith
       | no near ↦ primaryByte-inline x (omega arith) ∙ omega arith
     ]
 
@@ -57,7 +57,7 @@ primaryByte-min x =
 full-overflow : (x : ℕ) → eqb (primaryByte x) 255 ≡ inOverflow x
 full-overflow x =
     elim (decLe 255 x) [
-      | yes far ↦ eq-eqb (primaryByte x) 255 (primaryByte-overflow x far) ∙ sym (le-leb 255 x far)
+      | yes overflows ↦ eq-eqb (primaryByte x) 255 (primaryByte-overflow x overflows) ∙ sym (le-leb 255 x overflows)
       | no near ↦ ne-eqb (primaryByte x) 255 (λ q. omega (arith, q, primaryByte-inline x (omega arith)))
           ∙ sym (lt-leb 255 x (omega arith))
     ]
@@ -118,11 +118,11 @@ module _ (o : SlotOp) (p : ByteOp) (same : SameInline o p) (A B : Parts) (n : A 
 
   pub inline-right : (d d' : List ℕ) → 40 + A .n ≤ length d → d' ≡ sets d 40 (table (combinedBytes p A B) 0 (A .n))
       → InlineRight A (combinedOf o A B) d'
-  inline-right d d' room put =
+  inline-right d d' space put =
       let T : List ℕ = table (combinedBytes p A B) 0 (A .n) in
       let long : length T ≡ A .n = length-table (combinedBytes p A B) 0 (A .n) in
       record {
-        room = omega (arith, ap length put, length-sets d 40 T);
+        space = omega (arith, ap length put, length-sets d 40 T);
         right = λ i h small.
             ap (λ (l : List ℕ). getD l (40 + i) 0) put
             ∙ getD-sets T d 0 40 i (omega arith) (omega arith)

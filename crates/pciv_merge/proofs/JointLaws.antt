@@ -5,8 +5,8 @@
 --   Side P j s                what the next entry of P says of slot s, which is the next in overflow in either map
 --   MetAt A B i j t r         what is met: the next slot in overflow from i on, the larger distance there
 --   JointLeft                 the invariant of a walk that writes the entries of the maximum
---   joint-start, -room, -step, -more, -end
---                             before the first entry; room for the next, what is passed with it, past it; after the last
+--   joint-start, -space, -step, -more, -end
+--                             before the first entry; space for the next, what is passed with it, past it; after the last
 -- Axioms: none.
 use mathlib.Core.Path.{_≡_, refl, sym, ap, _∙_}
 use Prim.Native.Nat.{ℕ, _+_, _*_, _≤_, _<_, min, max}
@@ -27,7 +27,7 @@ use Rattle.pciv_format.specs.Parts.{Parts, lowestSlot, valueOf, SoundParts}
 use Rattle.pciv_format.specs.declared.SlotOp.the-variants.{Maximum}
 use Rattle.pciv_format.proofs.PartsLaws.{entry-good, slots-rise, valueOf-slot, valueOf-inline}
 use Rattle.pciv_map.proofs.EntryLaws.{gap-inline}
-use Rattle.pciv_build.proofs.EntriesLaws.{EntriesLeft, entries-start, entries-room, entries-more, entries-gap, entries-end}
+use Rattle.pciv_build.proofs.EntriesLaws.{EntriesLeft, entries-start, entries-space, entries-more, entries-gap, entries-end}
 use Rattle.pciv_merge.specs.Merge.{combinedOf}
 use Rattle.pciv_merge.specs.Joint.{headOf, distanceIn, metAt, metOf}
 use Rattle.pciv_merge.specs.declared.joint.Head.{Head}
@@ -90,7 +90,7 @@ module _ (P : Parts) (sound : SoundParts P) (bytes : (i : ℕ) → P .byte i < 2
       let d : headOf P j .distance ≡ P .distance j = ap (λ (x : Head). x .distance) (headOf-entry P j here) in
       record {
         same = rw (test, is, d);
-        at = λ q. (omega (arith, is, good .far), rw test);
+        at = λ q. (omega (arith, is, good .overflows), rw test);
         next =
             rw (test, add-one j)
             (record {
@@ -142,7 +142,7 @@ pub record MetAt (A B : Parts) (i j t : ℕ) (r : Met) : Type 0 where
   pub inside : r .slot < A .n
   pub low : i ≤ r .slot
   pub gap : (u : ℕ) → i ≤ u → u < r .slot → combinedOf Maximum A B u < 255
-  pub far : 255 ≤ combinedOf Maximum A B (r .slot)
+  pub overflows : 255 ≤ combinedOf Maximum A B (r .slot)
   pub distance : r .distance ≡ combinedOf Maximum A B (r .slot)
   pub first : Cursor A (r .slot + 1) (j + r .first)
   pub second : Cursor B (r .slot + 1) (t + r .second)
@@ -163,7 +163,7 @@ module _ (A B : Parts) (n : A .n ≡ B .n) (sa : SoundParts A) (sb : SoundParts 
       → s ≤ headOf A j .slot → s ≤ headOf B t .slot → 255 ≤ max (valueOf A s) (valueOf B s)
       → 1 ≤ flag (eqb (headOf A j .slot) s) + flag (eqb (headOf B t .slot) s)
       → MetAt A B i j t (metAt (headOf A j) (headOf B t) s)
-  of-sides i j t s inside low ca cb x y ha hb far moved =
+  of-sides i j t s inside low ca cb x y ha hb overflows moved =
       record {
         inside = inside;
         low = low;
@@ -173,7 +173,7 @@ module _ (A B : Parts) (n : A .n ≡ B .n) (sa : SoundParts A) (sb : SoundParts 
               gap-side A sa bytesA i j ca u h₁ (omega arith) (omega arith),
               gap-side B sb bytesB i t cb u h₁ (omega arith) (omega arith),
             );
-        far = far;
+        overflows = overflows;
         distance = omega (arith, x .same, y .same);
         first = x .next;
         second = y .next;
@@ -204,12 +204,12 @@ pub record JointLeft (A B : Parts) (d₀ : List ℕ) (p₀ j t : ℕ) (d : List 
 
 pub joint-start : (A B : Parts) (d : List ℕ) (p : ℕ) → p + 12 * overflowCount (A .n) (combinedOf Maximum A B) ≤ length d
     → JointLeft A B d p 0 0 d p
-joint-start A B d p room =
+joint-start A B d p space =
     record {
       i = 0;
       first = cursor-start A;
       second = cursor-start B;
-      left = entries-start (A .n) (combinedOf Maximum A B) d p room;
+      left = entries-start (A .n) (combinedOf Maximum A B) d p space;
     }
 
 module _ (A B : Parts) (n : A .n ≡ B .n) (sa : SoundParts A) (sb : SoundParts B)
@@ -222,8 +222,8 @@ module _ (A B : Parts) (n : A .n ≡ B .n) (sa : SoundParts A) (sb : SoundParts 
     at-slot : EntriesLeft (A .n) (combinedOf Maximum A B) d₀ p₀ (r .slot) d p
     at-slot = entries-gap (e .left) (r .slot) (here .low) (omega (arith, here .inside)) (here .gap)
 
-    pub joint-room : p + 12 ≤ length d
-    joint-room = entries-room at-slot (here .inside) (here .far)
+    pub joint-space : p + 12 ≤ length d
+    joint-space = entries-space at-slot (here .inside) (here .overflows)
 
     -- entries of either are passed, and not more than there are
     pub joint-step : (1 ≤ r .first + r .second) × (j + r .first ≤ A .k) × (t + r .second ≤ B .k)
@@ -236,7 +236,7 @@ module _ (A B : Parts) (n : A .n ≡ B .n) (sa : SoundParts A) (sb : SoundParts 
           i = r .slot + 1;
           first = here .first;
           second = here .second;
-          left = entries-more at-slot (here .inside) (here .far) (r .distance) d' p' (here .distance) put next;
+          left = entries-more at-slot (here .inside) (here .overflows) (r .distance) d' p' (here .distance) put next;
         }
 
   pub joint-end : A .k + B .k ≤ j + t → d ≡ sets d₀ p₀ (overflowPart (A .n) (combinedOf Maximum A B))

@@ -23,7 +23,7 @@ use Rattle.pciv_format.specs.Parts.{Parts, lowestSlot, entryOf, valueOf, SoundP
 use Rattle.pciv_format.specs.declared.SlotOp.{SlotOp}
 use Rattle.pciv_format.proofs.PartsLaws.{entry-good, slots-rise, entryOf-slot, slot-entry, valueOf-inline}
 use Rattle.pciv_map.proofs.EntryLaws.{slot-below, gap-inline}
-use Rattle.pciv_build.proofs.EntriesLaws.{EntriesLeft, entries-room, entries-more, entries-gap, entries-skip, entries-end, Counted, counted-more, counted-gap, counted-skip, counted-end}
+use Rattle.pciv_build.proofs.EntriesLaws.{EntriesLeft, entries-space, entries-more, entries-gap, entries-skip, entries-end, Counted, counted-more, counted-gap, counted-skip, counted-end}
 use Rattle.pciv_merge.specs.Merge.{combinedOf, Shrinks, Before}
 
 -- ---- the entry of a slot in overflow
@@ -107,7 +107,7 @@ module _ (P : Parts) (s : SoundParts P) (bytes : (i : ℕ) → P .byte i < 256) 
 
     pub counted-entry : {c : ℕ} → Counted (P .n) v (lowestSlot P j) c → 255 ≤ v (P .slot j)
         → Counted (P .n) v (lowestSlot P (j + 1)) (c + 1)
-    counted-entry e far = rw (add-one j) (counted-more (counted-slot e) (entry-good P s j here .inside) far)
+    counted-entry e overflows = rw (add-one j) (counted-more (counted-slot e) (entry-good P s j here .inside) overflows)
 
     pub counted-pass : {c : ℕ} → Counted (P .n) v (lowestSlot P j) c → v (P .slot j) < 255
         → Counted (P .n) v (lowestSlot P (j + 1)) c
@@ -120,12 +120,12 @@ module _ (P : Parts) (s : SoundParts P) (bytes : (i : ℕ) → P .byte i < 256) 
           entries-gap e (P .slot j) (good .above) (omega (arith, good .inside)) before-slot
 
       pub entries-fit : 255 ≤ v (P .slot j) → p + 12 ≤ length d
-      entries-fit far = entries-room entries-slot (entry-good P s j here .inside) far
+      entries-fit overflows = entries-space entries-slot (entry-good P s j here .inside) overflows
 
       pub entries-entry : 255 ≤ v (P .slot j) → (slot x : ℕ) (d' : List ℕ) (p' : ℕ) → slot ≡ P .slot j → x ≡ v (P .slot j)
           → d' ≡ sets d p (le 8 slot ++ le 4 x) → p' ≡ p + 12 → EntriesLeft (P .n) v d₀ p₀ (lowestSlot P (j + 1)) d' p'
-      entries-entry far slot x d' p' at is put next =
-          rw (add-one j) (entries-more entries-slot (entry-good P s j here .inside) far x d' p' is (rw at at put) next)
+      entries-entry overflows slot x d' p' at is put next =
+          rw (add-one j) (entries-more entries-slot (entry-good P s j here .inside) overflows x d' p' is (rw at at put) next)
 
       pub entries-pass : v (P .slot j) < 255 → EntriesLeft (P .n) v d₀ p₀ (lowestSlot P (j + 1)) d p
       entries-pass inline = rw (add-one j) (entries-skip entries-slot (entry-good P s j here .inside) inline)

@@ -3,8 +3,8 @@
 --   mended-start, -more, -end    before the first entry, one entry on, and after the last
 --   Settled A v d₀ j d p  the same where the overflow entries of v are written too, and those of the slots past the first
 --                         j entries of A are left to write from p on
---   settled-start, -byte, -room, -more, -pass, -end
---                         before the first entry; a byte is put right, and there is room for its entry, which is written, or
+--   settled-start, -byte, -space, -more, -pass, -end
+--                         before the first entry; a byte is put right, and there is space for its entry, which is written, or
 --                         there is none; after the last
 --   settled-over          what the primary array was before does not matter
 -- Axioms: none.
@@ -57,7 +57,7 @@ module _ (A : Parts) (s : SoundParts A) (bytes : (i : ℕ) → A .byte i < 256) 
     up-to i inside h =
         elim (decLe slot i) [
           | yes last ↦ (let e : i ≡ slot = omega arith in
-              rw e (getD-set-same d (40 + slot) x 0 (omega (arith, m .inline .room)) ∙ is ∙ ap (λ (u : ℕ). primaryByte (v u)) (sym at)))
+              rw e (getD-set-same d (40 + slot) x 0 (omega (arith, m .inline .space)) ∙ is ∙ ap (λ (u : ℕ). primaryByte (v u)) (sym at)))
           | no last ↦ other i (λ q. omega arith) (between i (omega arith) (λ more. omega arith) inside)
         ]
 
@@ -71,7 +71,7 @@ module _ (A : Parts) (s : SoundParts A) (bytes : (i : ℕ) → A .byte i < 256) 
               ∙ sym (sets-set-inside (primary (A .n) v) d 40 (40 + slot) x (omega arith) (omega (arith, length-primary (A .n) v)));
           inline =
               record {
-                room = simp length-set (m .inline .room);
+                space = simp length-set (m .inline .space);
                 right = λ i h small.
                     other i (λ q. omega (arith, ap (A .byte) (q ∙ at), good .marked)) (m .inline .right i h small);
               };
@@ -98,7 +98,7 @@ entries-patch {n} {v} {d₀} {p₀} {i} {d} {p} e q x h =
       size = simp length-set (e .size);
       low = e .low;
       count = e .count;
-      room = simp length-set (e .room);
+      space = simp length-set (e .space);
       rest = sym (set-before-sets (entriesFrom n v 0) d₀ q p₀ x h)
           ∙ ap (λ (l : List ℕ). set l q x) (e .rest)
           ∙ set-before-sets (entriesFrom n v i) d q p x (omega (arith, e .low));
@@ -112,15 +112,15 @@ pub record Settled (A : Parts) (v : ℕ → ℕ) (d₀ : List ℕ) (j : ℕ) (d 
 
 pub settled-start : (A : Parts) (v : ℕ → ℕ) (d : List ℕ) → InlineRight A v d → 40 + A .n + 12 * overflowCount (A .n) v ≤ length d
     → Settled A v d 0 d (40 + A .n)
-settled-start A v d right room =
-    record { bytes = d; mended = mended-start A v d right; left = entries-start (A .n) v d (40 + A .n) room }
+settled-start A v d right space =
+    record { bytes = d; mended = mended-start A v d right; left = entries-start (A .n) v d (40 + A .n) space }
 
 pub settled-size : (A : Parts) (v : ℕ → ℕ) (d₀ : List ℕ) (j : ℕ) (d : List ℕ) (p : ℕ) → Settled A v d₀ j d p → length d ≡ length d₀
 settled-size A v d₀ j d p e = e .left .size ∙ e .mended .size
 
 pub settled-byte : (A : Parts) (v : ℕ → ℕ) (d₀ : List ℕ) (j : ℕ) (d : List ℕ) (p i : ℕ) → Settled A v d₀ j d p → i < A .n
     → 40 + i < length d
-settled-byte A v d₀ j d p i e h = omega (arith, e .left .size, e .mended .inline .room)
+settled-byte A v d₀ j d p i e h = omega (arith, e .left .size, e .mended .inline .space)
 
 module _ (A : Parts) (s : SoundParts A) (bytes : (i : ℕ) → A .byte i < 256) (v : ℕ → ℕ)
     (led : (i : ℕ) → i < A .n → A .byte i < 255 → v i < 255) (d₀ : List ℕ) (j : ℕ) (d : List ℕ) (p : ℕ) (e : Settled A v d₀ j d p) where
@@ -131,16 +131,16 @@ module _ (A : Parts) (s : SoundParts A) (bytes : (i : ℕ) → A .byte i < 256) 
     patched : EntriesLeft (A .n) v (set (e .bytes) (40 + slot) x) (40 + A .n) (lowestSlot A j) (set d (40 + slot) x) p
     patched = entries-patch (e .left) (40 + slot) x (omega (arith, entry-good A s j here .inside))
 
-    pub settled-room : 255 ≤ v (A .slot j) → p + 12 ≤ length (set d (40 + slot) x)
-    settled-room far = entries-fit A s bytes v led j here patched far
+    pub settled-space : 255 ≤ v (A .slot j) → p + 12 ≤ length (set d (40 + slot) x)
+    settled-space overflows = entries-fit A s bytes v led j here patched overflows
 
     pub settled-more : 255 ≤ v (A .slot j) → (y : ℕ) (d' : List ℕ) (p' : ℕ) → y ≡ v (A .slot j)
         → d' ≡ sets (set d (40 + slot) x) p (le 8 slot ++ le 4 y) → p' ≡ p + 12 → Settled A v d₀ (j + 1) d' p'
-    settled-more far y d' p' same put past =
+    settled-more overflows y d' p' same put past =
         record {
           bytes = set (e .bytes) (40 + slot) x;
           mended = next;
-          left = entries-entry A s bytes v led j here patched far slot y d' p' at same put past;
+          left = entries-entry A s bytes v led j here patched overflows slot y d' p' at same put past;
         }
 
     pub settled-pass : v (A .slot j) < 255 → Settled A v d₀ (j + 1) (set d (40 + slot) x) p

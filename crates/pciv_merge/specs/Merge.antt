@@ -3,7 +3,7 @@
 --   combinedBytes o A B i    the operation o on the primary bytes of slot i
 --   resultOf o a b n ka kb   the result of a routine on two files
 --   partsPut n v d           the buffer d with the primary array and the overflow entries of v in their places
---   combinedInto o .. room   the file of the combination into a buffer of `room` bytes: its summary, or refusal 12
+--   combinedInto o .. capacity   the file of the combination into a buffer of `capacity` bytes: its summary, or refusal 12
 --   combinedBuffer o .. out  the buffer after that
 --   Shrinks o                the result is never above the first distance
 --   Before P i t             the entries before entry t of P have slots below i
@@ -50,7 +50,7 @@ abbrev pub partsPut : ℕ → (ℕ → ℕ) → List ℕ → List ℕ
 partsPut n v d = sets (sets d 40 (primary n v)) (40 + n) (overflowPart n v)
 
 abbrev pub combinedInto : MergeOp → List ℕ → List ℕ → ℕ → ℕ → ℕ → ℕ → Outcome Summary
-combinedInto o a b n ka kb room = fileInto n (resultOf o a b n ka kb) room
+combinedInto o a b n ka kb capacity = fileInto n (resultOf o a b n ka kb) capacity
 
 abbrev pub combinedBuffer : MergeOp → List ℕ → List ℕ → ℕ → ℕ → ℕ → List ℕ → List ℕ
 combinedBuffer o a b n ka kb out =
@@ -75,5 +75,5 @@ pub record CombinedAt (o : SlotOp) (A B : Parts) (j : ℕ) (r : Combined) : Type
   pub before : Before B (A .slot j + 1) (r .next)
 
 pub record InlineRight (A : Parts) (v : ℕ → ℕ) (d : List ℕ) : Type 0 where
-  pub room : 40 + A .n ≤ length d
+  pub space : 40 + A .n ≤ length d
   pub right : (i : ℕ) → i < A .n → A .byte i < 255 → getD d (40 + i) 0 ≡ primaryByte (v i)

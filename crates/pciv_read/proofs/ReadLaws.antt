@@ -15,7 +15,7 @@ use Rattle.pciv_format.specs.Layout.{fileLen, countsOf, at}
 use Rattle.pciv_format.specs.Refusals.{done, refused, refuse, refuseFirst, written}
 use Rattle.pciv_format.specs.Parts.{valueOf}
 use Rattle.pciv_format.specs.Check.{nField, fileParts, checkFile, CheckedMap}
-use Rattle.pciv_format.specs.Read.{listOf, onlyDone, primaryPart, lookupOutcome, itemsInto, lookupListOutcome, lookupListBuffer, scanOutcome, scanBuffer, sumOutcome, readingsOutcome}
+use Rattle.pciv_format.specs.Read.{listOf, primaryPart, behind, primaryPlace, lookupOutcome, itemsInto, lookupListOutcome, lookupListBuffer, scanOutcome, scanBuffer, sumOutcome, readingsOutcome}
 use Rattle.pciv_format.specs.declared.Summary.{Summary}
 use Rattle.pciv_format.specs.declared.Refusal.{Refusal}
 use Rattle.pciv_format.proofs.RefusalsLaws.{refuseFirst-none, refuseFirst-some}
@@ -29,11 +29,11 @@ map-cong f g (x ∷ xs) same =
 
 -- ---- items that fit
 
-pub items-fit : (c room : ℕ) → c ≤ room → itemsInto c room ≡ done c
-items-fit c room h = rw (le-ltb room c h)
+pub items-fit : (c capacity : ℕ) → c ≤ capacity → itemsInto c capacity ≡ done c
+items-fit c capacity h = rw (le-ltb capacity c h)
 
-pub items-short : (c room : ℕ) → room < c → itemsInto c room ≡ refuse 12 0 0
-items-short c room h = rw (lt-ltb room c h)
+pub items-short : (c capacity : ℕ) → capacity < c → itemsInto c capacity ≡ refuse 12 0 0
+items-short c capacity h = rw (lt-ltb capacity c h)
 
 -- ---- the file is refused
 
@@ -42,17 +42,21 @@ module _ (b : List ℕ) (r : Refusal) (e : checkFile 1 b ≡ refused r) where
   unfolding primaryPart
   primary-refused = rw e
 
+  pub place-refused : (p : ℕ × ℕ) → primaryPlace b p ≡ behind 0 p
+  unfolding primaryPlace
+  place-refused p = rw e
+
   pub lookup-refused : (slot : ℕ) → lookupOutcome b slot ≡ refused r
   unfolding lookupOutcome
   lookup-refused slot = rw e
 
-  pub list-refused : (slots : List ℕ) (room : ℕ) → lookupListOutcome b slots room ≡ refused r
+  pub list-refused : (slots : List ℕ) (capacity : ℕ) → lookupListOutcome b slots capacity ≡ refused r
   unfolding lookupListOutcome
-  list-refused slots room = rw e
+  list-refused slots capacity = rw e
 
-  pub scan-refused : (room : ℕ) → scanOutcome b room ≡ refused r
+  pub scan-refused : (capacity : ℕ) → scanOutcome b capacity ≡ refused r
   unfolding scanOutcome
-  scan-refused room = rw e
+  scan-refused capacity = rw e
 
   pub sum-refused : sumOutcome b ≡ refused r
   unfolding sumOutcome
@@ -75,6 +79,10 @@ module _ (b : List ℕ) (s : Summary) (e : checkFile 1 b ≡ done s) where
   unfolding primaryPart
   primary-done = rw e (ap (λ (n : ℕ). take n (drop 40 b)) (checked .header .nIs))
 
+  pub place-done : (p : ℕ × ℕ) → primaryPlace b p ≡ behind 40 p
+  unfolding primaryPlace
+  place-done p = rw e
+
   pub lookup-outside : (slot : ℕ) → s .n ≤ slot → lookupOutcome b slot ≡ refuse 9 0 0
   unfolding lookupOutcome
   lookup-outside slot h = rw (e, le-leb (s .n) slot h)
@@ -85,10 +93,10 @@ module _ (b : List ℕ) (s : Summary) (e : checkFile 1 b ≡ done s) where
 
   -- a list of slots
   module _ (slots : List ℕ) where
-    pub list-outside : (room place : ℕ) → place ≡ firstBelow (λ (i : ℕ). leb (s .n) (getD slots i 0)) (length slots)
-        → place < length slots → lookupListOutcome b slots room ≡ refuse 9 0 place
+    pub list-outside : (capacity place : ℕ) → place ≡ firstBelow (λ (i : ℕ). leb (s .n) (getD slots i 0)) (length slots)
+        → place < length slots → lookupListOutcome b slots capacity ≡ refuse 9 0 place
     unfolding lookupListOutcome
-    list-outside room place is h =
+    list-outside capacity place is h =
         rw e (refuseFirst-some 9 0 (λ (i : ℕ). leb (s .n) (getD slots i 0)) (length slots) place _ is h)
 
     module _ (all : length slots ≤ firstBelow (λ (i : ℕ). leb (s .n) (getD slots i 0)) (length slots)) where
@@ -98,15 +106,15 @@ module _ (b : List ℕ) (s : Summary) (e : checkFile 1 b ≡ done s) where
       pub list-inside : (i : ℕ) → i < length slots → getD slots i 0 < s .n
       list-inside i h = leb-false (s .n) (getD slots i 0) (none i h)
 
-      items : (room : ℕ) → lookupListOutcome b slots room ≡ itemsInto (length slots) room
+      items : (capacity : ℕ) → lookupListOutcome b slots capacity ≡ itemsInto (length slots) capacity
       unfolding lookupListOutcome
-      items room = rw e (refuseFirst-none 9 0 (λ (i : ℕ). leb (s .n) (getD slots i 0)) (length slots) _ none)
+      items capacity = rw e (refuseFirst-none 9 0 (λ (i : ℕ). leb (s .n) (getD slots i 0)) (length slots) _ none)
 
-      pub list-short : (room : ℕ) → room < length slots → lookupListOutcome b slots room ≡ refuse 12 0 0
-      list-short room h = items room ∙ items-short (length slots) room h
+      pub list-short : (capacity : ℕ) → capacity < length slots → lookupListOutcome b slots capacity ≡ refuse 12 0 0
+      list-short capacity h = items capacity ∙ items-short (length slots) capacity h
 
-      pub list-done : (room : ℕ) → length slots ≤ room → lookupListOutcome b slots room ≡ done (length slots)
-      list-done room h = items room ∙ items-fit (length slots) room h
+      pub list-done : (capacity : ℕ) → length slots ≤ capacity → lookupListOutcome b slots capacity ≡ done (length slots)
+      list-done capacity h = items capacity ∙ items-fit (length slots) capacity h
 
       pub list-buffer : (out : List ℕ) → length slots ≤ length out
           → sets out 0 (map (valueOf (fileParts b (s .n) (s .k))) slots) ≡ lookupListBuffer b slots out
@@ -118,13 +126,13 @@ module _ (b : List ℕ) (s : Summary) (e : checkFile 1 b ≡ done s) where
           rw (list-done (length out) h, same) (sets-front (map f slots) out (rw length-map h))
 
   -- all slots
-  pub scan-short : (room : ℕ) → room < s .n → scanOutcome b room ≡ refuse 12 0 0
+  pub scan-short : (capacity : ℕ) → capacity < s .n → scanOutcome b capacity ≡ refuse 12 0 0
   unfolding scanOutcome
-  scan-short room h = rw e (items-short (s .n) room h)
+  scan-short capacity h = rw e (items-short (s .n) capacity h)
 
-  pub scan-done : (room : ℕ) → s .n ≤ room → scanOutcome b room ≡ done (s .n)
+  pub scan-done : (capacity : ℕ) → s .n ≤ capacity → scanOutcome b capacity ≡ done (s .n)
   unfolding scanOutcome
-  scan-done room h = rw e (items-fit (s .n) room h)
+  scan-done capacity h = rw e (items-fit (s .n) capacity h)
 
   pub scan-buffer : (out : List ℕ) → s .n ≤ length out
       → sets out 0 (table (valueOf (fileParts b (s .n) (s .k))) 0 (s .n)) ≡ scanBuffer b out

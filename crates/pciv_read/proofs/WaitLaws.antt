@@ -30,12 +30,12 @@ pub record Waits (P : Parts) (xs d₀ d ps : List ℕ) (c i : ℕ) : Type 0 wher
   pub reached : i ≤ length xs
   pub same : length d ≡ length d₀
   pub eight : length ps ≡ 8
-  pub far : OverflowPlaces P xs i ps c
+  pub overflows : OverflowPlaces P xs i ps c
   pub rest : sets d₀ 0 (map (valueOf P) xs)
       ≡ setsAt (distanceAt P xs) (take c ps) (sets d i (drop i (map (valueOf P) xs)))
 
-far-later : {P : Parts} {xs : List ℕ} {b b' p p' : ℕ} → p' ≡ p → b ≤ b' → OverflowPlace P xs b p → OverflowPlace P xs b' p'
-far-later e h f = rw e (record { before = omega (arith, f .before); inside = f .inside; far = f .far })
+overflow-later : {P : Parts} {xs : List ℕ} {b b' p p' : ℕ} → p' ≡ p → b ≤ b' → OverflowPlace P xs b p → OverflowPlace P xs b' p'
+overflow-later e h f = rw e (record { before = omega (arith, f .before); inside = f .inside; overflows = f .overflows })
 
 module _ (P : Parts) (sound : SoundParts P) (xs d₀ : List ℕ) (inside : (i : ℕ) → i < length xs → getD xs i 0 < P .n) where
   pub waits-start : Waits P xs d₀ d₀ (replicate 8 0) 0 0
@@ -44,14 +44,14 @@ module _ (P : Parts) (sound : SoundParts P) (xs d₀ : List ℕ) (inside : (i : 
         reached = omega arith;
         same = refl;
         eight = refl;
-        far = record { long = omega arith; each = λ q h. absurd (omega arith) };
+        overflows = record { long = omega arith; each = λ q h. absurd (omega arith) };
         rest = sym (setsAt-none (distanceAt P xs) _);
       }
 
   module _ (d ps : List ℕ) (c i : ℕ) (w : Waits P xs d₀ d ps c i) where
     -- the places before the next one
-    far-kept : (q : ℕ) → q < c → OverflowPlace P xs (i + 1) (getD (set ps c i) q 0)
-    far-kept q h = far-later (getD-set-other ps c q i 0 (λ e. omega arith)) (omega arith) (w .far .each q h)
+    overflow-kept : (q : ℕ) → q < c → OverflowPlace P xs (i + 1) (getD (set ps c i) q 0)
+    overflow-kept q h = overflow-later (getD-set-other ps c q i 0 (λ e. omega arith)) (omega arith) (w .overflows .each q h)
 
     module _ (few : c < 8) (more : i < length xs) where
       -- the distance at place i is the next to be written
@@ -72,12 +72,12 @@ module _ (P : Parts) (sound : SoundParts P) (xs d₀ : List ℕ) (inside : (i : 
             reached = omega arith;
             same = simp length-set (w .same);
             eight = simp length-set (w .eight);
-            far = record { long = simp length-set (w .far .long); each = far-kept };
+            overflows = record { long = simp length-set (w .overflows .long); each = overflow-kept };
             rest = rw (take-set-le c ps c i (omega arith)) (rw value at rest-more);
           }
 
-      waits-far : (x : ℕ) → x ≡ P .byte (getD xs i 0) → x ≡ 255 → Waits P xs d₀ (set d i x) (set ps c i) (c + 1) (i + 1)
-      waits-far x is full =
+      waits-overflow : (x : ℕ) → x ≡ P .byte (getD xs i 0) → x ≡ 255 → Waits P xs d₀ (set d i x) (set ps c i) (c + 1) (i + 1)
+      waits-overflow x is full =
           let l : List ℕ = map (valueOf P) xs in
           let g : ℕ → ℕ = distanceAt P xs in
           let tail : List ℕ = drop (i + 1) l in
@@ -86,15 +86,15 @@ module _ (P : Parts) (sound : SoundParts P) (xs d₀ : List ℕ) (inside : (i : 
             reached = omega arith;
             same = simp length-set (w .same);
             eight = simp length-set (w .eight);
-            far = record {
+            overflows = record {
               long = simp length-set (omega (arith, w .eight));
               each = λ q h.
                   elim (decLe c q) [
                     | yes e ↦ (let here : q ≡ c = omega arith in
                         rw here
-                        (far-later {b = i + 1} (getD-set-same ps c i 0 long) (omega arith)
-                        (record { before = omega arith; inside = inside i more; far = sym is ∙ full })))
-                    | no e ↦ far-kept q (omega arith)
+                        (overflow-later {b = i + 1} (getD-set-same ps c i 0 long) (omega arith)
+                        (record { before = omega arith; inside = inside i more; overflows = sym is ∙ full })))
+                    | no e ↦ overflow-kept q (omega arith)
                   ];
             };
             rest = rest-more
@@ -107,12 +107,12 @@ module _ (P : Parts) (sound : SoundParts P) (xs d₀ : List ℕ) (inside : (i : 
           → Waits P xs d₀ (set d i x) (set ps c i) (c + flag (eqb x 255)) (i + 1)
       waits-more x is byte =
           elim (decLe 255 x) [
-            | yes h ↦ (let full : x ≡ 255 = omega arith in rw (eq-eqb x 255 full) (waits-far x is full))
+            | yes h ↦ (let full : x ≡ 255 = omega arith in rw (eq-eqb x 255 full) (waits-overflow x is full))
             | no h ↦ rw (ne-eqb x 255 (λ e. omega arith), add-zero c) (waits-inline x is (omega arith))
           ]
 
     pub waits-places : OverflowPlaces P xs (length xs) ps c
-    waits-places = record { long = w .far .long; each = λ q h. far-later refl (w .reached) (w .far .each q h) }
+    waits-places = record { long = w .overflows .long; each = λ q h. overflow-later refl (w .reached) (w .overflows .each q h) }
 
     -- the places are filled
     rest-filled : (d' : List ℕ) → d' ≡ setsAt (distanceAt P xs) (take c ps) d
@@ -122,8 +122,8 @@ module _ (P : Parts) (sound : SoundParts P) (xs d₀ : List ℕ) (inside : (i : 
         w .rest
         ∙ setsAt-sets g (take c ps) d (drop i (map (valueOf P) xs)) i
         (λ q h.
-        (let hc : q < c = rw (length-take-le c ps (w .far .long)) at h in
-        rw (getD-take c ps q 0 hc) (w .far .each q hc .before)))
+        (let hc : q < c = rw (length-take-le c ps (w .overflows .long)) at h in
+        rw (getD-take c ps q 0 hc) (w .overflows .each q hc .before)))
         ∙ ap (λ (m : List ℕ). sets m i (drop i (map (valueOf P) xs))) (sym e)
 
     pub waits-filled : (d' : List ℕ) → length d' ≡ length d → d' ≡ setsAt (distanceAt P xs) (take c ps) d
@@ -133,7 +133,7 @@ module _ (P : Parts) (sound : SoundParts P) (xs d₀ : List ℕ) (inside : (i : 
           reached = w .reached;
           same = same ∙ w .same;
           eight = w .eight;
-          far = record { long = omega arith; each = λ q h. absurd (omega arith) };
+          overflows = record { long = omega arith; each = λ q h. absurd (omega arith) };
           rest = rest-filled d' e ∙ sym (setsAt-none (distanceAt P xs) _);
         }
 

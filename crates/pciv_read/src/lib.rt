@@ -3,16 +3,17 @@
 // A refused call changes no byte, and what follows a result in the caller's list stays as it was.
 ghost use mathlib.Core.Path.{_≡_};
 ghost use mathlib.Core.List.{map};
-ghost use Prim.Native.Nat.{ℕ, _≤_, _<_};
-ghost use lib.ListN.{length, getD};
+ghost use Prim.Native.Nat.{ℕ, _+_, _≤_, _<_};
+ghost use lib.ListN.{length, getD, take, drop};
 ghost use lib.Seq.{sets};
 ghost use lib.Dec.{leb};
+ghost use denote.Ref.{ptr};
 ghost use Rattle.pciv_bytes.specs.Ranges.{firstBelow};
 ghost use Rattle.pciv_format.specs.Layout.{at};
 ghost use Rattle.pciv_format.specs.Refusals.{refuse, numberAnswer, distanceAnswer};
 ghost use Rattle.pciv_format.specs.Parts.{valueOf};
 ghost use Rattle.pciv_format.specs.Check.{fileParts, CheckedMap};
-ghost use Rattle.pciv_format.specs.Read.{primaryPart, lookupOutcome, lookupListOutcome, lookupListBuffer, scanOutcome, scanBuffer, sumOutcome, readingsOutcome};
+ghost use Rattle.pciv_format.specs.Read.{primaryPart, behind, primaryPlace, lookupOutcome, lookupListOutcome, lookupListBuffer, scanOutcome, scanBuffer, sumOutcome, readingsOutcome};
 use pciv_check::check;
 use pciv_format::BUFFER_TOO_SMALL;
 use pciv_format::DistanceAnswer;
@@ -40,17 +41,28 @@ fn refused(number: usize, place: usize) -> NumberAnswer
     })
 }
 
-// The map's own primary bytes, a part of the caller's file; a part of length 0 where the check refuses the file.
+// The `len` bytes from `start` on, as a part of the file.
+fn part(file: &[u8], start: usize, len: usize) -> &[u8]
+    requires { ⌜ start + len ≤ length (now file) ⌝ }
+    ensures bytes { λ r. ⌜ now r ≡ take len (drop start (now (file .entry))) ⌝ }
+    ensures place { λ r. ⌜ ptr r ≡ behind start (ptr (file .entry)) ⌝ }
+{
+    let end = start + len;
+    &file[start..end]
+}
+
+// The map's own primary bytes, the part of the caller's file from byte 40 on. Refusals: none; where the check refuses
+// the file, the part of length 0 at the file's start.
 pub fn primary(file: &[u8]) -> &[u8]
     ensures part { λ r. ⌜ now r ≡ primaryPart (now (file .entry)) ⌝ }
+    ensures place { λ r. ⌜ ptr r ≡ primaryPlace (now (file .entry)) (ptr (file .entry)) ⌝ }
 {
-    let checked = check(file, 1);
+    let checked = check(file);
     match checked {
-        FileAnswer::Refused(_) => &file[..0],
+        FileAnswer::Refused(_) => part(file, 0, 0),
         FileAnswer::Done(s) => {
             let n = s.n;
-            let end = HEADER_LEN + n;
-            &file[HEADER_LEN..end]
+            part(file, HEADER_LEN, n)
         }
     }
 }
@@ -59,7 +71,7 @@ pub fn primary(file: &[u8]) -> &[u8]
 pub fn lookup(file: &[u8], slot: usize) -> DistanceAnswer
     ensures answer { λ r. ⌜ r ≡ distanceAnswer (lookupOutcome (now (file .entry)) slot) ⌝ }
 {
-    let checked = check(file, 1);
+    let checked = check(file);
     match checked {
         FileAnswer::Refused(r) => DistanceAnswer::Refused(r),
         FileAnswer::Done(s) => {
@@ -122,7 +134,7 @@ pub fn lookup_list(file: &[u8], slots: &[usize], out: &mut [u32]) -> NumberAnswe
     ensures answer { λ r. ⌜ r ≡ numberAnswer (lookupListOutcome (now (file .entry)) (now (slots .entry)) (length (now (out .entry)))) ⌝ }
     ensures buffer { λ _. ⌜ now (out .exit) ≡ lookupListBuffer (now (file .entry)) (now (slots .entry)) (now (out .entry)) ⌝ }
 {
-    let checked = check(file, 1);
+    let checked = check(file);
     match checked {
         FileAnswer::Refused(r) => NumberAnswer::Refused(r),
         FileAnswer::Done(s) => {
@@ -146,7 +158,7 @@ pub fn scan(file: &[u8], out: &mut [u32]) -> NumberAnswer
     ensures answer { λ r. ⌜ r ≡ numberAnswer (scanOutcome (now (file .entry)) (length (now (out .entry)))) ⌝ }
     ensures buffer { λ _. ⌜ now (out .exit) ≡ scanBuffer (now (file .entry)) (now (out .entry)) ⌝ }
 {
-    let checked = check(file, 1);
+    let checked = check(file);
     match checked {
         FileAnswer::Refused(r) => NumberAnswer::Refused(r),
         FileAnswer::Done(s) => {
@@ -165,7 +177,7 @@ pub fn scan(file: &[u8], out: &mut [u32]) -> NumberAnswer
 pub fn sum(file: &[u8]) -> NumberAnswer
     ensures answer { λ r. ⌜ r ≡ numberAnswer (sumOutcome (now (file .entry))) ⌝ }
 {
-    let checked = check(file, 1);
+    let checked = check(file);
     match checked {
         FileAnswer::Refused(r) => NumberAnswer::Refused(r),
         FileAnswer::Done(s) => {
@@ -180,7 +192,7 @@ pub fn sum(file: &[u8]) -> NumberAnswer
 pub fn readings(file: &[u8]) -> NumberAnswer
     ensures answer { λ r. ⌜ r ≡ numberAnswer (readingsOutcome (now (file .entry))) ⌝ }
 {
-    let checked = check(file, 1);
+    let checked = check(file);
     match checked {
         FileAnswer::Refused(r) => NumberAnswer::Refused(r),
         FileAnswer::Done(s) => {

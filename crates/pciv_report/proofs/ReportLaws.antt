@@ -188,13 +188,13 @@ reportText-le b = go (refuseIf (ltb 65536 (length b)) (refuse 12 0 0) (checkFile
 -- ---- the buffer
 
 -- what was written fits the buffer
-pub reportOutcome-le : (b : List ℕ) (room x : ℕ) → reportOutcome b room ≡ done x → x ≤ room
+pub reportOutcome-le : (b : List ℕ) (capacity x : ℕ) → reportOutcome b capacity ≡ done x → x ≤ capacity
 unfolding reportOutcome
-reportOutcome-le b room x e =
+reportOutcome-le b capacity x e =
     let c = length (reportText b) in
-    let fits = refuseIf-done (ltb room c) _ (done c) x e in
+    let fits = refuseIf-done (ltb capacity c) _ (done c) x e in
     let same : c ≡ x = cc (fits .1) in
-    omega (arith, ltb-false room c (fits .0))
+    omega (arith, ltb-false capacity c (fits .0))
 
 -- a buffer of 160 bytes is never too short
 pub report-written : (b : List ℕ) (capacity : ℕ) → maxText ≤ capacity

@@ -88,7 +88,7 @@ fn put_report(out: &mut [u8], input: &[u8]) -> usize
     if MAX_INPUT < input.len() {
         return put_refusal(out, TOO_LONG);
     }
-    match check(input, 1) {
+    match check(input) {
         FileAnswer::Done(s) => put_map(out, s, number_of(sum(input)), number_of(readings(input))),
         FileAnswer::Refused(r) => put_refusal(out, r),
     }

@@ -134,12 +134,12 @@ pub flip-front : (d : List ℕ) (n : ℕ) (p : ℕ → Bool) (s : ℕ) (b : Bool
     ≡ sets d 0 (maskOf n (flipAt p s b))
 flip-front d n p s b x e long h =
     let ws : List ℕ = maskOf n p in
-    let room : 0 + length ws ≤ length d = rw (zero-add (length ws), length-maskOf n p) long in
+    let space : 0 + length ws ≤ length d = rw (zero-add (length ws), length-maskOf n p) long in
     let inside : s / 64 < length ws = rw (length-maskOf n p) (omega arith) in
     let old : getD (sets d 0 ws) (s / 64) 0 ≡ getD ws (s / 64) 0 =
-    rw (zero-add (s / 64)) at (sets-at d ws 0 (s / 64) 0 room inside) in
+    rw (zero-add (s / 64)) at (sets-at d ws 0 (s / 64) 0 space inside) in
     ap₂ (λ (y z : ℕ). set (sets d 0 ws) (s / 64) (bitXor y (z * 2 ^ (s % 64) % 2 ^ 64))) old e
-    ∙ (rw (zero-add (s / 64)) at (set-sets d ws 0 (s / 64) (flipped ws s b) room inside))
+    ∙ (rw (zero-add (s / 64)) at (set-sets d ws 0 (s / 64) (flipped ws s b) space inside))
     ∙ ap (sets d 0) (maskOf-flip n p s b h)
 
 -- a mask over another, at the front of d

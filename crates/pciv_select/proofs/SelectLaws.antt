@@ -69,7 +69,7 @@ byte-below : (P : Parts) → SoundParts P → ((i : ℕ) → P .byte i < 256) �
     → (i : ℕ) → i < P .n → ltb (P .byte i) limit ≡ ltb (valueOf P i) limit
 byte-below P s bytes limit low i inside =
     slot-cases P s bytes i inside (λ small e. ap (λ (x : ℕ). ltb x limit) (sym e))
-    (λ j hj at e w far. le-ltb (P .byte i) limit (omega arith) ∙ sym (le-ltb (valueOf P i) limit (omega arith)))
+    (λ j hj at e w overflows. le-ltb (P .byte i) limit (omega arith) ∙ sym (le-ltb (valueOf P i) limit (omega arith)))
 
 -- the mask of the primary bytes is that of the distances
 pub bytes-selected : (b : List ℕ) (n k : ℕ) → CheckedMap b n k → Bytes b → (limit : ℕ) (negated : Bool) → limit ≤ 255
@@ -98,17 +98,17 @@ module _ (p : ℕ → Bool) (b out : List ℕ) where
 
 -- ---- the file is refused
 
-pub select-refused : (b : List ℕ) (r : Refusal) → checkFile 1 b ≡ refused r → (room : ℕ) → selectOutcome b room ≡ refused r
-select-refused b r e room = rw e
+pub select-refused : (b : List ℕ) (r : Refusal) → checkFile 1 b ≡ refused r → (capacity : ℕ) → selectOutcome b capacity ≡ refused r
+select-refused b r e capacity = rw e
 
 -- ---- the file is a map
 
 module _ (b : List ℕ) (s : Summary) (e : checkFile 1 b ≡ done s) where
-  pub select-short : (room : ℕ) → room < maskLen (s .n) → selectOutcome b room ≡ refuse 12 0 0
-  select-short room h = rw e (items-short (maskLen (s .n)) room h)
+  pub select-short : (capacity : ℕ) → capacity < maskLen (s .n) → selectOutcome b capacity ≡ refuse 12 0 0
+  select-short capacity h = rw e (items-short (maskLen (s .n)) capacity h)
 
-  pub select-done : (room : ℕ) → maskLen (s .n) ≤ room → selectOutcome b room ≡ done (maskLen (s .n))
-  select-done room h = rw e (items-fit (maskLen (s .n)) room h)
+  pub select-done : (capacity : ℕ) → maskLen (s .n) ≤ capacity → selectOutcome b capacity ≡ done (maskLen (s .n))
+  select-done capacity h = rw e (items-fit (maskLen (s .n)) capacity h)
 
   pub words-done : (p : ℕ → Bool) (out : List ℕ) → maskLen (s .n) ≤ length out
       → sets out 0 (maskOf (s .n) (λ (i : ℕ). p (valueOf (fileParts b (s .n) (s .k)) i))) ≡ selectWords p b out

@@ -68,7 +68,7 @@ fn select(file: &[u8], limit: u64, negated: bool, out: &mut [u64]) -> NumberAnsw
     ensures answer { λ r. ⌜ r ≡ numberAnswer (selectOutcome (now (file .entry)) (length (now (out .entry)))) ⌝ }
     ensures words { λ _. ⌜ now (out .exit) ≡ selectWords (passes limit negated) (now (file .entry)) (now (out .entry)) ⌝ }
 {
-    let checked = check(file, 1);
+    let checked = check(file);
     match checked {
         FileAnswer::Refused(r) => NumberAnswer::Refused(r),
         FileAnswer::Done(s) => {

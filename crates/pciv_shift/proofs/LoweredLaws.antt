@@ -54,11 +54,11 @@ module _ (b : List ℕ) (n k m : ℕ) (c : CheckedMap b n k) (bytes : Bytes b) w
       → (let P = fileParts b n k in
       set (sets d 40 (patched (lowByte m) P j)) (40 + P .slot j) (primaryByte (P .distance j - m))
       ≡ sets d 40 (patched (lowByte m) P (j + 1)))
-  bytes-more j d here room =
+  bytes-more j d here space =
       let P : Parts = fileParts b n k in
       let long : length (patched (lowByte m) P j) ≡ n = length-patched (lowByte m) P j in
       let inside : P .slot j < n = entry-good P (c .parts) j here .inside in
-      set-sets d (patched (lowByte m) P j) 40 (P .slot j) (primaryByte (P .distance j - m)) (rw long room) (rw long inside)
+      set-sets d (patched (lowByte m) P j) 40 (P .slot j) (primaryByte (P .distance j - m)) (rw long space) (rw long inside)
       ∙ ap (sets d 40) (sym (patched-more (lowByte m) P (c .parts) (λ i. bytes (40 + i)) j here))
 
   pub bytes-end : patched (lowByte m) (fileParts b n k) k ≡ primary n (loweredAt (fileParts b n k) m)
@@ -69,10 +69,10 @@ module _ (b : List ℕ) (n k m : ℕ) (c : CheckedMap b n k) (bytes : Bytes b) w
   pub bytes-again : (j t : ℕ) (d : List ℕ) → 40 + n ≤ length d
       → (let P = fileParts b n k in
       sets (sets d 40 (patched (lowByte m) P t)) 40 (patched (lowByte m) P j) ≡ sets d 40 (patched (lowByte m) P j))
-  bytes-again j t d room =
+  bytes-again j t d space =
       let P : Parts = fileParts b n k in
       let one : length (patched (lowByte m) P t) ≡ n = length-patched (lowByte m) P t in
-      sets-again d (patched (lowByte m) P t) (patched (lowByte m) P j) 40 (one ∙ sym (length-patched (lowByte m) P j)) (rw one room)
+      sets-again d (patched (lowByte m) P t) (patched (lowByte m) P j) 40 (one ∙ sym (length-patched (lowByte m) P j)) (rw one space)
 
 -- ---- along the overflow entries, from the least slot that entry j may have on
 
@@ -100,7 +100,7 @@ module _ (P : Parts) (s : SoundParts P) (bytes : (i : ℕ) → P .byte i < 256) 
         counted-gap c (P .slot j) (good .above) (omega (arith, good .inside)) (before j here)
 
     pub lowered-counted : 255 ≤ P .distance j - m → Counted (P .n) (loweredAt P m) (lowestSlot P (j + 1)) (count + 1)
-    lowered-counted far =
+    lowered-counted overflows =
         rw add-one (counted-more at-slot (entry-good P s j here .inside) (omega (arith, value j here)))
 
     pub lowered-uncounted : P .distance j - m < 255 → Counted (P .n) (loweredAt P m) (lowestSlot P (j + 1)) count
@@ -119,13 +119,13 @@ module _ (P : Parts) (s : SoundParts P) (bytes : (i : ℕ) → P .byte i < 256) 
         let good = entry-good P s j here in
         entries-gap e (P .slot j) (good .above) (omega (arith, good .inside)) (before j here)
 
-    pub left-far : 255 ≤ P .distance j - m → 255 ≤ loweredAt P m (P .slot j)
-    left-far far = omega (arith, value j here)
+    pub left-overflows : 255 ≤ P .distance j - m → 255 ≤ loweredAt P m (P .slot j)
+    left-overflows overflows = omega (arith, value j here)
 
     pub left-more : (d' : List ℕ) (p' x : ℕ) → x ≡ P .distance j - m → 255 ≤ x
         → d' ≡ sets d p (le 8 (P .slot j) ++ le 4 x) → p' ≡ p + 12
         → EntriesLeft (P .n) (loweredAt P m) d₀ p₀ (lowestSlot P (j + 1)) d' p'
-    left-more d' p' x is far put next =
+    left-more d' p' x is overflows put next =
         rw add-one
         (entries-more left-at (entry-good P s j here .inside) (omega (arith, value j here)) x d' p' (omega (arith, value j here)) put next)
 

@@ -83,9 +83,9 @@ lower-is (negsuc y) m x e =
 
 -- ---- the map
 
-pub shift-refused : (b : List ℕ) (r : Refusal) → checkFile 1 b ≡ refused r → (d : ℤ) (room : ℕ) → shiftOutcome b d room ≡ refused r
+pub shift-refused : (b : List ℕ) (r : Refusal) → checkFile 1 b ≡ refused r → (d : ℤ) (capacity : ℕ) → shiftOutcome b d capacity ≡ refused r
 unfolding shiftOutcome
-shift-refused b r e d room = rw e
+shift-refused b r e d capacity = rw e
 
 module _ (b : List ℕ) (s : Summary) (e : checkFile 1 b ≡ done s) (d : ℤ) where
   pub checked : CheckedMap b (s .n) (s .k)
@@ -100,9 +100,9 @@ module _ (b : List ℕ) (s : Summary) (e : checkFile 1 b ≡ done s) (d : ℤ) w
     same i h =
         is i ∙ ap (shiftedBy d) (sym (at-list b (s .n) (s .k) (checked .header .nIs) (checked .header .kIs) i h))
 
-    pub shift-outcome : (room : ℕ) → mapInto (s .n) v room ≡ shiftOutcome b d room
+    pub shift-outcome : (capacity : ℕ) → mapInto (s .n) v capacity ≡ shiftOutcome b d capacity
     unfolding shiftOutcome
-    shift-outcome room = mapInto-cong (s .n) v shifted same room ∙ rw e
+    shift-outcome capacity = mapInto-cong (s .n) v shifted same capacity ∙ rw e
 
     pub shift-buffer : (out : List ℕ) → fileBuffer (mapInto (s .n) v (length out)) (s .n) v out ≡ shiftBuffer b d out
     unfolding shiftBuffer

@@ -35,7 +35,7 @@ pub fn shift(file: &[u8], by: i32, out: &mut [u8]) -> FileAnswer
     ensures answer { λ r. ⌜ r ≡ fileAnswer (shiftOutcome (now (file .entry)) by (length (now (out .entry)))) ⌝ }
     ensures buffer { λ _. ⌜ now (out .exit) ≡ shiftBuffer (now (file .entry)) by (now (out .entry)) ⌝ }
 {
-    let checked = check(file, 1);
+    let checked = check(file);
     match checked {
         FileAnswer::Refused(r) => FileAnswer::Refused(r),
         FileAnswer::Done(s) => {

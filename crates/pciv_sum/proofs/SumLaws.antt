@@ -18,9 +18,9 @@ use Rattle.pciv_addition.specs.Addition.{addedAt}
 use Rattle.pciv_addition.specs.declared.addend.Addend.the-variants.{Map}
 use Rattle.pciv_addition.proofs.IntoLaws.{mapInto-cong, mapBuffer-cong}
 
-pub sum-refused : (a b : List ℕ) (r : Refusal) → pairCounts a b ≡ refused r → (room : ℕ) → combineMapsOutcome Sum a b room ≡ refused r
+pub sum-refused : (a b : List ℕ) (r : Refusal) → pairCounts a b ≡ refused r → (capacity : ℕ) → combineMapsOutcome Sum a b capacity ≡ refused r
 unfolding combineMapsOutcome
-sum-refused a b r e room = pairOutcome-refused a b (λ n. mapInto n (combinedAt Sum (listOf a) (listOf b)) room) r e
+sum-refused a b r e capacity = pairOutcome-refused a b (λ n. mapInto n (combinedAt Sum (listOf a) (listOf b)) capacity) r e
 
 module _ (a b : List ℕ) (c : PairCounts) (e : pairCounts a b ≡ done c) where
   checked : CheckedPair a b (c .n) (c .ka) (c .kb)
@@ -38,11 +38,11 @@ module _ (a b : List ℕ) (c : PairCounts) (e : pairCounts a b ≡ done c) where
       (ap₂ (λ (x y : ℕ). x + y) (at-list a (c .n) (c .ka) (first .nIs) (first .kIs) i h)
       (at-list b (c .n) (c .kb) (second .nIs) (second .kIs) i h))
 
-  pub sum-outcome : (room : ℕ) → mapInto (c .n) sums room ≡ combineMapsOutcome Sum a b room
+  pub sum-outcome : (capacity : ℕ) → mapInto (c .n) sums capacity ≡ combineMapsOutcome Sum a b capacity
   unfolding combineMapsOutcome
-  sum-outcome room =
-      mapInto-cong (c .n) sums (combinedAt Sum (listOf a) (listOf b)) same room
-      ∙ sym (pairOutcome-ready a b (λ n. mapInto n (combinedAt Sum (listOf a) (listOf b)) room) c e)
+  sum-outcome capacity =
+      mapInto-cong (c .n) sums (combinedAt Sum (listOf a) (listOf b)) same capacity
+      ∙ sym (pairOutcome-ready a b (λ n. mapInto n (combinedAt Sum (listOf a) (listOf b)) capacity) c e)
 
   pub sum-buffer : (out : List ℕ) → fileBuffer (mapInto (c .n) sums (length out)) (c .n) sums out ≡ combineMapsBuffer Sum a b out
   unfolding combineMapsBuffer

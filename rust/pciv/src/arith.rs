@@ -1,6 +1,6 @@
 //! Arithmetic on maps, slot by slot.
 
-use crate::{answer, raw, Refusal, Summary};
+use crate::{answer, count, raw, Refusal, Summary};
 
 /// The smaller distance of two maps at each slot, as a file to the front of `out`. Answers its
 /// summary. Refusals 1 to 8 of `a` with map 1, then of `b` with map 2, then 10 where the maps
@@ -18,7 +18,7 @@ use crate::{answer, raw, Refusal, Summary};
 /// assert_eq!(distances, [0, 1, 1, 300]);
 ///
 /// let refusal = pciv::minimum(a, &b[1..], &mut out).unwrap_err();
-/// assert_eq!((refusal.number, refusal.map), (2, 2));
+/// assert_eq!((refusal.number, refusal.map), (pciv::Refusal::BAD_MAGIC, 2));
 /// # Ok::<(), pciv::Refusal>(())
 /// ```
 pub fn minimum(a: &[u8], b: &[u8], out: &mut [u8]) -> Result<Summary, Refusal> {
@@ -108,8 +108,8 @@ pub fn shift(file: &[u8], by: i32, out: &mut [u8]) -> Result<Summary, Refusal> {
 /// assert_eq!(out, [1, -253, -254, 4_294_966_995, 7]);
 /// # Ok::<(), pciv::Refusal>(())
 /// ```
-pub fn signed_difference(a: &[u8], b: &[u8], out: &mut [i64]) -> Result<u64, Refusal> {
-    answer(|count, refusal| raw::signed_difference(a, b, out, count, refusal))
+pub fn signed_difference(a: &[u8], b: &[u8], out: &mut [i64]) -> Result<usize, Refusal> {
+    count(|count, refusal| raw::signed_difference(a, b, out, count, refusal))
 }
 
 #[cfg(test)]
@@ -130,11 +130,13 @@ mod tests {
     #[test]
     fn refused_buffers_are_unchanged() {
         let mut out = [7; 67];
-        assert_eq!(maximum(MAP_A, MAP_A, &mut out).unwrap_err().number, 12);
-        assert_eq!(shift(MAP_A, i32::MAX, &mut out).unwrap_err().number, 12);
+        let refusal = maximum(MAP_A, MAP_A, &mut out).unwrap_err();
+        assert_eq!(refusal.number, Refusal::BUFFER_TOO_SMALL);
+        let refusal = shift(MAP_A, i32::MAX, &mut out).unwrap_err();
+        assert_eq!(refusal.number, Refusal::BUFFER_TOO_SMALL);
         assert_eq!(out, [7; 67]);
         let mut out = [7; 3];
         let refusal = signed_difference(MAP_A, MAP_A, &mut out).unwrap_err();
-        assert_eq!((refusal.number, out), (12, [7; 3]));
+        assert_eq!((refusal.number, out), (Refusal::BUFFER_TOO_SMALL, [7; 3]));
     }
 }

@@ -1,6 +1,6 @@
 //! Editing the file at the front of a buffer, in place.
 
-use crate::{answer, raw, Refusal, Summary};
+use crate::{answer, count, raw, Refusal, Summary};
 
 /// How many numbers an [`EditAnswer`] consists of.
 pub const ANSWER_LEN: usize = 8;
@@ -28,7 +28,8 @@ impl EditAnswer {
 
 /// Sets `slot` to `distance` in the file at the front of `buffer`, in place. Answers the new file's
 /// summary. Refusals 1 to 8, where 5 means that the buffer is shorter than the file, then 9, then
-/// 12 where the new file is longer than the buffer.
+/// 12 where the new file is longer than the buffer. One of [`longest_file`](crate::longest_file)
+/// bytes has space for whatever edits make of a file.
 ///
 /// Afterwards the front of the buffer is the file that [`write`](fn@crate::write) makes of the edited
 /// list. Where it is shorter than before, the bytes up to the old length are 0; bytes past both
@@ -58,7 +59,8 @@ pub fn edit(buffer: &mut [u8], slot: u64, distance: u32) -> Result<Summary, Refu
 /// let mut answers = [pciv::EditAnswer::default(); 3];
 /// pciv::edit_list(&mut buffer, &[1, 9, 3], &[7, 7, 400], &mut answers)?;
 /// assert_eq!(answers[0].result()?.len, 68);
-/// assert_eq!(answers[1].result().unwrap_err().number, 9);
+/// let refusal = answers[1].result().unwrap_err();
+/// assert_eq!(refusal.number, pciv::Refusal::SLOT_OUT_OF_RANGE);
 /// assert_eq!(answers[2].result()?.k, 2);
 ///
 /// let mut distances = [0; 4];
@@ -71,7 +73,7 @@ pub fn edit_list(
     slots: &[u64],
     distances: &[u32],
     answers: &mut [EditAnswer],
-) -> Result<u64, Refusal> {
+) -> Result<usize, Refusal> {
     let answers = raw::answer_numbers(answers);
-    answer(|count, refusal| raw::edit_list(buffer, slots, distances, answers, count, refusal))
+    count(|count, refusal| raw::edit_list(buffer, slots, distances, answers, count, refusal))
 }

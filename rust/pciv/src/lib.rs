@@ -1,9 +1,14 @@
 //! Reading, writing, combining and editing PCIV depth maps with the verified library, over slices.
 //!
 //! A PCIV file stores a list of 0 to 1,048,576 distances in centimetres; `docs/FORMAT.md` describes
-//! it. Every function checks each whole file it is given first, and answers a [`Refusal`] where the
-//! file breaks a rule. Buffers are unchanged after a refusal, and so is what follows a result in a
-//! longer buffer.
+//! it. It has no width or height; the caller keeps them. Every function checks each whole file it is
+//! given first, and answers a [`Refusal`] where the file breaks a rule. Buffers are unchanged after a
+//! refusal, and so is what follows a result in a longer buffer.
+//!
+//! What measures a caller's slice is a `usize`: how many elements a call has written to it, how many
+//! it needs ([`mask_len`], [`file_len`], [`longest_file`]). What is said of a map is a `u64`, as in
+//! its file and in C: slots, their number, sums, places, and every field of the structs, which have
+//! C's layout. Distances are `u32`.
 //!
 //! ```
 //! let file = include_bytes!("../../../examples/map-a.pciv");
@@ -29,6 +34,7 @@ compile_error!("pciv is built for x86-64 Linux with 64-bit pointers only");
 mod arith;
 mod edit;
 mod figures;
+mod length;
 mod mask;
 pub mod raw;
 mod read;
@@ -38,12 +44,13 @@ mod write;
 pub use arith::{difference, maximum, minimum, shift, signed_difference, sum_maps};
 pub use edit::{edit, edit_list, EditAnswer, ANSWER_LEN};
 pub use figures::{bray_curtis, jaccard};
+pub use length::{file_len, longest_file};
 pub use mask::{
     increment_masked, keep_masked, map_of_mask, mask_above, mask_and, mask_at_least, mask_at_most,
     mask_below, mask_len, mask_not, mask_or, mask_xor, near_mask, set_bits,
 };
 pub use read::{check, lookup, lookup_list, primary, readings, report, scan, sum};
-pub use refusal::Refusal;
+pub use refusal::{refusal_text, Refusal};
 pub use write::{close, close_entries, write, Entry};
 
 /// What the header of a sound file says, and the length of the file.
@@ -70,4 +77,9 @@ fn answer<T: Default>(call: impl FnOnce(&mut T, &mut Refusal) -> u64) -> Result<
         0 => Ok(value),
         _ => Err(refusal),
     }
+}
+
+/// As [`answer`], for a call that answers how many elements it has written.
+fn count(call: impl FnOnce(&mut u64, &mut Refusal) -> u64) -> Result<usize, Refusal> {
+    answer(call).map(|count| count as usize)
 }

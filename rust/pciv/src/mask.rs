@@ -1,15 +1,15 @@
 //! Masks: the slots of a map with a property, as words of 64 bits. Slot i is bit i % 64 of word
 //! i / 64, the lowest bit first; bits past the map's slots are 0.
 
-use crate::{answer, raw, Refusal, Summary};
+use crate::{answer, count, raw, Refusal, Summary};
 
 /// How many words a mask of `n` slots has.
 ///
 /// ```
 /// assert_eq!([0, 64, 65].map(pciv::mask_len), [0, 1, 2]);
 /// ```
-pub const fn mask_len(n: usize) -> usize {
-    n.div_ceil(64)
+pub const fn mask_len(n: u64) -> usize {
+    n.div_ceil(64) as usize
 }
 
 /// The mask of the slots whose distance is below `t`, to the front of `out`. Answers how many words
@@ -22,8 +22,8 @@ pub const fn mask_len(n: usize) -> usize {
 /// assert_eq!(mask, [0b0011]);
 /// # Ok::<(), pciv::Refusal>(())
 /// ```
-pub fn mask_below(file: &[u8], t: u32, out: &mut [u64]) -> Result<u64, Refusal> {
-    answer(|count, refusal| raw::mask_below(file, t, out, count, refusal))
+pub fn mask_below(file: &[u8], t: u32, out: &mut [u64]) -> Result<usize, Refusal> {
+    count(|count, refusal| raw::mask_below(file, t, out, count, refusal))
 }
 
 /// The mask of the slots whose distance is at most `t`, as [`mask_below`].
@@ -35,8 +35,8 @@ pub fn mask_below(file: &[u8], t: u32, out: &mut [u64]) -> Result<u64, Refusal> 
 /// assert_eq!(mask, [3]);
 /// # Ok::<(), pciv::Refusal>(())
 /// ```
-pub fn mask_at_most(file: &[u8], t: u32, out: &mut [u64]) -> Result<u64, Refusal> {
-    answer(|count, refusal| raw::mask_at_most(file, t, out, count, refusal))
+pub fn mask_at_most(file: &[u8], t: u32, out: &mut [u64]) -> Result<usize, Refusal> {
+    count(|count, refusal| raw::mask_at_most(file, t, out, count, refusal))
 }
 
 /// The mask of the slots whose distance is above `t`, as [`mask_below`].
@@ -48,8 +48,8 @@ pub fn mask_at_most(file: &[u8], t: u32, out: &mut [u64]) -> Result<u64, Refusal
 /// assert_eq!(mask, [0b1000]);
 /// # Ok::<(), pciv::Refusal>(())
 /// ```
-pub fn mask_above(file: &[u8], t: u32, out: &mut [u64]) -> Result<u64, Refusal> {
-    answer(|count, refusal| raw::mask_above(file, t, out, count, refusal))
+pub fn mask_above(file: &[u8], t: u32, out: &mut [u64]) -> Result<usize, Refusal> {
+    count(|count, refusal| raw::mask_above(file, t, out, count, refusal))
 }
 
 /// The mask of the slots whose distance is at least `t`, as [`mask_below`].
@@ -62,8 +62,8 @@ pub fn mask_above(file: &[u8], t: u32, out: &mut [u64]) -> Result<u64, Refusal> 
 /// assert_eq!(pciv::set_bits(4, &mask)?, 2);
 /// # Ok::<(), pciv::Refusal>(())
 /// ```
-pub fn mask_at_least(file: &[u8], t: u32, out: &mut [u64]) -> Result<u64, Refusal> {
-    answer(|count, refusal| raw::mask_at_least(file, t, out, count, refusal))
+pub fn mask_at_least(file: &[u8], t: u32, out: &mut [u64]) -> Result<usize, Refusal> {
+    count(|count, refusal| raw::mask_at_least(file, t, out, count, refusal))
 }
 
 /// The near mask at `t`: the slots whose distance is at most `t`, as [`mask_below`].
@@ -75,8 +75,8 @@ pub fn mask_at_least(file: &[u8], t: u32, out: &mut [u64]) -> Result<u64, Refusa
 /// assert_eq!(mask, [0b0001, 7]);
 /// # Ok::<(), pciv::Refusal>(())
 /// ```
-pub fn near_mask(file: &[u8], t: u32, out: &mut [u64]) -> Result<u64, Refusal> {
-    answer(|count, refusal| raw::near_mask(file, t, out, count, refusal))
+pub fn near_mask(file: &[u8], t: u32, out: &mut [u64]) -> Result<usize, Refusal> {
+    count(|count, refusal| raw::near_mask(file, t, out, count, refusal))
 }
 
 /// The slots in both of two masks of `n` slots, to the front of `out`. Answers how many words the
@@ -89,11 +89,11 @@ pub fn near_mask(file: &[u8], t: u32, out: &mut [u64]) -> Result<u64, Refusal> {
 /// assert_eq!(out, [0b0010]);
 ///
 /// let refusal = pciv::mask_and(4, &[0b10000], &[0b0110], &mut out).unwrap_err();
-/// assert_eq!(refusal.number, 13);
+/// assert_eq!(refusal.number, pciv::Refusal::BAD_MASK);
 /// # Ok::<(), pciv::Refusal>(())
 /// ```
-pub fn mask_and(n: u64, a: &[u64], b: &[u64], out: &mut [u64]) -> Result<u64, Refusal> {
-    answer(|count, refusal| raw::mask_and(n, a, b, out, count, refusal))
+pub fn mask_and(n: u64, a: &[u64], b: &[u64], out: &mut [u64]) -> Result<usize, Refusal> {
+    count(|count, refusal| raw::mask_and(n, a, b, out, count, refusal))
 }
 
 /// The slots in at least one of two masks, as [`mask_and`].
@@ -104,8 +104,8 @@ pub fn mask_and(n: u64, a: &[u64], b: &[u64], out: &mut [u64]) -> Result<u64, Re
 /// assert_eq!(out, [0b0111]);
 /// # Ok::<(), pciv::Refusal>(())
 /// ```
-pub fn mask_or(n: u64, a: &[u64], b: &[u64], out: &mut [u64]) -> Result<u64, Refusal> {
-    answer(|count, refusal| raw::mask_or(n, a, b, out, count, refusal))
+pub fn mask_or(n: u64, a: &[u64], b: &[u64], out: &mut [u64]) -> Result<usize, Refusal> {
+    count(|count, refusal| raw::mask_or(n, a, b, out, count, refusal))
 }
 
 /// The slots in exactly one of two masks, as [`mask_and`].
@@ -116,8 +116,8 @@ pub fn mask_or(n: u64, a: &[u64], b: &[u64], out: &mut [u64]) -> Result<u64, Ref
 /// assert_eq!(out, [0b0101]);
 /// # Ok::<(), pciv::Refusal>(())
 /// ```
-pub fn mask_xor(n: u64, a: &[u64], b: &[u64], out: &mut [u64]) -> Result<u64, Refusal> {
-    answer(|count, refusal| raw::mask_xor(n, a, b, out, count, refusal))
+pub fn mask_xor(n: u64, a: &[u64], b: &[u64], out: &mut [u64]) -> Result<usize, Refusal> {
+    count(|count, refusal| raw::mask_xor(n, a, b, out, count, refusal))
 }
 
 /// The slots that are not in a mask of `n` slots; bits past `n` stay 0. As [`mask_and`].
@@ -128,8 +128,8 @@ pub fn mask_xor(n: u64, a: &[u64], b: &[u64], out: &mut [u64]) -> Result<u64, Re
 /// assert_eq!(out, [0b1100]);
 /// # Ok::<(), pciv::Refusal>(())
 /// ```
-pub fn mask_not(n: u64, mask: &[u64], out: &mut [u64]) -> Result<u64, Refusal> {
-    answer(|count, refusal| raw::mask_not(n, mask, out, count, refusal))
+pub fn mask_not(n: u64, mask: &[u64], out: &mut [u64]) -> Result<usize, Refusal> {
+    count(|count, refusal| raw::mask_not(n, mask, out, count, refusal))
 }
 
 /// The number of set bits of a mask of `n` slots. Refusals 3 with map 1 where `n` is above
@@ -137,7 +137,8 @@ pub fn mask_not(n: u64, mask: &[u64], out: &mut [u64]) -> Result<u64, Refusal> {
 ///
 /// ```
 /// assert_eq!(pciv::set_bits(65, &[u64::MAX, 1])?, 65);
-/// assert_eq!(pciv::set_bits(64, &[u64::MAX, 1]).unwrap_err().number, 13);
+/// let refusal = pciv::set_bits(64, &[u64::MAX, 1]).unwrap_err();
+/// assert_eq!(refusal.number, pciv::Refusal::BAD_MASK);
 /// # Ok::<(), pciv::Refusal>(())
 /// ```
 pub fn set_bits(n: u64, mask: &[u64]) -> Result<u64, Refusal> {

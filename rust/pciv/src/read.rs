@@ -1,6 +1,6 @@
 //! Reading a file.
 
-use crate::{answer, raw, Refusal, Summary};
+use crate::{answer, count, raw, Refusal, Summary};
 
 /// Checks a whole file. Refusals 1 to 8.
 ///
@@ -10,7 +10,7 @@ use crate::{answer, raw, Refusal, Summary};
 /// assert_eq!((summary.n, summary.k, summary.len), (4, 2, 68));
 ///
 /// let truncated = pciv::check(&file[..67]).unwrap_err();
-/// assert_eq!(truncated.number, 5);
+/// assert_eq!(truncated.number, pciv::Refusal::BAD_LENGTH);
 /// # Ok::<(), pciv::Refusal>(())
 /// ```
 pub fn check(file: &[u8]) -> Result<Summary, Refusal> {
@@ -37,7 +37,8 @@ pub fn primary(file: &[u8]) -> &[u8] {
 /// ```
 /// let file = include_bytes!("../../../examples/map-a.pciv");
 /// assert_eq!(pciv::lookup(file, 3)?, 300);
-/// assert_eq!(pciv::lookup(file, 4).unwrap_err().number, 9);
+/// let refusal = pciv::lookup(file, 4).unwrap_err();
+/// assert_eq!(refusal.number, pciv::Refusal::SLOT_OUT_OF_RANGE);
 /// # Ok::<(), pciv::Refusal>(())
 /// ```
 pub fn lookup(file: &[u8], slot: u64) -> Result<u32, Refusal> {
@@ -54,11 +55,11 @@ pub fn lookup(file: &[u8], slot: u64) -> Result<u32, Refusal> {
 /// assert_eq!(distances, [300, 0, 300, 7]);
 ///
 /// let refusal = pciv::lookup_list(file, &[3, 4, 5], &mut distances).unwrap_err();
-/// assert_eq!((refusal.number, refusal.place), (9, 1));
+/// assert_eq!((refusal.number, refusal.place), (pciv::Refusal::SLOT_OUT_OF_RANGE, 1));
 /// # Ok::<(), pciv::Refusal>(())
 /// ```
-pub fn lookup_list(file: &[u8], slots: &[u64], distances: &mut [u32]) -> Result<u64, Refusal> {
-    answer(|count, refusal| raw::lookup_list(file, slots, distances, count, refusal))
+pub fn lookup_list(file: &[u8], slots: &[u64], distances: &mut [u32]) -> Result<usize, Refusal> {
+    count(|count, refusal| raw::lookup_list(file, slots, distances, count, refusal))
 }
 
 /// All distances, to the front of `distances`. Answers how many there are. Refusals 1 to 8, then
@@ -69,11 +70,12 @@ pub fn lookup_list(file: &[u8], slots: &[u64], distances: &mut [u32]) -> Result<
 /// let mut distances = [7; 5];
 /// assert_eq!(pciv::scan(file, &mut distances)?, 4);
 /// assert_eq!(distances, [0, 254, 255, 300, 7]);
-/// assert_eq!(pciv::scan(file, &mut distances[..3]).unwrap_err().number, 12);
+/// let refusal = pciv::scan(file, &mut distances[..3]).unwrap_err();
+/// assert_eq!(refusal.number, pciv::Refusal::BUFFER_TOO_SMALL);
 /// # Ok::<(), pciv::Refusal>(())
 /// ```
-pub fn scan(file: &[u8], distances: &mut [u32]) -> Result<u64, Refusal> {
-    answer(|count, refusal| raw::scan(file, distances, count, refusal))
+pub fn scan(file: &[u8], distances: &mut [u32]) -> Result<usize, Refusal> {
+    count(|count, refusal| raw::scan(file, distances, count, refusal))
 }
 
 /// The sum of all distances. Refusals 1 to 8.
@@ -104,12 +106,12 @@ pub fn readings(file: &[u8]) -> Result<u64, Refusal> {
 ///
 /// ```
 /// let mut text = [0; 160];
-/// let len = pciv::report(b"PCIV", &mut text)? as usize;
+/// let len = pciv::report(b"PCIV", &mut text)?;
 /// assert_eq!(&text[..len], b"refused 1 map 1 place 0\n");
 /// # Ok::<(), pciv::Refusal>(())
 /// ```
-pub fn report(input: &[u8], text: &mut [u8]) -> Result<u64, Refusal> {
-    answer(|count, refusal| raw::report(input, text, count, refusal))
+pub fn report(input: &[u8], text: &mut [u8]) -> Result<usize, Refusal> {
+    count(|count, refusal| raw::report(input, text, count, refusal))
 }
 
 #[cfg(test)]
@@ -126,20 +128,17 @@ mod tests {
     #[test]
     fn refused_buffers_are_unchanged() {
         let mut distances = [7; 3];
-        assert_eq!(scan(MAP_A, &mut distances).unwrap_err().number, 12);
-        assert_eq!(
-            lookup_list(MAP_A, &[0; 4], &mut distances)
-                .unwrap_err()
-                .number,
-            12
-        );
+        let refusal = scan(MAP_A, &mut distances).unwrap_err();
+        assert_eq!(refusal.number, Refusal::BUFFER_TOO_SMALL);
+        let refusal = lookup_list(MAP_A, &[0; 4], &mut distances).unwrap_err();
+        assert_eq!(refusal.number, Refusal::BUFFER_TOO_SMALL);
         assert_eq!(distances, [7; 3]);
     }
 
     #[test]
     fn report_of_map_a() {
         let mut text = [b'.'; 160];
-        let len = report(MAP_A, &mut text).unwrap() as usize;
+        let len = report(MAP_A, &mut text).unwrap();
         let (text, rest) = text.split_at(len);
         assert_eq!(
             text,

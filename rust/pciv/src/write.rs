@@ -13,7 +13,8 @@ pub struct Entry {
 }
 
 /// The file of a list of distances, to the front of `out`. Answers its summary. Refusals 3 with
-/// map 1 for more than 1,048,576 distances, then 12.
+/// map 1 for more than 1,048,576 distances, then 12. [`file_len`](crate::file_len) says how long the
+/// file is.
 ///
 /// ```
 /// let mut out = [7; 70];
@@ -38,7 +39,8 @@ pub fn write(distances: &[u32], out: &mut [u8]) -> Result<Summary, Refusal> {
 /// assert_eq!(out, *include_bytes!("../../../examples/map-a.pciv"));
 ///
 /// let missing = pciv::close(&[0, 254, 255, 255], &[3], &[300], &mut out).unwrap_err();
-/// assert_eq!((missing.number, missing.map, missing.place), (7, 1, 2));
+/// assert_eq!(missing.number, pciv::Refusal::MISSING_OVERFLOW_ENTRY);
+/// assert_eq!((missing.map, missing.place), (1, 2));
 /// # Ok::<(), pciv::Refusal>(())
 /// ```
 pub fn close(
@@ -53,7 +55,7 @@ pub fn close(
 /// As [`close`], with the overflow entries in one list.
 ///
 /// ```
-/// use pciv::Entry;
+/// use pciv::{Entry, Refusal};
 ///
 /// let entries = [
 ///     Entry { slot: 2, distance: 255 },
@@ -64,8 +66,9 @@ pub fn close(
 /// assert_eq!(out, *include_bytes!("../../../examples/map-a.pciv"));
 ///
 /// let wrong = pciv::close_entries(&[0, 254, 255, 9], &entries, &mut out).unwrap_err();
-/// assert_eq!((wrong.number, wrong.map, wrong.place), (6, 1, 1));
-/// # Ok::<(), pciv::Refusal>(())
+/// assert_eq!(wrong.number, Refusal::BAD_OVERFLOW_ENTRY);
+/// assert_eq!((wrong.map, wrong.place), (1, 1));
+/// # Ok::<(), Refusal>(())
 /// ```
 pub fn close_entries(
     primary: &[u8],
@@ -82,9 +85,12 @@ mod tests {
     #[test]
     fn refused_buffers_are_unchanged() {
         let mut out = [7; 43];
-        assert_eq!(write(&[1, 2, 3, 4], &mut out).unwrap_err().number, 12);
-        assert_eq!(close(&[255], &[0], &[], &mut out).unwrap_err().number, 6);
-        assert_eq!(close_entries(&[255], &[], &mut out).unwrap_err().number, 7);
+        let refusal = write(&[1, 2, 3, 4], &mut out).unwrap_err();
+        assert_eq!(refusal.number, Refusal::BUFFER_TOO_SMALL);
+        let refusal = close(&[255], &[0], &[], &mut out).unwrap_err();
+        assert_eq!(refusal.number, Refusal::BAD_OVERFLOW_ENTRY);
+        let refusal = close_entries(&[255], &[], &mut out).unwrap_err();
+        assert_eq!(refusal.number, Refusal::MISSING_OVERFLOW_ENTRY);
         assert_eq!(out, [7; 43]);
     }
 }

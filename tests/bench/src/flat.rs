@@ -328,13 +328,13 @@ mod tests {
     fn closing_is_as_in_the_library() {
         each_pair(|a, _| {
             let overflow = (0u64..).zip(a.list.iter().copied());
-            let (slots, far): (Vec<u64>, Vec<u32>) = overflow.filter(|e| e.1 >= 255).unzip();
+            let (slots, listed): (Vec<u64>, Vec<u32>) = overflow.filter(|e| e.1 >= 255).unzip();
             let primary = reference::primary(&a.file);
-            let entries = slots.iter().copied().zip(far.iter().copied());
+            let entries = slots.iter().copied().zip(listed.iter().copied());
             let n = a.list.len();
             assert_eq!(
                 filled(n, |out| close(primary, entries, out)),
-                distances(n, |out| pciv::close(primary, &slots, &far, out))
+                distances(n, |out| pciv::close(primary, &slots, &listed, out))
             );
         });
     }
@@ -374,7 +374,7 @@ mod tests {
 
     #[test]
     fn masks_of_a_map_are_as_in_the_library() {
-        type File = fn(&[u8], u32, &mut [u64]) -> Result<u64, pciv::Refusal>;
+        type File = fn(&[u8], u32, &mut [u64]) -> Result<usize, pciv::Refusal>;
         type Test = fn(&u32, &u32) -> bool;
         let routines: [(File, Test); 5] = [
             (pciv::mask_below, u32::lt),
@@ -399,7 +399,7 @@ mod tests {
 
     #[test]
     fn masks_of_masks_are_as_in_the_library() {
-        type Ours = fn(u64, &[u64], &[u64], &mut [u64]) -> Result<u64, pciv::Refusal>;
+        type Ours = fn(u64, &[u64], &[u64], &mut [u64]) -> Result<usize, pciv::Refusal>;
         type Words = fn(&[u64], &[u64], &mut [u64]);
         let routines: [(Ours, Words); 3] = [
             (pciv::mask_and, mask_and),

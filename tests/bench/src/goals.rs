@@ -1,17 +1,14 @@
 //! The goals for the speed of each routine, and how the library stands to them.
 //!
-//! A routine's ratios leave the checks of its files out, on both sides, unless the goal is for both
-//! together: the times of the check of such a file are taken off.
+//! A goal that leaves the checks of the files out takes off, on both sides, what the checks alone
+//! take in the same race. Such a difference is a number only where it is well above what its parts
+//! differ by from pass to pass; else the goal cannot be measured, and nothing is said of it.
 
+use crate::own::{self, Recorded};
 use crate::scene::{Scene, Size, Spread};
-use crate::table::{decimal, Row, Table};
+use crate::table::{decimal, Row, Table, Who, FLAT};
+use crate::timing::Time;
 use std::fmt::Write;
-
-/// The row whose flat contestant counts bits by SSE2 instructions.
-pub const BY_HAND: &str = "set_bits beside SSE2";
-
-/// The goals' ratios of an earlier state of the library: what `bench goals` printed with it.
-const BEFORE: &str = include_str!("../before.tsv");
 
 const SIZE: Size = Size {
     width: 1_024,
@@ -26,25 +23,102 @@ const MANY_CLUSTERED: Maps = (100, Spread::Clustered);
 
 const MAPS: [Maps; 3] = [USUAL, MANY, MANY_CLUSTERED];
 
-/// The scenes that goals are about.
-pub fn scenes() -> impl Iterator<Item = Scene> {
-    let scene = |(share, spread)| Scene::new(SIZE, share, spread);
-    MAPS.into_iter().map(scene)
+/// The sizes, shares and layouts that goals are about.
+pub fn maps() -> impl Iterator<Item = (Size, usize, Spread)> {
+    MAPS.into_iter()
+        .map(|(share, spread)| (SIZE, share, spread))
 }
 
-/// How many times over the calls of a scene are timed.
-pub fn passes(scene: &Scene) -> usize {
-    match scene.size == SIZE && MAPS.contains(&(scene.share, scene.spread)) {
-        true => 2,
-        false => 1,
+pub fn is_about(scene: &Scene) -> bool {
+    scene.size == SIZE && MAPS.contains(&(scene.share, scene.spread))
+}
+
+/// The table of the usual maps.
+pub fn usual<'a, 'b>(tables: &'a [Table<'b>]) -> Option<&'a Table<'b>> {
+    tables.iter().find(|table| is_of(table, USUAL))
+}
+
+fn is_of(table: &Table, maps: Maps) -> bool {
+    table.size == SIZE && (table.share, table.spread) == maps
+}
+
+/// A ratio that misses its goal by as little counts as met.
+const TOLERANCE: f64 = 0.01;
+/// A number of microseconds is measurable where its noise is at most this part of it.
+const MOST_NOISE: f64 = 0.5;
+
+/// Microseconds with what they may be off by.
+#[derive(Clone, Copy, Debug, PartialEq)]
+pub struct Measured {
+    value: f64,
+    noise: f64,
+}
+
+impl From<Time> for Measured {
+    fn from(time: Time) -> Measured {
+        Measured {
+            value: time.best,
+            noise: time.spread,
+        }
     }
 }
 
-/// What two runs differ by at least.
-const NOISE: f64 = 0.01;
+impl Measured {
+    /// What is left without a part; its noise is that of both.
+    fn minus(self, part: Measured) -> Measured {
+        Measured {
+            value: self.value - part.value,
+            noise: self.noise + part.noise,
+        }
+    }
+
+    fn is_measurable(self) -> bool {
+        self.value > 0.0 && self.noise <= MOST_NOISE * self.value
+    }
+}
+
+/// One time divided by another.
+#[derive(Clone, Copy, Debug, PartialEq)]
+pub enum Ratio {
+    /// With the least and the largest that the noise allows.
+    Of { value: f64, low: f64, high: f64 },
+    /// One of the times is not told from 0.
+    BelowNoise,
+}
+
+impl Ratio {
+    pub fn new(above: impl Into<Measured>, below: impl Into<Measured>) -> Ratio {
+        let (above, below) = (above.into(), below.into());
+        match above.is_measurable() && below.is_measurable() {
+            true => Ratio::Of {
+                value: above.value / below.value,
+                low: (above.value - above.noise) / (below.value + below.noise),
+                high: (above.value + above.noise) / (below.value - below.noise),
+            },
+            false => Ratio::BelowNoise,
+        }
+    }
+}
+
+#[derive(Clone, Copy, Debug, PartialEq, Eq)]
+pub enum Verdict {
+    Met,
+    Short,
+    NotMeasurable,
+}
+
+impl Verdict {
+    fn named(self) -> &'static str {
+        match self {
+            Verdict::Met => "met",
+            Verdict::Short => "short",
+            Verdict::NotMeasurable => "not measurable here",
+        }
+    }
+}
 
 /// What is divided by what.
-#[derive(Clone, Copy)]
+#[derive(Clone, Copy, PartialEq, Eq)]
 enum Of {
     /// The independent program's time by the library's; at least the goal.
     Independent,
@@ -53,7 +127,7 @@ enum Of {
     /// The library's time by the memcpy's; at most the goal.
     Memcpy,
     /// The library's time by that of SSE2 instructions written by hand; at most the goal.
-    ByHand,
+    Sse2,
 }
 
 impl Of {
@@ -62,23 +136,34 @@ impl Of {
             Of::Independent => "independent / library",
             Of::Flat => "best flat / library",
             Of::Memcpy => "library / memcpy",
-            Of::ByHand => "library / SSE2 by hand",
+            Of::Sse2 => "library / SSE2 by hand",
         }
     }
 
-    fn is_met(self, ratio: f64, goal: f64) -> bool {
-        match self {
-            Of::Independent | Of::Flat => ratio >= goal * (1.0 - NOISE),
-            Of::Memcpy | Of::ByHand => ratio <= goal * (1.0 + NOISE),
-        }
+    fn is_at_least(self) -> bool {
+        matches!(self, Of::Independent | Of::Flat)
     }
 
-    fn sign(self) -> &'static str {
-        match self {
-            Of::Independent | Of::Flat => "≥",
-            Of::Memcpy | Of::ByHand => "≤",
+    fn verdict(self, ratio: Ratio, goal: f64) -> Verdict {
+        let Ratio::Of { value, .. } = ratio else {
+            return Verdict::NotMeasurable;
+        };
+        let is_met = match self.is_at_least() {
+            true => value >= goal * (1.0 - TOLERANCE),
+            false => value <= goal * (1.0 + TOLERANCE),
+        };
+        match is_met {
+            true => Verdict::Met,
+            false => Verdict::Short,
         }
     }
+}
+
+/// Whether the checks of the files are part of the times.
+#[derive(Clone, Copy, PartialEq, Eq)]
+enum Checks {
+    Kept,
+    Off,
 }
 
 struct Goal {
@@ -86,18 +171,17 @@ struct Goal {
     call: &'static str,
     note: &'static str,
     maps: Maps,
-    /// Files whose checks are taken off.
-    checks: f64,
+    checks: Checks,
     of: Of,
     goal: f64,
 }
 
-const fn goal(call: &'static str, checks: usize, of: Of, goal: f64) -> Goal {
+const fn goal(call: &'static str, checks: Checks, of: Of, goal: f64) -> Goal {
     Goal {
         call,
         note: "",
         maps: USUAL,
-        checks: checks as f64,
+        checks,
         of,
         goal,
     }
@@ -110,273 +194,299 @@ const fn noted(note: &'static str, maps: Maps, goal: Goal) -> Goal {
 const WITH_CHECKS: &str = ", checks included";
 
 const GOALS: [Goal; 66] = [
-    goal("check", 0, Of::Independent, 12.0),
+    goal("check", Checks::Kept, Of::Independent, 12.0),
+    goal("check", Checks::Kept, Of::Memcpy, 1.1),
     noted(
         ", 10 % clustered",
         MANY_CLUSTERED,
-        goal("check", 0, Of::Independent, 4.0),
+        goal("check", Checks::Kept, Of::Independent, 4.0),
     ),
-    goal("check", 0, Of::Memcpy, 1.1),
-    goal("sum", 1, Of::Independent, 10.0),
-    goal("sum", 1, Of::Flat, 3.0),
-    goal("readings", 1, Of::Independent, 18.0),
-    goal("readings", 1, Of::Flat, 5.0),
-    goal("mask_below 200", 1, Of::Independent, 60.0),
-    goal("mask_below 200", 1, Of::Flat, 2.5),
-    goal("mask_below 300", 1, Of::Independent, 80.0),
-    goal("minimum", 2, Of::Independent, 9.0),
-    goal("minimum", 2, Of::Flat, 2.5),
-    goal("minimum", 2, Of::Memcpy, 1.5),
+    goal("sum", Checks::Off, Of::Independent, 10.0),
+    goal("sum", Checks::Off, Of::Flat, 3.0),
+    goal("readings", Checks::Off, Of::Independent, 18.0),
+    goal("readings", Checks::Off, Of::Flat, 5.0),
+    goal("mask_below 200", Checks::Off, Of::Independent, 60.0),
+    goal("mask_below 200", Checks::Off, Of::Flat, 2.5),
+    goal("mask_below 300", Checks::Off, Of::Independent, 80.0),
+    goal("minimum", Checks::Off, Of::Independent, 9.0),
+    goal("minimum", Checks::Off, Of::Flat, 2.5),
+    goal("minimum", Checks::Off, Of::Memcpy, 1.5),
     noted(
         WITH_CHECKS,
         USUAL,
-        goal("minimum", 0, Of::Independent, 10.0),
-    ),
-    noted(WITH_CHECKS, USUAL, goal("minimum", 0, Of::Flat, 2.0)),
-    goal("maximum", 2, Of::Independent, 9.0),
-    goal("maximum", 2, Of::Flat, 2.5),
-    goal("maximum", 2, Of::Memcpy, 1.5),
-    noted(
-        WITH_CHECKS,
-        USUAL,
-        goal("maximum", 0, Of::Independent, 10.0),
-    ),
-    noted(WITH_CHECKS, USUAL, goal("maximum", 0, Of::Flat, 2.0)),
-    goal("difference", 2, Of::Independent, 6.0),
-    goal("difference", 2, Of::Flat, 2.0),
-    goal("shift by -50", 1, Of::Independent, 18.0),
-    goal("shift by -50", 1, Of::Flat, 3.0),
-    goal("sum_maps, few to overflow", 2, Of::Independent, 6.0),
-    goal("sum_maps, few to overflow", 2, Of::Flat, 1.0),
-    goal("sum_maps, half to overflow", 2, Of::Independent, 7.0),
-    goal("shift by 10", 1, Of::Independent, 6.0),
-    goal("shift by 10", 1, Of::Flat, 0.9),
-    goal("increment_masked", 1, Of::Independent, 4.5),
-    goal("increment_masked", 1, Of::Flat, 1.2),
-    goal("keep_masked", 1, Of::Independent, 12.0),
-    goal("keep_masked", 1, Of::Flat, 3.5),
-    goal("map_of_mask", 0, Of::Independent, 3.0),
-    goal("map_of_mask", 0, Of::Flat, 1.5),
-    goal("bray_curtis", 2, Of::Independent, 6.0),
-    goal("bray_curtis", 2, Of::Flat, 3.5),
-    goal("jaccard at 200", 2, Of::Independent, 20.0),
-    goal("jaccard at 200", 2, Of::Flat, 3.0),
-    goal("jaccard at 300", 2, Of::Independent, 20.0),
-    goal("jaccard at 300", 2, Of::Flat, 3.0),
-    goal("scan", 1, Of::Independent, 2.3),
-    goal("scan", 1, Of::Flat, 1.2),
-    goal("scan", 1, Of::Memcpy, 1.35),
-    goal("signed_difference", 2, Of::Independent, 2.0),
-    goal("signed_difference", 2, Of::Flat, 0.9),
-    goal("signed_difference", 2, Of::Memcpy, 1.35),
-    goal("close", 0, Of::Independent, 6.0),
-    goal("write", 0, Of::Independent, 1.1),
-    noted(", 10 %", MANY, goal("write", 0, Of::Independent, 2.5)),
-    goal("write, longest buffer", 0, Of::Independent, 1.6),
-    goal("of these ns a slot, no check", 0, Of::Independent, 1.7),
-    noted(
-        WITH_CHECKS,
-        USUAL,
-        goal("edit, inline", 0, Of::Independent, 12.0),
-    ),
-    noted(WITH_CHECKS, USUAL, goal("edit, inline", 0, Of::Memcpy, 1.2)),
-    noted(
-        WITH_CHECKS,
-        USUAL,
-        goal("edit, into and out", 0, Of::Independent, 12.0),
+        goal("minimum", Checks::Kept, Of::Independent, 10.0),
     ),
     noted(
         WITH_CHECKS,
         USUAL,
-        goal("edit, into and out", 0, Of::Memcpy, 1.2),
+        goal("minimum", Checks::Kept, Of::Flat, 2.0),
     ),
-    goal("mask_and", 0, Of::Independent, 1.0),
-    goal("mask_and", 0, Of::Memcpy, 1.15),
-    goal("mask_or", 0, Of::Independent, 1.0),
-    goal("mask_or", 0, Of::Memcpy, 1.15),
-    goal("mask_xor", 0, Of::Independent, 1.0),
-    goal("mask_xor", 0, Of::Memcpy, 1.15),
-    goal("mask_not", 0, Of::Independent, 1.0),
-    goal("mask_not", 0, Of::Memcpy, 1.15),
-    goal("set_bits", 0, Of::Independent, 1.0),
-    goal(BY_HAND, 0, Of::ByHand, 1.25),
+    goal("maximum", Checks::Off, Of::Independent, 9.0),
+    goal("maximum", Checks::Off, Of::Flat, 2.5),
+    goal("maximum", Checks::Off, Of::Memcpy, 1.5),
+    noted(
+        WITH_CHECKS,
+        USUAL,
+        goal("maximum", Checks::Kept, Of::Independent, 10.0),
+    ),
+    noted(
+        WITH_CHECKS,
+        USUAL,
+        goal("maximum", Checks::Kept, Of::Flat, 2.0),
+    ),
+    goal("difference", Checks::Off, Of::Independent, 6.0),
+    goal("difference", Checks::Off, Of::Flat, 2.0),
+    goal("shift by -50", Checks::Off, Of::Independent, 18.0),
+    goal("shift by -50", Checks::Off, Of::Flat, 3.0),
+    goal(
+        "sum_maps, few to overflow",
+        Checks::Off,
+        Of::Independent,
+        6.0,
+    ),
+    goal("sum_maps, few to overflow", Checks::Off, Of::Flat, 1.0),
+    goal(
+        "sum_maps, half to overflow",
+        Checks::Off,
+        Of::Independent,
+        7.0,
+    ),
+    goal("shift by 10", Checks::Off, Of::Independent, 6.0),
+    goal("shift by 10", Checks::Off, Of::Flat, 0.9),
+    goal(
+        "increment_masked, half set",
+        Checks::Off,
+        Of::Independent,
+        4.5,
+    ),
+    goal("increment_masked, half set", Checks::Off, Of::Flat, 1.2),
+    goal("keep_masked, half set", Checks::Off, Of::Independent, 12.0),
+    goal("keep_masked, half set", Checks::Off, Of::Flat, 3.5),
+    goal("map_of_mask, half set", Checks::Kept, Of::Independent, 3.0),
+    goal("map_of_mask, half set", Checks::Kept, Of::Flat, 1.5),
+    goal("bray_curtis", Checks::Off, Of::Independent, 6.0),
+    goal("bray_curtis", Checks::Off, Of::Flat, 3.5),
+    goal("jaccard at 200", Checks::Off, Of::Independent, 20.0),
+    goal("jaccard at 200", Checks::Off, Of::Flat, 3.0),
+    goal("jaccard at 300", Checks::Off, Of::Independent, 20.0),
+    goal("jaccard at 300", Checks::Off, Of::Flat, 3.0),
+    goal("scan", Checks::Off, Of::Independent, 2.3),
+    goal("scan", Checks::Off, Of::Flat, 1.2),
+    goal("scan", Checks::Off, Of::Memcpy, 1.35),
+    goal("signed_difference", Checks::Off, Of::Independent, 2.0),
+    goal("signed_difference", Checks::Off, Of::Flat, 0.9),
+    goal("signed_difference", Checks::Off, Of::Memcpy, 1.35),
+    goal("close", Checks::Kept, Of::Independent, 6.0),
+    goal("write", Checks::Kept, Of::Independent, 1.1),
+    noted(
+        ", 10 %",
+        MANY,
+        goal("write", Checks::Kept, Of::Independent, 2.5),
+    ),
+    goal("write, longest buffer", Checks::Kept, Of::Independent, 1.6),
+    goal("lookup_list of 16,000", Checks::Off, Of::Independent, 1.7),
+    noted(
+        WITH_CHECKS,
+        USUAL,
+        goal("edit, inline", Checks::Kept, Of::Independent, 12.0),
+    ),
+    noted(
+        WITH_CHECKS,
+        USUAL,
+        goal("edit, inline", Checks::Kept, Of::Memcpy, 1.2),
+    ),
+    noted(
+        WITH_CHECKS,
+        USUAL,
+        goal("edit, into and out", Checks::Kept, Of::Independent, 12.0),
+    ),
+    noted(
+        WITH_CHECKS,
+        USUAL,
+        goal("edit, into and out", Checks::Kept, Of::Memcpy, 1.2),
+    ),
+    goal("mask_and", Checks::Kept, Of::Independent, 1.0),
+    goal("mask_and", Checks::Kept, Of::Memcpy, 1.15),
+    goal("mask_or", Checks::Kept, Of::Independent, 1.0),
+    goal("mask_or", Checks::Kept, Of::Memcpy, 1.15),
+    goal("mask_xor", Checks::Kept, Of::Independent, 1.0),
+    goal("mask_xor", Checks::Kept, Of::Memcpy, 1.15),
+    goal("mask_not", Checks::Kept, Of::Independent, 1.0),
+    goal("mask_not", Checks::Kept, Of::Memcpy, 1.15),
+    goal("set_bits", Checks::Kept, Of::Independent, 1.0),
+    goal("set_bits", Checks::Kept, Of::Sse2, 1.25),
 ];
 
 impl Goal {
     fn named(&self) -> String {
-        let call = match self.call {
-            "of these ns a slot, no check" => "lookup_list, a slot",
-            call => call,
+        format!("{}{}", self.call, self.note)
+    }
+
+    fn ratio(&self, tables: &[&Table]) -> Option<Ratio> {
+        let table = tables.iter().find(|table| is_of(table, self.maps))?;
+        let row = table.find(self.call)?;
+        let time = |who| row.time(who).map(Measured::from);
+        let without = |who, checks| match self.checks {
+            Checks::Kept => time(who),
+            Checks::Off => Some(time(who)?.minus(time(checks)?)),
         };
-        format!("{call}{}", self.note)
-    }
-
-    fn key(&self) -> String {
-        format!("{}\t{}", self.named(), self.of.named())
-    }
-
-    fn ratio(&self, tables: &[&Table]) -> Option<f64> {
-        let is_meant =
-            |table: &&&Table| table.size == SIZE && (table.share, table.spread) == self.maps;
-        let table = tables.iter().find(is_meant)?;
-        let (row, check) = (table.find(self.call)?, table.find("check")?);
-        let library = row.library - self.checks * check.library;
+        let library = without(Who::Library, Who::Checks)?;
         Some(match self.of {
-            Of::Independent => (row.reference? - self.checks * check.reference?) / library,
-            Of::Flat => best_flat(row)? / library,
-            Of::Memcpy => library / row.memcpy?,
-            Of::ByHand => library / row.flat?,
+            Of::Independent => {
+                let independent = without(Who::Independent, Who::IndependentChecks)?;
+                Ratio::new(independent, library)
+            }
+            Of::Flat => Ratio::new(best_flat(row)?.1, library),
+            Of::Memcpy => Ratio::new(library, time(Who::Memcpy)?),
+            Of::Sse2 => Ratio::new(library, time(Who::Sse2)?),
         })
     }
 }
 
-fn best_flat(row: &Row) -> Option<f64> {
-    let times = [row.flat, row.numpy, row.opencv].into_iter().flatten();
-    times.reduce(f64::min)
+/// The fastest on flat arrays.
+pub fn best_flat(row: &Row) -> Option<(Who, Time)> {
+    let times = FLAT
+        .into_iter()
+        .filter_map(|who| Some((who, row.time(who)?)));
+    times.min_by(|(_, a), (_, b)| a.best.total_cmp(&b.best))
 }
 
-/// A line for each goal: the call, what is divided by what, the ratio.
-pub fn lines(tables: &[Table]) -> String {
-    let tables: Vec<&Table> = tables.iter().collect();
-    let mut text = String::new();
-    for goal in &GOALS {
-        if let Some(ratio) = goal.ratio(&tables) {
-            let _ = writeln!(text, "{}\t{ratio:.3}", goal.key());
+/// How a goal stands.
+pub struct Standing {
+    goal: &'static Goal,
+    ratio: Ratio,
+    verdict: Verdict,
+}
+
+/// How all goals stand that the tables have something to say of.
+pub fn standings(tables: &[&Table]) -> Vec<Standing> {
+    let standing = |goal: &'static Goal| {
+        let ratio = goal.ratio(tables)?;
+        let verdict = goal.of.verdict(ratio, goal.goal);
+        Some(Standing {
+            goal,
+            ratio,
+            verdict,
+        })
+    };
+    GOALS.iter().filter_map(standing).collect()
+}
+
+impl Standing {
+    pub fn call(&self) -> &'static str {
+        self.goal.call
+    }
+
+    /// The ratio with its goal, as a cell of a table.
+    fn cell(&self) -> String {
+        let goal = self.goal.goal;
+        let name = match self.goal.of {
+            Of::Sse2 => "of SSE2 ",
+            _ => "",
+        };
+        match (self.ratio, self.verdict) {
+            (Ratio::Of { value, .. }, Verdict::Short) => {
+                format!("{name}**{}** ({goal})", decimal(value))
+            }
+            (Ratio::Of { value, .. }, _) => format!("{name}{} ({goal})", decimal(value)),
+            (Ratio::BelowNoise, _) => format!("{name}not measurable here ({goal})"),
         }
+    }
+}
+
+/// How many goals are met, short, and not measurable.
+pub fn counts(standings: &[Standing]) -> String {
+    let count = |verdict| {
+        let of_kind = standings.iter().filter(|one| one.verdict == verdict);
+        of_kind.count()
+    };
+    format!(
+        "Of {} goals, {} are met; short: {}; not measurable here: {}",
+        standings.len(),
+        count(Verdict::Met),
+        count(Verdict::Short),
+        count(Verdict::NotMeasurable)
+    )
+}
+
+/// The calls that are short of a goal.
+pub fn short(standings: &[Standing]) -> Vec<&'static str> {
+    let short = standings.iter().filter(|one| one.verdict == Verdict::Short);
+    short.map(|one| one.goal.call).collect()
+}
+
+/// The table of goals, with the library's own times before and after.
+pub fn section(standings: &[Standing], own: &[Table], before: &Recorded) -> String {
+    let mut text = String::from(
+        "| call | before | after | change | independent / library (at least) | best flat / library (at least) | library / memcpy (at most) |
+|---|--:|--:|--:|---|---|---|
+",
+    );
+    let mut shown: Vec<(&str, Maps)> = Vec::new();
+    let same = |a: &Standing, b: &Standing| {
+        (a.goal.call, a.goal.note, a.goal.maps) == (b.goal.call, b.goal.note, b.goal.maps)
+    };
+    for group in standings.chunk_by(same) {
+        let goal = group[0].goal;
+        let cell = |is_column: fn(Of) -> bool| {
+            let cells = group.iter().filter(|one| is_column(one.goal.of));
+            cells.map(Standing::cell).collect::<Vec<_>>().join(", ")
+        };
+        // A call's own times include its checks, and stand in its first line.
+        let key = (goal.call, goal.maps);
+        let own = match shown.contains(&key) {
+            true => None,
+            false => own.iter().find(|table| is_of(table, goal.maps)),
+        };
+        shown.push(key);
+        let times = own.and_then(|table| own::compared(table, goal.call, before));
+        let _ = writeln!(
+            text,
+            "| {} | {} | {} | {} | {} |",
+            goal.named(),
+            times.map_or(String::from(" | | "), |times| times.cells()),
+            cell(|of| of == Of::Independent),
+            cell(|of| of == Of::Flat),
+            cell(|of| matches!(of, Of::Memcpy | Of::Sse2)),
+        );
     }
     text
 }
 
-/// The ratio of an earlier state.
-fn before(goal: &Goal) -> Option<f64> {
-    let key = goal.key() + "\t";
-    BEFORE
-        .lines()
-        .find_map(|line| line.strip_prefix(&key)?.parse().ok())
-}
-
-/// What stands in the way of goals that are not met, by the call they are about, and what was tried.
-const REASONS: [(&str, &str); 21] = [
-    (
-        "check",
-        "the count of bytes 255 takes three instructions for 16 bytes, the entries 13 each; the copy uses wider registers. Tests of entries without a branch were slower.",
-    ),
-    (
-        "sum",
-        "bytes become 16-bit numbers before they are added, two instructions for eight; SSE2's `psadbw`, which would add 16 at once, is not what the compiler makes of a sum.",
-    ),
-    (
-        "readings",
-        "the count runs at the speed of the second-level cache; OpenCV counts a flat array with AVX2.",
-    ),
-    (
-        "mask_below 200",
-        "92 instructions for 128 slots, all of them packed: no loop becomes SSE2's `pmovmskb`, so flags are gathered by weights and turned by three rounds of shifts.",
-    ),
-    (
-        "minimum",
-        "two checks take a large part of the call; then come a count by the entries, one pass over the bytes, and the entries.",
-    ),
-    (
-        "maximum",
-        "a merge of the entries of both maps, one by one and without a branch, beside two checks. A first loop while both maps have entries, and copies after it, was tried in a trial program and gains little.",
-    ),
-    (
-        "difference",
-        "a walk over the first map's entries that looks into the second map. Entries written without a branch were slower.",
-    ),
-    (
-        "shift by -50",
-        "half of the time is the one pass that writes the bytes, the rest three walks over the entries.",
-    ),
-    (
-        "sum_maps, few to overflow",
-        "two passes over the bytes (a count first, since a refused call may write nothing, then the sums), mask words of the result, a walk over their set bits, and a walk that fills in the distances, of which each branch is guessed wrong every other time. Filling in without a branch was faster here and much slower where half of the sums are in overflow; one loop for slots and distances was slower.",
-    ),
-    (
-        "sum_maps, half to overflow",
-        "an entry of 12 bytes for every other slot: a slot is written, read again and its distance filled in. One loop for both would be faster here and slower where few sums are in overflow.",
-    ),
-    (
-        "shift by 10",
-        "as the sum: the entries are found, written and filled in one by one.",
-    ),
-    (
-        "increment_masked",
-        "as the sum, and a count of the set slots with byte 254 before it. A count by mask words of bytes from 254 on gained little, and cost the masks of a map more, whose kernel was then no longer compiled into its loop.",
-    ),
-    (
-        "keep_masked",
-        "the mask becomes bytes by the table of 256 rows, eight at a time, before 16 bytes are combined at once; then the entries. The check is a quarter of the call.",
-    ),
-    (
-        "bray_curtis",
-        "sums of smaller and larger bytes, in 16-bit numbers; other blocks and other sums gained little.",
-    ),
-    (
-        "jaccard at 200",
-        "13 instructions for 16 slots of two maps, all of them packed.",
-    ),
-    (
-        "scan",
-        "widening takes as long as filling the list with a constant; the entries are then put in, where the list is no longer in the first-level cache. Putting them in block by block gained nothing.",
-    ),
-    (
-        "signed_difference",
-        "eight bytes are written for each slot.",
-    ),
-    (
-        "write",
-        "two passes over 32-bit distances, a count and the bytes, take two thirds of the call.",
-    ),
-    (
-        "of these ns a slot, no check",
-        "eight searches in step; the entries of a map with 10 % in overflow do not fit the cache beside the map.",
-    ),
-    (
-        "edit, into and out",
-        "the check, and 12 bytes moved for each entry behind the slot.",
-    ),
-    (
-        "mask_not",
-        "the independent program's loop is compiled to the same instructions; the difference is noise.",
-    ),
-];
-
-/// The table of goals, and what stands in the way of those that are not met.
-pub fn section(tables: &[Table], more: &[Table]) -> String {
-    let tables: Vec<&Table> = tables.iter().chain(more).collect();
-    let mut text =
-        String::from("| call | ratio | goal | before | after | |\n|---|---|--:|--:|--:|---|\n");
-    let (mut met, mut all) = (0, 0);
-    let mut short = Vec::new();
-    for goal in &GOALS {
-        let Some(ratio) = goal.ratio(&tables) else {
-            continue;
-        };
-        let is_met = goal.of.is_met(ratio, goal.goal);
+/// A table of tab-separated values.
+pub fn tsv(standings: &[Standing]) -> String {
+    let mut text = String::from(
+        "call\toverflow\tlayout\tchecks\tratio\tsign\tgoal\tvalue\tlow\thigh\tverdict\n",
+    );
+    for Standing {
+        goal,
+        ratio,
+        verdict,
+    } in standings
+    {
+        let (share, spread) = goal.maps;
         let _ = writeln!(
             text,
-            "| {} | {} | {} {} | {} | {} | {} |",
-            goal.named(),
+            "{}\t{}\t{}\t{}\t{}\t{}\t{}\t{}\t{}",
+            goal.call,
+            share as f64 / 10.0,
+            match spread {
+                Spread::Scattered => "scattered",
+                Spread::Clustered => "clustered",
+            },
+            match goal.checks {
+                Checks::Kept => "included",
+                Checks::Off => "off",
+            },
             goal.of.named(),
-            goal.of.sign(),
+            if goal.of.is_at_least() { ">=" } else { "<=" },
             goal.goal,
-            before(goal).map(decimal).unwrap_or_default(),
-            decimal(ratio),
-            if is_met { "met" } else { "short" },
+            match ratio {
+                Ratio::Of { value, low, high } => format!("{value:.3}\t{low:.3}\t{high:.3}"),
+                Ratio::BelowNoise => String::from("below the noise\t\t"),
+            },
+            verdict.named()
         );
-        all += 1;
-        met += usize::from(is_met);
-        if !is_met && !short.contains(&goal.call) {
-            short.push(goal.call);
-        }
-    }
-    let _ = writeln!(text, "\n{met} of {all} are met.");
-    for (call, reason) in REASONS {
-        if short.contains(&call) {
-            let _ = write!(text, "\n**{call}**: {reason}\n");
-        }
     }
     text
 }
@@ -384,67 +494,78 @@ pub fn section(tables: &[Table], more: &[Table]) -> String {
 #[cfg(test)]
 mod tests {
     use super::*;
+    use crate::report::samples;
 
-    /// A table in which a check takes 10 and 100 microseconds, and a minimum 40, 1,000, 90 on flat
-    /// arrays and 15 as a copy.
-    fn tables() -> [Table<'static>; 1] {
-        let row = |call: &str, library, reference, flat, memcpy| Row {
-            call: call.to_string(),
-            slots: SIZE.slots(),
-            library,
-            reference: Some(reference),
-            flat: Some(flat),
-            numpy: None,
-            opencv: None,
-            memcpy: Some(memcpy),
-        };
-        [Table {
-            size: SIZE,
-            share: USUAL.0,
-            spread: USUAL.1,
-            title: "a table".to_string(),
-            rows: vec![
-                row("check", 10.0, 100.0, 0.0, 10.0),
-                row("minimum", 40.0, 1_000.0, 90.0, 15.0),
-            ],
-            python: None,
-        }]
+    fn measured(value: f64, noise: f64) -> Measured {
+        Measured { value, noise }
+    }
+
+    fn found(checks: f64, spread: f64, call: &str, of: &str) -> String {
+        let tables = [samples::table(checks, spread)];
+        let text = tsv(&standings(&tables.iter().collect::<Vec<_>>()));
+        let is_meant = |line: &&str| line.starts_with(call) && line.contains(of);
+        let line = text.lines().find(is_meant);
+        line.unwrap_or_else(|| panic!("{call}: {text}")).to_string()
     }
 
     #[test]
     fn checks_are_taken_off_where_a_goal_leaves_them_out() {
-        let text = lines(&tables());
-        for line in [
-            "check\tindependent / library\t10.000",
-            "minimum\tindependent / library\t40.000",
-            "minimum\tbest flat / library\t4.500",
-            "minimum\tlibrary / memcpy\t1.333",
-            "minimum, checks included\tindependent / library\t25.000",
-            "minimum, checks included\tbest flat / library\t2.250",
-        ] {
-            assert!(text.lines().any(|found| found == line), "{text}");
+        let line = found(20.0, 0.0, "minimum", "\toff\tindependent");
+        assert!(line.contains("\t40.000\t"), "{line}");
+        let line = found(20.0, 0.0, "minimum", "\tincluded\tindependent");
+        assert!(line.contains("\t25.000\t"), "{line}");
+        let line = found(20.0, 0.0, "minimum", "\toff\tbest flat");
+        assert!(line.contains("\t4.500\t4.500\t4.500\tmet"), "{line}");
+        let line = found(20.0, 0.0, "minimum", "\toff\tlibrary / memcpy");
+        assert!(line.contains("\t1.333\t"), "{line}");
+    }
+
+    #[test]
+    fn a_difference_below_the_noise_has_no_ratio() {
+        for (checks, spread) in [(39.9, 1.0), (40.0, 0.0), (45.0, 0.0), (20.0, 15.0)] {
+            let line = found(checks, spread, "minimum", "\toff\tbest flat");
+            assert!(
+                line.ends_with("below the noise\t\t\tnot measurable here"),
+                "{line}"
+            );
+        }
+    }
+
+    #[test]
+    fn ratios_are_above_0_whatever_the_times() {
+        let values = [-5.0, 0.0, 1e-9, 0.4, 1.0, 7.0, 1e6];
+        let noises = [0.0, 1e-9, 0.5, 1.0, 100.0];
+        for a in values {
+            for b in values {
+                for noise in noises {
+                    let ratio = Ratio::new(measured(a, noise), measured(b, noise));
+                    if let Ratio::Of { value, low, high } = ratio {
+                        assert!(0.0 < low && low <= value && value <= high, "{ratio:?}");
+                        assert!(high <= 3.0 * value * 1.001 && high.is_finite(), "{ratio:?}");
+                    }
+                }
+            }
         }
     }
 
     #[test]
     fn goals_are_met_on_their_side() {
-        let text = section(&tables(), &[]);
-        assert!(
-            text.contains("| check | independent / library | ≥ 12 |"),
-            "{text}"
+        let ratio = |value| Ratio::new(measured(value, 0.0), measured(1.0, 0.0));
+        let at_least = |value| Of::Flat.verdict(ratio(value), 2.0);
+        let at_most = |value| Of::Memcpy.verdict(ratio(value), 2.0);
+        assert_eq!(
+            [at_least(2.1), at_most(2.1)],
+            [Verdict::Met, Verdict::Short]
         );
-        assert!(text.contains(" 10.00 | short |"), "{text}");
-        assert!(
-            text.contains("| minimum | library / memcpy | ≤ 1.5 |"),
-            "{text}"
+        assert_eq!(
+            [at_least(1.9), at_most(1.9)],
+            [Verdict::Short, Verdict::Met]
         );
-        assert!(text.contains(" 1.33 | met |"), "{text}");
-    }
-
-    #[test]
-    fn every_goal_has_a_ratio_of_an_earlier_state() {
-        for goal in &GOALS {
-            assert!(before(goal).is_some(), "{}", goal.key());
-        }
+        assert_eq!(
+            [at_least(1.99), at_most(2.01)],
+            [Verdict::Met, Verdict::Met]
+        );
+        let none = Of::Flat.verdict(Ratio::BelowNoise, 2.0);
+        assert_eq!(none, Verdict::NotMeasurable);
     }
 }

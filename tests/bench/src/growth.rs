@@ -2,76 +2,44 @@
 //! the slots in overflow.
 
 use crate::scene::Spread;
-use crate::table::{decimal, percent, thousands, Row, Table};
+use crate::table::{Table, Who};
+use crate::{GROWTH_SIZES, SHARES};
 use std::fmt::Write;
 
-/// The tables of one layout, smallest maps first.
-fn of_spread<'a, 'b>(tables: &[&'a Table<'b>], spread: Spread) -> Vec<&'a Table<'b>> {
-    let mut tables: Vec<_> = tables.to_vec();
-    tables.retain(|table| table.spread == spread);
-    tables.sort_by_key(|table| (table.size.slots(), table.share));
-    tables
-}
-
-/// A table with a line for each call on whole maps, and a column for each scene.
-fn matrix(tables: &[&Table], cell: impl Fn(&Row) -> Option<f64>) -> String {
-    let title = |table: &&Table| {
-        format!(
-            "{}, {}",
-            thousands(table.size.slots()),
-            percent(table.share)
-        )
-    };
-    let titles: Vec<String> = tables.iter().map(title).collect();
-    let mut text = format!(
-        "| call | {} |\n|---|{}\n",
-        titles.join(" | "),
-        "--:|".repeat(titles.len())
-    );
-    let rows = tables
-        .first()
-        .map(|table| &table.rows[..])
-        .unwrap_or_default();
-    for row in rows.iter().filter(|row| row.is_whole()) {
-        let found = |table: &&Table| table.find(&row.call).and_then(&cell).map(decimal);
-        let cells: Vec<String> = tables
-            .iter()
-            .map(|table| found(table).unwrap_or_default())
-            .collect();
-        if cells.iter().any(|cell| !cell.is_empty()) {
-            let _ = writeln!(text, "| {} | {} |", row.call, cells.join(" | "));
+/// A table of tab-separated values: a line for each call on whole maps, layout and share, with a
+/// column for each size.
+pub fn tsv(tables: &[&Table]) -> String {
+    let mut text = String::from("call\tlayout\toverflow");
+    for who in ["library", "flat_rust"] {
+        for size in GROWTH_SIZES {
+            let _ = write!(text, "\t{who}_{}", size.slots());
         }
     }
-    text
-}
-
-/// The section: costs, and the best of flat Rust beside them.
-pub fn section(tables: &[&Table]) -> String {
-    let mut text = String::from(
-        "Picoseconds a slot in the library, checks included: each call at 19,200, 786,432 and 1,048,576 slots, with 0.1 %,
-1 % and 10 % in overflow. A row that stays the same grows with the number of slots; what it grows by from 0.1 % to 10 % is
-the cost of the overflow entries. Files of 19,200 slots lie in the first-level cache or the second, those of 1,048,576 and
-their results beyond it.
-",
-    );
-    for (spread, said) in [
-        (Spread::Scattered, "slots in overflow scattered at random"),
-        (
-            Spread::Clustered,
-            "slots in overflow in runs of 256 neighbours",
-        ),
-    ] {
-        let tables = of_spread(tables, spread);
-        let _ = write!(
-            text,
-            "\n### Picoseconds a slot, {said}\n\n{}",
-            matrix(&tables, |row| Some(row.library * 1e6 / row.slots as f64))
-        );
-        let _ = write!(
-            text,
-            "\n### Flat Rust / library, {said}\n\n{}",
-            matrix(&tables, |row| Some(row.flat? / row.library))
-        );
+    text.push('\n');
+    let longest = tables.iter().max_by_key(|table| table.rows.len());
+    let rows = longest.iter().flat_map(|table| &table.rows);
+    for row in rows.filter(|row| row.is_whole()) {
+        for (spread, layout) in [
+            (Spread::Scattered, "scattered"),
+            (Spread::Clustered, "clustered"),
+        ] {
+            for share in SHARES {
+                let cell = |who, size| {
+                    let is_meant = |table: &&&Table| {
+                        (table.size, table.share, table.spread) == (size, share, spread)
+                    };
+                    let found = tables.iter().find(is_meant)?.find(&row.call)?;
+                    found.ps_a_slot(who).map(|cost| format!("{cost:.1}"))
+                };
+                let _ = write!(text, "{}\t{layout}\t{}", row.call, share as f64 / 10.0);
+                for who in [Who::Library, Who::FlatRust] {
+                    for size in GROWTH_SIZES {
+                        let _ = write!(text, "\t{}", cell(who, size).unwrap_or_default());
+                    }
+                }
+                text.push('\n');
+            }
+        }
     }
     text
 }

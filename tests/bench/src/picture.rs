@@ -1,33 +1,31 @@
 //! The picture: bars from 1, on a scale of logarithms, of the others' times divided by the library's.
 
-use crate::report::OTHERS;
-use crate::table::{percent, thousands, Row, Table};
+use crate::scene::{BRUSH, SPARSE};
+use crate::table::{percent, thousands, Row, Table, Who, OTHERS};
 use std::fmt::Write;
-
-/// Slots and thousandths in overflow of the table that is shown.
-const SHOWN: (usize, usize) = (786_432, 10);
 
 const COLOURS: [&str; 4] = ["#8a8f98", "#d97706", "#3b82f6", "#10a36f"];
 
 // Lengths in pixels.
 const WIDTH: f64 = 880.0;
-const LABELS: f64 = 210.0;
+const LABELS: f64 = 225.0;
 const RIGHT: f64 = 30.0;
 const TOP: f64 = 92.0;
 const BOTTOM: f64 = 34.0;
 const BAR: f64 = 5.0;
 const GAP: f64 = 7.0;
 
-/// Whether this is the table of the picture.
-pub fn shows(table: &Table) -> bool {
-    (table.size.slots(), table.share) == SHOWN
-}
-
-/// The picture of a table's calls on whole maps that flat arrays have too.
+/// The picture of a table's calls on whole maps that flat arrays have too. Masks of all kinds are
+/// shown for increments alone.
 pub fn svg(table: &Table) -> String {
+    let is_repeated = |row: &Row| {
+        let is_sparse = row.call.ends_with(SPARSE) || row.call.ends_with(BRUSH);
+        is_sparse && !row.call.starts_with("increment_masked")
+    };
     let rows = table.rows.iter();
     let rows: Vec<&Row> = rows
-        .filter(|row| row.is_whole() && row.flat.is_some())
+        .filter(|row| row.is_whole() && row.against(Who::FlatRust).is_some())
+        .filter(|row| !is_repeated(row))
         .collect();
     let scale = Scale::new(&rows);
     let pitch = BAR * OTHERS.len() as f64 + GAP;
@@ -79,7 +77,8 @@ text {{ fill: #e6edf3 }}
 
 fn legend(text: &mut String) {
     let mut x = 16.0;
-    for ((name, _), colour) in OTHERS.iter().zip(COLOURS) {
+    for (who, colour) in OTHERS.into_iter().zip(COLOURS) {
+        let name = who.named();
         let _ = writeln!(
             text,
             r#"<rect x="{x}" y="38" width="12" height="12" fill="{colour}"/><text x="{}" y="48">{name}</text>"#,
@@ -110,9 +109,11 @@ fn bars(text: &mut String, scale: &Scale, row: &Row, top: f64) {
         row.call
     );
     let one = scale.at(1.0);
-    for (i, ((_, time), colour)) in OTHERS.iter().zip(COLOURS).enumerate() {
-        let Some(time) = time(row) else { continue };
-        let end = scale.at(time / row.library);
+    for (i, (who, colour)) in OTHERS.into_iter().zip(COLOURS).enumerate() {
+        let Some(ratio) = row.against(who) else {
+            continue;
+        };
+        let end = scale.at(ratio);
         let _ = writeln!(
             text,
             r#"<rect x="{:.1}" y="{:.1}" width="{:.1}" height="{BAR}" fill="{colour}"/>"#,
@@ -121,11 +122,11 @@ fn bars(text: &mut String, scale: &Scale, row: &Row, top: f64) {
             (end - one).abs()
         );
     }
-    if let Some(memcpy) = row.memcpy {
+    if let Some(memcpy) = row.against(Who::Memcpy) {
         let _ = writeln!(
             text,
             r#"<line class="copy" x1="{0:.1}" y1="{1:.1}" x2="{0:.1}" y2="{2:.1}"/>"#,
-            scale.at(memcpy / row.library),
+            scale.at(memcpy),
             top - 1.0,
             top + BAR * OTHERS.len() as f64 + 1.0
         );
@@ -145,9 +146,9 @@ impl Scale {
     fn new(rows: &[&Row]) -> Scale {
         let (mut low, mut high) = (0.0f64, 0.0f64);
         for row in rows {
-            let others = OTHERS.iter().filter_map(|(_, time)| time(row));
-            for time in others.chain(row.memcpy) {
-                let ratio = (time / row.library).log10();
+            let others = OTHERS.into_iter().chain([Who::Memcpy]);
+            for ratio in others.filter_map(|who| row.against(who)) {
+                let ratio = ratio.log10();
                 (low, high) = (low.min(ratio), high.max(ratio));
             }
         }

@@ -68,8 +68,8 @@ impl Python {
         })
     }
 
-    /// Has the process take over the lists and masks of a scene.
-    pub fn take(&self, scene: &Scene) {
+    /// Has the process take over the lists and masks of a scene; the number that it has there.
+    pub fn take(&self, scene: &Scene) -> String {
         let save = |name: &str, numbers: &[u64]| {
             let bytes: Vec<u8> = numbers.iter().flat_map(|x| x.to_le_bytes()).collect();
             fs::write(self.folder.join(name), bytes).expect("a file below build");
@@ -86,9 +86,17 @@ impl Python {
         save("places", &[scene.inline_slot(), scene.overflow_slot()]);
         save("mask", &scene.mask);
         save("other_mask", &scene.other_mask);
+        for (kind, mask) in scene.masks() {
+            save(kind, mask);
+        }
         let (height, width) = (scene.size.height, scene.size.width);
         let folder = self.folder.display();
-        self.ask(&format!("scene\t{folder}\t{height}\t{width}"));
+        self.ask(&format!("scene\t{folder}\t{height}\t{width}"))
+    }
+
+    /// Has calls made on a scene that was taken over.
+    pub fn choose(&self, number: &str) {
+        self.ask(&format!("use\t{number}"));
     }
 
     /// The digest of a call's result, where the library has the call.
@@ -98,7 +106,9 @@ impl Python {
 
     /// The contestant for a call, where the library has it.
     pub fn contestant<'a>(&'a self, library: &'a str, call: &'a str) -> Option<Contestant<'a>> {
-        self.digest(library, call)?;
+        if self.ask(&format!("has\t{library}\t{call}")) == "none" {
+            return None;
+        }
         Some(Box::new(move |repeats| {
             let answer = self.ask(&format!("time\t{library}\t{call}\t{repeats}"));
             Duration::from_nanos(answer.parse().expect("nanoseconds"))

@@ -1,5 +1,6 @@
 //! The maps and masks that the calls of one table are about.
 
+use crate::table::thousands;
 use compare::lists;
 use compare::rng::Rng;
 
@@ -9,6 +10,14 @@ pub const LIST_LEN: usize = 1_000;
 pub const ASKED_LEN: usize = 16_000;
 /// Neighbouring slots that are in overflow together where they are clustered.
 const RUN: usize = 256;
+
+/// A sparse mask has one slot of this many set.
+const SET_OF: usize = 100;
+
+/// Kinds of masks.
+pub const HALF_SET: &str = "half set";
+pub const SPARSE: &str = "1 % scattered";
+pub const BRUSH: &str = "1 % in a disc";
 
 /// How the slots in overflow lie.
 #[derive(Clone, Copy, PartialEq, Eq)]
@@ -30,6 +39,10 @@ impl Size {
     pub fn slots(self) -> usize {
         self.width * self.height
     }
+
+    pub fn named(self) -> String {
+        format!("{} by {}", thousands(self.width), thousands(self.height))
+    }
 }
 
 /// A map and what it is made of.
@@ -44,14 +57,16 @@ pub struct Map {
 impl Map {
     /// A map with `k` slots in overflow and inline distances below `inline`.
     fn new(rng: &mut Rng, n: usize, k: usize, spread: Spread, inline: usize) -> Map {
-        let far = |rng: &mut Rng| 255 + rng.below(60_000) as u32;
-        let near = |rng: &mut Rng| rng.below(inline) as u32;
+        let overflow = |rng: &mut Rng| 255 + rng.below(60_000) as u32;
+        let inline = |rng: &mut Rng| rng.below(inline) as u32;
         let list = match spread {
-            Spread::Scattered => lists::placed(rng, n, k, lists::Spread::Scattered, far, near),
-            Spread::Clustered => clustered(rng, n, k, far, near),
+            Spread::Scattered => {
+                lists::placed(rng, n, k, lists::Spread::Scattered, overflow, inline)
+            }
+            Spread::Clustered => clustered(rng, n, k, overflow, inline),
         };
-        let overflow = (0u64..).zip(list.iter().copied());
-        let (slots, distances) = overflow.filter(|&(_, distance)| distance >= 255).unzip();
+        let placed = (0u64..).zip(list.iter().copied());
+        let (slots, distances) = placed.filter(|&(_, distance)| distance >= 255).unzip();
         Map {
             file: reference::encode(&list).expect("few slots"),
             list,
@@ -88,6 +103,10 @@ pub struct Scene {
     /// Masks with half of their bits set.
     pub mask: Vec<u64>,
     pub other_mask: Vec<u64>,
+    /// A mask with a bit of a hundred set, at random.
+    pub sparse_mask: Vec<u64>,
+    /// A mask with a bit of a hundred set: a disc in the middle, as a brush makes.
+    pub brush_mask: Vec<u64>,
 }
 
 impl Scene {
@@ -105,8 +124,19 @@ impl Scene {
             asked: (0..ASKED_LEN).map(|_| rng.pick(&a.slots)).collect(),
             mask: random_mask(&mut rng, n),
             other_mask: random_mask(&mut rng, n),
+            sparse_mask: sparse_mask(&mut rng, n),
+            brush_mask: brush_mask(size),
             a,
         }
+    }
+
+    /// The masks of each kind, with what the names of calls say of them.
+    pub fn masks(&self) -> [(&'static str, &[u64]); 3] {
+        [
+            (HALF_SET, &self.mask),
+            (SPARSE, &self.sparse_mask),
+            (BRUSH, &self.brush_mask),
+        ]
     }
 
     /// The first slot from the middle on that is stored inline.
@@ -134,13 +164,42 @@ fn random_mask(rng: &mut Rng, n: usize) -> Vec<u64> {
     (0..n / 64).map(|_| rng.word()).collect()
 }
 
-/// A list of `n` distances, made by `far` at exactly `k` slots in runs, and by `near` elsewhere.
+/// A mask of `n` slots, a multiple of 64, with a bit of a hundred set, at random.
+fn sparse_mask(rng: &mut Rng, n: usize) -> Vec<u64> {
+    let (one, zero) = (|_: &mut Rng| 1, |_: &mut Rng| 0);
+    let scattered = lists::Spread::Scattered;
+    packed(lists::placed(rng, n, n / SET_OF, scattered, one, zero))
+}
+
+/// A mask with about a bit of a hundred set: a disc in the middle.
+fn brush_mask(size: Size) -> Vec<u64> {
+    let square = size.slots() as f64 / SET_OF as f64 / std::f64::consts::PI;
+    let apart = |place: usize, whole: usize| place as f64 + 0.5 - whole as f64 / 2.0;
+    let is_set = |slot: usize| {
+        let x = apart(slot % size.width, size.width);
+        let y = apart(slot / size.width, size.height);
+        u32::from(x * x + y * y < square)
+    };
+    packed((0..size.slots()).map(is_set).collect())
+}
+
+/// The words of bits, a multiple of 64.
+fn packed(bits: Vec<u32>) -> Vec<u64> {
+    let word = |bits: &[u32; 64]| {
+        let bits = bits.iter().rev();
+        bits.fold(0, |word, &bit| word << 1 | u64::from(bit))
+    };
+    bits.as_chunks().0.iter().map(word).collect()
+}
+
+/// A list of `n` distances, made by `overflow` at exactly `k` slots in runs, and by `inline`
+/// elsewhere.
 fn clustered(
     rng: &mut Rng,
     n: usize,
     k: usize,
-    far: impl Fn(&mut Rng) -> u32,
-    near: impl Fn(&mut Rng) -> u32,
+    overflow: impl Fn(&mut Rng) -> u32,
+    inline: impl Fn(&mut Rng) -> u32,
 ) -> Vec<u32> {
     let runs = k.div_ceil(RUN);
     let chosen = |_: &mut Rng| 1;
@@ -150,9 +209,13 @@ fn clustered(
     let mut left = k;
     let mut list = Vec::with_capacity(n);
     for slot in 0..n {
-        let is_far = left > 0 && is_run.get(slot / RUN) == Some(&1);
-        left -= usize::from(is_far);
-        list.push(if is_far { far(rng) } else { near(rng) });
+        let is_overflow = left > 0 && is_run.get(slot / RUN) == Some(&1);
+        left -= usize::from(is_overflow);
+        list.push(if is_overflow {
+            overflow(rng)
+        } else {
+            inline(rng)
+        });
     }
     list
 }
@@ -160,6 +223,23 @@ fn clustered(
 #[cfg(test)]
 mod tests {
     use super::*;
+    use crate::flat::set_bits;
+
+    #[test]
+    fn sparse_masks_have_a_slot_of_a_hundred_set() {
+        let size = Size {
+            width: 160,
+            height: 120,
+        };
+        let sparse = sparse_mask(&mut Rng::new(1), size.slots());
+        assert_eq!(set_bits(&sparse), 192);
+        let words = sparse.iter().filter(|&&word| word != 0).count();
+        assert!(words > 100, "{words}");
+        let brush = brush_mask(size);
+        assert!((180..=204).contains(&set_bits(&brush)));
+        let words = brush.iter().filter(|&&word| word != 0).count();
+        assert!(words < 40, "{words}");
+    }
 
     #[test]
     fn clustered_maps_have_as_many_slots_in_overflow() {

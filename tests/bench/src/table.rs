@@ -1,32 +1,160 @@
-//! The rows of one table, timed and in Markdown.
+//! The rows of one table: the calls on the maps of a scene, timed in several passes.
 
 use crate::counterpart::Flat;
 use crate::python::Python;
 use crate::scene::{Scene, Size, Spread};
-use crate::timing::{best, contestant, keep, race, Contestant};
+use crate::timing::{contestant, keep, race, Contestant, Time};
 use std::hint::black_box;
 
 /// Bytes.
 const PAGE_OFFSET: usize = 2_112;
 
-/// The times of a call, in microseconds unless its name says otherwise.
+/// Who takes part in the race for a call.
+#[derive(Clone, Copy, Debug, PartialEq, Eq)]
+pub enum Who {
+    Library,
+    /// The library's checks of the files of the call, and nothing else.
+    Checks,
+    /// The straightforward program on the same files.
+    Independent,
+    /// Its checks of the files of the call, and nothing else.
+    IndependentChecks,
+    /// A plain loop over flat arrays.
+    FlatRust,
+    /// Instructions of SSE2 written by hand, in Rust.
+    Sse2,
+    Numpy,
+    OpenCv,
+    Memcpy,
+}
+
+pub const EVERYONE: [Who; 9] = [
+    Who::Library,
+    Who::Checks,
+    Who::Independent,
+    Who::IndependentChecks,
+    Who::FlatRust,
+    Who::Sse2,
+    Who::Numpy,
+    Who::OpenCv,
+    Who::Memcpy,
+];
+
+/// Those who work on flat arrays.
+pub const FLAT: [Who; 3] = [Who::FlatRust, Who::Numpy, Who::OpenCv];
+
+/// Whom the library is compared with.
+pub const OTHERS: [Who; 4] = [Who::Independent, Who::FlatRust, Who::Numpy, Who::OpenCv];
+
+impl Who {
+    /// The name in documents.
+    pub fn named(self) -> &'static str {
+        match self {
+            Who::Library => "library",
+            Who::Checks => "its checks",
+            Who::Independent => "independent",
+            Who::IndependentChecks => "independent's checks",
+            Who::FlatRust => "flat Rust",
+            Who::Sse2 => "SSE2 by hand",
+            Who::Numpy => "numpy",
+            Who::OpenCv => "OpenCV",
+            Who::Memcpy => "memcpy",
+        }
+    }
+
+    /// The column of a table of tab-separated values.
+    pub fn column(self) -> &'static str {
+        match self {
+            Who::Library => "library",
+            Who::Checks => "library_checks",
+            Who::Independent => "independent",
+            Who::IndependentChecks => "independent_checks",
+            Who::FlatRust => "flat_rust",
+            Who::Sse2 => "sse2_by_hand",
+            Who::Numpy => "numpy",
+            Who::OpenCv => "opencv",
+            Who::Memcpy => "memcpy",
+        }
+    }
+}
+
+/// Who is let into the races of a table.
+#[derive(Clone, Copy, PartialEq, Eq)]
+pub enum Entrants {
+    Library,
+    LibraryAndFlatRust,
+    All,
+}
+
+impl Entrants {
+    fn admit(self, who: Who) -> bool {
+        match self {
+            Entrants::Library => who == Who::Library,
+            Entrants::LibraryAndFlatRust => matches!(who, Who::Library | Who::FlatRust),
+            Entrants::All => true,
+        }
+    }
+}
+
+/// A call as the contestants make it.
+pub struct Race<'a, 'f> {
+    pub library: Contestant<'a>,
+    pub independent: Contestant<'a>,
+    /// The files that both of them check.
+    pub files: &'a [&'a [u8]],
+    pub flat: Flat<'f>,
+    pub sse2: Option<Contestant<'a>>,
+    /// Bytes that are read and written in all, where a memcpy with as much traffic takes part.
+    pub traffic: Option<usize>,
+}
+
+/// The times of a call.
 pub struct Row {
     pub call: String,
     /// Slots of the map.
     pub slots: usize,
-    pub library: f64,
-    pub reference: Option<f64>,
-    pub flat: Option<f64>,
-    pub numpy: Option<f64>,
-    pub opencv: Option<f64>,
-    pub memcpy: Option<f64>,
+    /// Microseconds a call of each contestant, pass by pass.
+    passes: [Vec<f64>; EVERYONE.len()],
 }
 
 impl Row {
+    pub fn new(call: &str, slots: usize) -> Row {
+        Row {
+            call: call.to_string(),
+            slots,
+            passes: Default::default(),
+        }
+    }
+
+    /// Adds the times of a pass.
+    pub fn add(&mut self, times: [Option<f64>; EVERYONE.len()]) {
+        for (passes, time) in self.passes.iter_mut().zip(times) {
+            passes.extend(time);
+        }
+    }
+
+    pub fn time(&self, who: Who) -> Option<Time> {
+        Time::of(&self.passes[who as usize])
+    }
+
+    /// Microseconds a call, the best pass.
+    pub fn best(&self, who: Who) -> Option<f64> {
+        self.time(who).map(|time| time.best)
+    }
+
+    /// The other's time divided by the library's.
+    pub fn against(&self, who: Who) -> Option<f64> {
+        Some(self.best(who)? / self.best(Who::Library)?)
+    }
+
+    /// Picoseconds a slot of the map.
+    pub fn ps_a_slot(&self, who: Who) -> Option<f64> {
+        Some(self.best(who)? * 1e6 / self.slots as f64)
+    }
+
     /// Whether the call has to do with all slots of a map, and not with a few of them.
     pub fn is_whole(&self) -> bool {
-        let few = ["lookup", "edit", "of these"];
-        !few.iter().any(|start| self.call.starts_with(start))
+        !self.call.starts_with("lookup") && !self.call.starts_with("edit")
     }
 }
 
@@ -41,13 +169,16 @@ pub struct Table<'a> {
     pub spread: Spread,
     pub title: String,
     pub rows: Vec<Row>,
-    pub python: Option<&'a Python>,
+    pub entrants: Entrants,
+    /// The process with numpy and OpenCV, and the number that the scene has there.
+    pub python: Option<(&'a Python, String)>,
 }
 
 impl<'a> Table<'a> {
-    pub fn new(scene: &Scene, python: Option<&'a Python>) -> Table<'a> {
+    pub fn new(scene: &Scene, entrants: Entrants, python: Option<&'a Python>) -> Table<'a> {
         let Size { width, height } = scene.size;
-        let title = format!(
+        let mut table = Table::of_maps(scene.size, scene.share, scene.spread);
+        table.title = format!(
             "{} by {}, {} in overflow{}: n = {}, k = {}, {} bytes",
             thousands(width),
             thousands(height),
@@ -60,89 +191,115 @@ impl<'a> Table<'a> {
             thousands(scene.a.slots.len()),
             thousands(scene.a.file.len())
         );
-        if let Some(python) = python {
-            python.take(scene);
-        }
         Table {
-            size: scene.size,
-            share: scene.share,
-            spread: scene.spread,
-            title,
-            rows: Vec::new(),
-            python,
+            entrants,
+            python: python.map(|python| (python, python.take(scene))),
+            ..table
         }
     }
 
-    /// Times a call that reads and writes `traffic` bytes in all, beside the reference's, those on
-    /// flat arrays and a memcpy with as much traffic. Neither call may be refused.
+    /// A table without rows.
+    pub fn of_maps(size: Size, share: usize, spread: Spread) -> Table<'a> {
+        Table {
+            size,
+            share,
+            spread,
+            title: String::new(),
+            rows: Vec::new(),
+            entrants: Entrants::All,
+            python: None,
+        }
+    }
+
+    /// Times a call that reads and writes `traffic` bytes in all, beside the independent program's,
+    /// those on flat arrays and a memcpy with as much traffic, and their checks of `files` alone.
+    /// Neither call may be refused.
     pub fn row<T, U, E>(
         &mut self,
         call: &str,
         traffic: usize,
+        files: &[&[u8]],
         mut library: impl FnMut() -> Result<T, pciv::Refusal>,
         mut reference: impl FnMut() -> Result<U, E>,
-        mut flat: Flat,
+        flat: Flat,
     ) {
         assert!(library().is_ok() && reference().is_ok(), "{call} refused");
-        let from = vec![1u8; traffic / 2];
-        // Not at the same place in a page as what it is copied from: that would slow a copy down.
-        let mut to = vec![1u8; traffic / 2 + PAGE_OFFSET];
-        let to = &mut to[PAGE_OFFSET..];
-        self.compare_results(call, &mut flat);
-        let times = best(&race([
-            Some(contestant(|| keep(library()))),
-            Some(contestant(|| keep(reference()))),
+        self.run(
+            call,
+            Race {
+                library: contestant(|| keep(library())),
+                independent: contestant(|| keep(reference())),
+                files,
+                flat,
+                sse2: None,
+                traffic: Some(traffic),
+            },
+        );
+    }
+
+    /// Runs a race, and adds the times to the row of the call.
+    pub fn run(&mut self, call: &str, contestants: Race) {
+        let Race {
+            library,
+            independent,
+            files,
+            mut flat,
+            sse2,
+            traffic,
+        } = contestants;
+        if self.find(call).is_none() {
+            self.compare_results(call, &mut flat);
+        }
+        let checks = |check: fn(&[u8])| {
+            let each = move || files.iter().for_each(|file| check(black_box(file)));
+            (!files.is_empty()).then(|| contestant(each))
+        };
+        let is_here = |who| self.entrants.admit(who);
+        let python = self.python.as_ref().map(|(python, _)| *python);
+        let flat_library = |name| python.and_then(|python| python.contestant(name, call));
+        let mut contestants = [
+            Some(library),
+            checks(|file| keep(pciv::check(file))),
+            Some(independent),
+            checks(|file| keep(reference::check(file))),
             flat.contestant(self.size.slots()),
-            self.numpy(call),
-            self.opencv(call),
-            Some(contestant(|| {
-                black_box(&mut *to).copy_from_slice(black_box(&from));
-            })),
-        ]));
+            sse2,
+            flat_library("numpy"),
+            flat_library("opencv"),
+            traffic.filter(|_| is_here(Who::Memcpy)).map(copy),
+        ];
+        for (who, contestant) in EVERYONE.into_iter().zip(&mut contestants) {
+            contestant.take_if(|_| !is_here(who));
+        }
+        let times = race(contestants);
         self.push(call, times);
     }
 
-    /// The contestant with numpy, if it has the call.
-    pub fn numpy<'b>(&self, call: &'b str) -> Option<Contestant<'b>>
-    where
-        'a: 'b,
-    {
-        self.python?.contestant("numpy", call)
-    }
-
-    /// The contestant with OpenCV, if it has the call.
-    pub fn opencv<'b>(&self, call: &'b str) -> Option<Contestant<'b>>
-    where
-        'a: 'b,
-    {
-        self.python?.contestant("opencv", call)
+    /// Adds the times of a pass to the row of the call, which is made by the first one.
+    pub fn push(&mut self, call: &str, times: [Option<f64>; EVERYONE.len()]) {
+        let slots = self.size.slots();
+        let place = self.rows.iter().position(|row| row.call == call);
+        let place = place.unwrap_or_else(|| {
+            self.rows.push(Row::new(call, slots));
+            self.rows.len() - 1
+        });
+        self.rows[place].add(times);
     }
 
     /// Holds numpy and OpenCV to the result on flat arrays in Rust.
-    pub fn compare_results(&self, call: &str, flat: &mut Flat) {
+    fn compare_results(&self, call: &str, flat: &mut Flat) {
+        let Some((python, _)) = &self.python else {
+            return;
+        };
         let Some(digest) = flat.digest(self.size.slots()) else {
             return;
         };
         for library in ["numpy", "opencv"] {
-            let theirs = self.python.and_then(|python| python.digest(library, call));
+            let theirs = python.digest(library, call);
             assert!(
                 theirs.is_none_or(|theirs| theirs == digest),
                 "{library} differs: {call}"
             );
-        }
-    }
-
-    /// Takes over the times of another pass over the same calls that are better.
-    pub fn keep_best(&mut self, other: &Table) {
-        let least = |a: &mut Option<f64>, b: Option<f64>| *a = a.zip(b).map(|(a, b)| a.min(b));
-        for (row, again) in self.rows.iter_mut().zip(&other.rows) {
-            assert_eq!(row.call, again.call);
-            row.library = row.library.min(again.library);
-            least(&mut row.reference, again.reference);
-            least(&mut row.flat, again.flat);
-            least(&mut row.numpy, again.numpy);
-            least(&mut row.opencv, again.opencv);
-            least(&mut row.memcpy, again.memcpy);
         }
     }
 
@@ -151,19 +308,13 @@ impl<'a> Table<'a> {
         self.rows.iter().find(|row| row.call == call)
     }
 
-    /// Adds a row of the times of the library, the reference, flat Rust, numpy, OpenCV and memcpy.
-    pub fn push(&mut self, call: &str, times: [Option<f64>; 6]) {
-        let [library, reference, flat, numpy, opencv, memcpy] = times;
-        self.rows.push(Row {
-            call: call.to_string(),
-            slots: self.size.slots(),
-            library: library.expect("a contestant"),
-            reference,
-            flat,
-            numpy,
-            opencv,
-            memcpy,
-        });
+    /// The size and the share in overflow.
+    pub fn named(&self) -> String {
+        let layout = match self.spread {
+            Spread::Scattered => "",
+            Spread::Clustered => " clustered",
+        };
+        format!("{}, {}{layout}", self.size.named(), percent(self.share))
     }
 
     /// The table in Markdown.
@@ -185,15 +336,26 @@ impl<'a> Table<'a> {
     }
 }
 
+/// A memcpy that reads and writes as many bytes in all.
+fn copy(traffic: usize) -> Contestant<'static> {
+    let from = vec![1u8; traffic / 2];
+    // Not at the same place in a page as what it is copied from: that would slow a copy down.
+    let mut to = vec![1u8; traffic / 2 + PAGE_OFFSET];
+    contestant(move || black_box(&mut to[PAGE_OFFSET..]).copy_from_slice(black_box(&from)))
+}
+
 /// A number to about three figures.
 pub fn decimal(number: f64) -> String {
-    let places = match number {
-        1e3.. => 0,
-        1e2.. => 1,
-        0.095.. => 2,
-        _ => 1 + -number.max(1e-9).log10().floor() as usize,
-    };
-    format!("{number:.places$}")
+    match number {
+        1e3.. => thousands(number.round() as usize),
+        1e2.. => format!("{number:.0}"),
+        1e1.. => format!("{number:.1}"),
+        0.095.. => format!("{number:.2}"),
+        _ => {
+            let places = 1 + -number.max(1e-9).log10().floor() as usize;
+            format!("{number:.places$}")
+        }
+    }
 }
 
 /// A whole number with a comma at each thousand.

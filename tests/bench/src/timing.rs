@@ -3,7 +3,8 @@
 use std::hint::black_box;
 use std::time::{Duration, Instant};
 
-pub const ROUNDS: u32 = 50;
+/// Rounds of a race, which is run once in each pass over the calls.
+pub const ROUNDS: u32 = 8;
 /// A round of a contestant takes at least about this long, so that the clock does not matter.
 const ROUND_TIME: Duration = Duration::from_micros(200);
 
@@ -22,8 +23,8 @@ pub fn contestant<'a>(mut call: impl FnMut() + 'a) -> Contestant<'a> {
     })
 }
 
-/// Microseconds a call of each contestant, round by round; infinite for one that is missing.
-pub fn race<const N: usize>(mut contestants: [Option<Contestant>; N]) -> Vec<[f64; N]> {
+/// Microseconds a call of each contestant in its best round; none for one that is missing.
+pub fn race<const N: usize>(mut contestants: [Option<Contestant>; N]) -> [Option<f64>; N] {
     let repeats = contestants.each_mut().map(|contestant| {
         let mut repeats = 1;
         while let Some(time) = contestant {
@@ -34,21 +35,39 @@ pub fn race<const N: usize>(mut contestants: [Option<Contestant>; N]) -> Vec<[f6
         }
         repeats
     });
-    let mut turn = |i: usize| match &mut contestants[i] {
-        Some(time) => time(repeats[i]).as_secs_f64() * 1e6 / f64::from(repeats[i]),
-        None => f64::INFINITY,
-    };
-    (0..ROUNDS)
-        .map(|_| std::array::from_fn(&mut turn))
-        .collect()
+    let mut best = [None; N];
+    for _ in 0..ROUNDS {
+        for i in 0..N {
+            if let Some(time) = &mut contestants[i] {
+                let time = time(repeats[i]).as_secs_f64() * 1e6 / f64::from(repeats[i]);
+                best[i] = Some(best[i].map_or(time, |best: f64| best.min(time)));
+            }
+        }
+    }
+    best
 }
 
-/// The best round of each contestant.
-pub fn best<const N: usize>(rounds: &[[f64; N]]) -> [Option<f64>; N] {
-    std::array::from_fn(|i| {
-        let times = rounds.iter().map(|round| round[i]);
-        Some(times.fold(f64::INFINITY, f64::min)).filter(|time| time.is_finite())
-    })
+/// What several passes say of a time, in microseconds.
+#[derive(Clone, Copy, Debug, PartialEq)]
+pub struct Time {
+    /// The best pass.
+    pub best: f64,
+    /// How far the passes lie apart, without the worst third of them.
+    pub spread: f64,
+}
+
+impl Time {
+    /// None where there was no pass.
+    pub fn of(passes: &[f64]) -> Option<Time> {
+        let mut sorted = passes.to_vec();
+        sorted.sort_by(f64::total_cmp);
+        let best = *sorted.first()?;
+        let last = sorted.len() - 1 - sorted.len() / 3;
+        Some(Time {
+            best,
+            spread: sorted[last] - best,
+        })
+    }
 }
 
 pub fn median(values: impl Iterator<Item = f64>) -> f64 {
@@ -60,4 +79,27 @@ pub fn median(values: impl Iterator<Item = f64>) -> f64 {
 /// Has the compiler believe that a result is used.
 pub fn keep<T>(result: T) {
     black_box(result);
+}
+
+#[cfg(test)]
+mod tests {
+    use super::*;
+
+    fn time(passes: &[f64]) -> Option<(f64, f64)> {
+        Time::of(passes).map(|time| (time.best, time.spread))
+    }
+
+    #[test]
+    fn passes_have_a_best_one_and_a_spread() {
+        assert_eq!(time(&[]), None);
+        assert_eq!(time(&[5.0]), Some((5.0, 0.0)));
+        assert_eq!(time(&[7.0, 5.0]), Some((5.0, 2.0)));
+    }
+
+    #[test]
+    fn the_worst_third_of_the_passes_is_left_out() {
+        assert_eq!(time(&[7.0, 5.0, 90.0, 6.0]), Some((5.0, 2.0)));
+        let passes = [7.0, 90.0, 5.0, 6.0, 80.0, 5.5, 6.5];
+        assert_eq!(time(&passes), Some((5.0, 2.0)));
+    }
 }

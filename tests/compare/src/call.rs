@@ -76,7 +76,7 @@ impl Dirty for Summary {
     }
 }
 
-/// An answer of the reference.
+/// An answer of the reference, or one that is written down.
 pub type Answer<T> = Result<T, reference::Refusal>;
 
 /// The reference's summary in the library's type.
@@ -110,7 +110,7 @@ struct Outcome<T> {
     result: T,
 }
 
-/// The outcome that the reference's answer asks for.
+/// The outcome that an answer asks for.
 fn expected<T: Dirty>(answer: Answer<T>) -> Outcome<T> {
     match answer {
         Ok(result) => Outcome {
@@ -179,9 +179,9 @@ impl Judge {
     ) {
         let mut wanted = Guarded::dirty(capacity);
         let mut got = wanted.clone();
-        let answer = reference(wanted.lent());
+        let answer = reference(wanted.contents_mut());
         self.value(call, answer, |out, refusal| {
-            library(got.lent(), out, refusal)
+            library(got.contents_mut(), out, refusal)
         });
         self.same_guarded(call, "buffer", &wanted, &got);
     }
@@ -224,12 +224,12 @@ impl<E: Dirty + Clone> Guarded<E> {
     /// A buffer that holds these elements.
     pub fn with(contents: &[E]) -> Guarded<E> {
         let mut guarded = Guarded::dirty(contents.len());
-        guarded.lent().clone_from_slice(contents);
+        guarded.contents_mut().clone_from_slice(contents);
         guarded
     }
 
     /// What a call gets.
-    pub fn lent(&mut self) -> &mut [E] {
+    pub fn contents_mut(&mut self) -> &mut [E] {
         &mut self.memory[self.range.clone()]
     }
 

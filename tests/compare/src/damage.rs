@@ -170,7 +170,7 @@ fn lengths(file: &[u8]) -> Vec<Damage> {
     let header = reference::HEADER_LEN;
     let shorter = [1, OVERFLOW_ENTRY_LEN, INDEX_ENTRY_LEN]
         .into_iter()
-        .filter_map(|cut| file.len().checked_sub(cut));
+        .filter_map(|missing| file.len().checked_sub(missing));
     let fixed = [0, 1, 8, header - 1, header];
     let longer = [1, OVERFLOW_ENTRY_LEN, INDEX_ENTRY_LEN].map(|len| Damage::Extend(vec![0; len]));
     shorter

@@ -130,9 +130,9 @@ pub fn compare_edit(judge: &mut Judge, buffer: &[u8], slot: u64, distance: u32) 
     let call = Call::new("edit", format!(" of slot {slot} to {distance}"));
     let mut wanted = Guarded::with(buffer);
     let mut got = wanted.clone();
-    let answer = reference::edit(wanted.lent(), slot, distance).map(summary_of);
+    let answer = reference::edit(wanted.contents_mut(), slot, distance).map(summary_of);
     judge.value(&call, answer, |summary, refusal| {
-        raw::edit(got.lent(), slot, distance, summary, refusal)
+        raw::edit(got.contents_mut(), slot, distance, summary, refusal)
     });
     judge.same_guarded(&call, "buffer", &wanted, &got);
     got.contents().to_vec()
@@ -154,9 +154,21 @@ pub fn compare_list(
     let call = Call::new("edit_list", with);
     let mut wanted = (Guarded::with(buffer), Guarded::dirty(capacity));
     let mut got = wanted.clone();
-    let answer = reference::edit_list(wanted.0.lent(), slots, distances, wanted.1.lent());
+    let answer = reference::edit_list(
+        wanted.0.contents_mut(),
+        slots,
+        distances,
+        wanted.1.contents_mut(),
+    );
     judge.value(&call, answer, |count, refusal| {
-        raw::edit_list(got.0.lent(), slots, distances, got.1.lent(), count, refusal)
+        raw::edit_list(
+            got.0.contents_mut(),
+            slots,
+            distances,
+            got.1.contents_mut(),
+            count,
+            refusal,
+        )
     });
     judge.same_guarded(&call, "buffer", &wanted.0, &got.0);
     judge.same_guarded(&call, "answers", &wanted.1, &got.1);
@@ -198,8 +210,8 @@ fn worked_examples(run: &mut Run) {
         run.case("worked example of edits", number, |_| Edits {
             list: vec![0, 254, 255, 300],
             capacity,
-            slots: vec![2, 1, 1, 3, 4, 0, 0],
-            distances: vec![254, 255, 254, 4_294_967_295, 1, 255, 255],
+            slots: vec![1, 2, 1, 1, 3, 4, 0, 0],
+            distances: vec![255, 254, 255, 254, 4_294_967_295, 1, 255, 255],
         });
     }
 }

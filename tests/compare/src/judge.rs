@@ -12,7 +12,7 @@ pub struct Judge {
     pub case: String,
     pub calls: u64,
     pub differences: u64,
-    /// What the reference answered: routine, refusal number or 0 when done, and map.
+    /// What had to be answered: routine, refusal number or 0 when done, and map.
     pub outcomes: HashSet<(&'static str, u64, u64)>,
     /// Holds any file, for the reference alone.
     scratch: Vec<u8>,

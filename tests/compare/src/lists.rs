@@ -152,7 +152,7 @@ pub fn about_shift(rng: &mut Rng, n: usize, by: i32) -> Vec<u32> {
 /// Distances of which exactly `k`, shifted, are in overflow, and `others` that are not, if there can
 /// be such.
 pub fn shifted_to(rng: &mut Rng, by: i32, k: usize, others: usize, spread: Spread) -> Vec<u32> {
-    /// The results are at most so far from the border of overflow.
+    /// The results differ from the border of overflow by less than this.
     const REACH: usize = 600;
     let border = 255 - i64::from(by);
     let others = if border > 0 { others } else { 0 };

@@ -1,6 +1,6 @@
-//! Compares the verified library with the independent implementation: every routine on random
-//! lists, on files and parts damaged in every field, on pairs of files, on masks, on runs of edits,
-//! and on random bytes.
+//! Compares the verified library with the outcomes that `docs/FORMAT.md` gives, and with the
+//! independent implementation: every routine on random lists, on files and parts damaged in every
+//! field, on pairs of files, on masks, on runs of edits, and on random bytes.
 //!
 //! `PCIV_SEED` sets the seed of the run, `PCIV_CASE` picks the one case with that seed.
 
@@ -9,14 +9,15 @@ mod damage;
 mod edits;
 mod files;
 mod judge;
-mod lent;
 mod masks;
 mod pairs;
 mod parts;
+mod read_only;
 mod routines;
 mod run;
 mod shifts;
 mod trial;
+mod worked;
 mod writing;
 
 use run::Run;
@@ -24,6 +25,7 @@ use std::process;
 
 fn main() {
     let mut run = Run::from_environment();
+    worked::run_all(&mut run);
     files::run_all(&mut run);
     writing::run_all(&mut run);
     pairs::run_all(&mut run);

@@ -3,7 +3,7 @@
 use crate::call::{capacities, file_capacities, Answer, Call};
 use crate::files::encode;
 use crate::judge::Judge;
-use crate::lent::Lent;
+use crate::read_only::ReadOnly;
 use crate::run::{Run, Subject};
 use crate::trial::Trial;
 use compare::lists::{self, Spread};
@@ -121,8 +121,8 @@ impl Subject for Masks {
 
     fn compare(&self, judge: &mut Judge, rng: &mut Rng) {
         let n = self.n as usize;
-        let mut lend = |words| Lent::new(rng, words, u64::MAX);
-        let (mut a, mut b) = (lend(&self.a), lend(&self.b));
+        let mut guard = |words| ReadOnly::new(rng, words, u64::MAX);
+        let (mut a, mut b) = (guard(&self.a), guard(&self.b));
         let len = a.original().len();
         for routine in &COMBINING {
             for capacity in capacities(rng, len) {
@@ -132,7 +132,7 @@ impl Subject for Masks {
                     capacity,
                     |out| (routine.reference)(n, a.original(), b.original(), out),
                     |out, count, refusal| {
-                        (routine.library)(self.n, a.lent(), b.lent(), out, count, refusal)
+                        (routine.library)(self.n, a.contents(), b.contents(), out, count, refusal)
                     },
                 );
                 a.settle(judge, &call, "the first mask");
@@ -145,7 +145,7 @@ impl Subject for Masks {
 
 impl Masks {
     /// The calls on the first mask alone.
-    fn one_mask(&self, judge: &mut Judge, rng: &mut Rng, mask: &mut Lent<u64>) {
+    fn one_mask(&self, judge: &mut Judge, rng: &mut Rng, mask: &mut ReadOnly<u64>) {
         let n = self.n as usize;
         for capacity in capacities(rng, mask.original().len()) {
             let call = Call::with_capacity("mask_not", capacity);
@@ -153,14 +153,14 @@ impl Masks {
                 &call,
                 capacity,
                 |out| reference::mask_not(n, mask.original(), out),
-                |out, count, refusal| raw::mask_not(self.n, mask.lent(), out, count, refusal),
+                |out, count, refusal| raw::mask_not(self.n, mask.contents(), out, count, refusal),
             );
             mask.settle(judge, &call, "the mask");
         }
         let call = Call::new("set_bits", "");
         let answer = reference::set_bits(n, mask.original());
         judge.value(&call, answer, |out, refusal| {
-            raw::set_bits(self.n, mask.lent(), out, refusal)
+            raw::set_bits(self.n, mask.contents(), out, refusal)
         });
         mask.settle(judge, &call, "the mask");
         let answer = reference::map_of_mask(n, mask.original(), judge.scratch());
@@ -171,7 +171,7 @@ impl Masks {
                 capacity,
                 |out| reference::map_of_mask(n, mask.original(), out),
                 |out, summary, refusal| {
-                    raw::map_of_mask(self.n, mask.lent(), out, summary, refusal)
+                    raw::map_of_mask(self.n, mask.contents(), out, summary, refusal)
                 },
             );
             mask.settle(judge, &call, "the mask");

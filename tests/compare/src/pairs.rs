@@ -4,8 +4,8 @@ use crate::call::{capacities, file_capacities, Answer, Call};
 use crate::damage::{self, Damage};
 use crate::files::encode;
 use crate::judge::Judge;
-use crate::lent::Lent;
 use crate::masks::THRESHOLDS;
+use crate::read_only::ReadOnly;
 use crate::run::{Run, Subject};
 use compare::lists::{self, Spread};
 use compare::rng::{case_seed, Rng};
@@ -79,7 +79,7 @@ impl Subject for Pair {
     }
 
     fn compare(&self, judge: &mut Judge, rng: &mut Rng) {
-        let mut pair = LentPair::new(rng, &self.a, &self.b);
+        let mut pair = ReadOnlyPair::new(rng, &self.a, &self.b);
         for routine in &COMBINING {
             pair.combine(judge, rng, routine);
         }
@@ -88,27 +88,27 @@ impl Subject for Pair {
     }
 }
 
-/// Two files lent to the library; a file beside itself is the same memory.
-struct LentPair {
-    a: Lent<u8>,
-    b: Option<Lent<u8>>,
+/// Two files that the library only reads; a file beside itself is the same memory.
+struct ReadOnlyPair {
+    a: ReadOnly<u8>,
+    b: Option<ReadOnly<u8>>,
 }
 
-impl LentPair {
-    fn new(rng: &mut Rng, a: &[u8], b: &[u8]) -> LentPair {
-        let mut lend = |file| Lent::new(rng, file, reference::SENTINEL);
-        LentPair {
-            a: lend(a),
-            b: (a != b).then(|| lend(b)),
+impl ReadOnlyPair {
+    fn new(rng: &mut Rng, a: &[u8], b: &[u8]) -> ReadOnlyPair {
+        let mut guard = |file| ReadOnly::new(rng, file, reference::SENTINEL);
+        ReadOnlyPair {
+            a: guard(a),
+            b: (a != b).then(|| guard(b)),
         }
     }
 
-    fn second(&self) -> &Lent<u8> {
+    fn second(&self) -> &ReadOnly<u8> {
         self.b.as_ref().unwrap_or(&self.a)
     }
 
-    fn lent(&self) -> (&[u8], &[u8]) {
-        (self.a.lent(), self.second().lent())
+    fn contents(&self) -> (&[u8], &[u8]) {
+        (self.a.contents(), self.second().contents())
     }
 
     fn original(&self) -> (&[u8], &[u8]) {
@@ -120,12 +120,12 @@ impl LentPair {
         let answer = (routine.reference)(a, b, judge.scratch());
         for capacity in file_capacities(rng, &answer) {
             let call = Call::with_capacity(routine.name, capacity);
-            let ((a, b), (lent_a, lent_b)) = (self.original(), self.lent());
+            let ((a, b), (ours_a, ours_b)) = (self.original(), self.contents());
             judge.file(
                 &call,
                 capacity,
                 |out| (routine.reference)(a, b, out),
-                |out, summary, refusal| (routine.library)(lent_a, lent_b, out, summary, refusal),
+                |out, summary, refusal| (routine.library)(ours_a, ours_b, out, summary, refusal),
             );
             self.settle(judge, &call);
         }
@@ -135,12 +135,12 @@ impl LentPair {
         let n = reference::check(self.a.original()).map_or(9, |summary| summary.n);
         for capacity in capacities(rng, n as usize) {
             let call = Call::with_capacity("signed_difference", capacity);
-            let ((a, b), (lent_a, lent_b)) = (self.original(), self.lent());
+            let ((a, b), (ours_a, ours_b)) = (self.original(), self.contents());
             judge.buffer(
                 &call,
                 capacity,
                 |out| reference::signed_difference(a, b, out),
-                |out, count, refusal| raw::signed_difference(lent_a, lent_b, out, count, refusal),
+                |out, count, refusal| raw::signed_difference(ours_a, ours_b, out, count, refusal),
             );
             self.settle(judge, &call);
         }
@@ -148,7 +148,7 @@ impl LentPair {
 
     /// The figures, to the bit, beside the nearest floats to their fractions.
     fn figures(&mut self, judge: &mut Judge, t: u32) {
-        let ((a, b), (lent_a, lent_b)) = (self.original(), self.lent());
+        let ((a, b), (ours_a, ours_b)) = (self.original(), self.contents());
         let calls = [
             Call::new("bray_curtis", ""),
             Call::new("jaccard", format!(" at {t}")),
@@ -159,8 +159,8 @@ impl LentPair {
         ];
         let plain = [reference::bray_curtis(a, b), reference::jaccard(a, b, t)];
         let library: [&dyn Fn(&mut f64, &mut Refusal) -> u64; 2] = [
-            &|figure, refusal| raw::bray_curtis(lent_a, lent_b, figure, refusal),
-            &|figure, refusal| raw::jaccard(lent_a, lent_b, t, figure, refusal),
+            &|figure, refusal| raw::bray_curtis(ours_a, ours_b, figure, refusal),
+            &|figure, refusal| raw::jaccard(ours_a, ours_b, t, figure, refusal),
         ];
         for (i, call) in calls.iter().enumerate() {
             let answer = parts[i].map(|parts| reference::nearest_quotient(parts).to_bits());

@@ -3,22 +3,22 @@
 use crate::call::{capacities, file_capacities, summary_of, Call, Dirty};
 use crate::edits;
 use crate::judge::Judge;
-use crate::lent::Lent;
 use crate::masks::{MASKING, SELECTING};
+use crate::read_only::ReadOnly;
 use compare::rng::Rng;
 use pciv::raw;
 
-/// A file lent to the library.
+/// A file that the library only reads, and the judge of its answers.
 pub struct Trial<'a> {
     judge: &'a mut Judge,
-    file: Lent<u8>,
+    file: ReadOnly<u8>,
 }
 
 impl<'a> Trial<'a> {
     pub fn new(judge: &'a mut Judge, rng: &mut Rng, file: &[u8]) -> Trial<'a> {
         Trial {
             judge,
-            file: Lent::new(rng, file, reference::SENTINEL),
+            file: ReadOnly::new(rng, file, reference::SENTINEL),
         }
     }
 
@@ -31,7 +31,7 @@ impl<'a> Trial<'a> {
         let call = Call::new("check", "");
         let answer = reference::check(self.file.original()).map(summary_of);
         self.judge.value(&call, answer, |out, refusal| {
-            raw::check(self.file.lent(), out, refusal)
+            raw::check(self.file.contents(), out, refusal)
         });
         self.settle(&call);
     }
@@ -43,7 +43,7 @@ impl<'a> Trial<'a> {
             Err(_) => [0, 0],
         };
         let mut written = [7; 2];
-        let answer = raw::primary_span(self.file.lent(), &mut written);
+        let answer = raw::primary_span(self.file.contents(), &mut written);
         self.judge.calls += 1;
         self.judge.same(&call, (span[1], span), (answer, written));
         self.settle(&call);
@@ -53,7 +53,7 @@ impl<'a> Trial<'a> {
         let call = Call::new("lookup", format!(" of slot {slot}"));
         let answer = reference::lookup(self.file.original(), slot);
         self.judge.value(&call, answer, |out, refusal| {
-            raw::lookup(self.file.lent(), slot, out, refusal)
+            raw::lookup(self.file.contents(), slot, out, refusal)
         });
         self.settle(&call);
     }
@@ -62,13 +62,13 @@ impl<'a> Trial<'a> {
         let shown = &slots[..slots.len().min(8)];
         let with = format!(" of {} slots {shown:?}.., capacity {capacity}", slots.len());
         let call = Call::new("lookup_list", with);
-        let mut slots = Lent::new(rng, slots, u64::MAX);
+        let mut slots = ReadOnly::new(rng, slots, u64::MAX);
         self.judge.buffer(
             &call,
             capacity,
             |out| reference::lookup_list(self.file.original(), slots.original(), out),
             |out, count, refusal| {
-                raw::lookup_list(self.file.lent(), slots.lent(), out, count, refusal)
+                raw::lookup_list(self.file.contents(), slots.contents(), out, count, refusal)
             },
         );
         slots.settle(self.judge, &call, "the list of slots");
@@ -81,7 +81,7 @@ impl<'a> Trial<'a> {
             &call,
             capacity,
             |out| reference::scan(self.file.original(), out),
-            |out, count, refusal| raw::scan(self.file.lent(), out, count, refusal),
+            |out, count, refusal| raw::scan(self.file.contents(), out, count, refusal),
         );
         self.settle(&call);
     }
@@ -90,7 +90,7 @@ impl<'a> Trial<'a> {
         let call = Call::new("sum", "");
         let answer = reference::sum(self.file.original());
         self.judge.value(&call, answer, |out, refusal| {
-            raw::sum(self.file.lent(), out, refusal)
+            raw::sum(self.file.contents(), out, refusal)
         });
         self.settle(&call);
     }
@@ -99,7 +99,7 @@ impl<'a> Trial<'a> {
         let call = Call::new("readings", "");
         let answer = reference::readings(self.file.original());
         self.judge.value(&call, answer, |out, refusal| {
-            raw::readings(self.file.lent(), out, refusal)
+            raw::readings(self.file.contents(), out, refusal)
         });
         self.settle(&call);
     }
@@ -110,7 +110,7 @@ impl<'a> Trial<'a> {
             &call,
             capacity,
             |out| reference::report(self.file.original(), out),
-            |out, count, refusal| raw::report(self.file.lent(), out, count, refusal),
+            |out, count, refusal| raw::report(self.file.contents(), out, count, refusal),
         );
         self.settle(&call);
     }
@@ -124,7 +124,7 @@ impl<'a> Trial<'a> {
                 &call,
                 capacity,
                 |out| reference::shift(self.file.original(), by, out),
-                |out, summary, refusal| raw::shift(self.file.lent(), by, out, summary, refusal),
+                |out, summary, refusal| raw::shift(self.file.contents(), by, out, summary, refusal),
             );
             self.settle(&call);
         }
@@ -141,7 +141,7 @@ impl<'a> Trial<'a> {
                     capacity,
                     |out| (selecting.reference)(self.file.original(), t, out),
                     |out, count, refusal| {
-                        (selecting.library)(self.file.lent(), t, out, count, refusal)
+                        (selecting.library)(self.file.contents(), t, out, count, refusal)
                     },
                 );
                 self.settle(&call);
@@ -151,7 +151,7 @@ impl<'a> Trial<'a> {
 
     /// Both files from the file and a mask, in buffers of several capacities.
     pub fn masked(&mut self, rng: &mut Rng, mask: &[u64]) {
-        let mut mask = Lent::new(rng, mask, u64::MAX);
+        let mut mask = ReadOnly::new(rng, mask, u64::MAX);
         for masking in &MASKING {
             let (file, words) = (self.file.original(), mask.original());
             let answer = (masking.reference)(file, words, self.judge.scratch());
@@ -163,7 +163,13 @@ impl<'a> Trial<'a> {
                     capacity,
                     |out| (masking.reference)(self.file.original(), mask.original(), out),
                     |out, summary, refusal| {
-                        (masking.library)(self.file.lent(), mask.lent(), out, summary, refusal)
+                        (masking.library)(
+                            self.file.contents(),
+                            mask.contents(),
+                            out,
+                            summary,
+                            refusal,
+                        )
                     },
                 );
                 mask.settle(self.judge, &call, "the mask");

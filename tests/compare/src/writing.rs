@@ -2,8 +2,8 @@
 
 use crate::call::{file_capacities, Call};
 use crate::judge::Judge;
-use crate::lent::Lent;
 use crate::parts::{every_fault, Fault, Parts};
+use crate::read_only::ReadOnly;
 use crate::run::{Run, Subject};
 use compare::lists::{self, Spread};
 use compare::rng::{case_seed, Rng};
@@ -20,14 +20,14 @@ pub fn run_all(run: &mut Run) {
 /// Compares write on a list.
 pub fn compare_write(judge: &mut Judge, rng: &mut Rng, list: &[u32]) {
     let answer = reference::write(list, judge.scratch());
-    let mut list = Lent::new(rng, list, 300);
+    let mut list = ReadOnly::new(rng, list, 300);
     for capacity in file_capacities(rng, &answer) {
         let call = Call::with_capacity("write", capacity);
         judge.file(
             &call,
             capacity,
             |out| reference::write(list.original(), out),
-            |out, summary, refusal| raw::write(list.lent(), out, summary, refusal),
+            |out, summary, refusal| raw::write(list.contents(), out, summary, refusal),
         );
         list.settle(judge, &call, "the list");
     }
@@ -47,7 +47,7 @@ impl Subject for Parts {
         } = self;
         let answer = reference::close(primary, slots, distances, judge.scratch());
         let capacities = file_capacities(rng, &answer);
-        let mut primary = Lent::new(rng, primary, reference::SENTINEL);
+        let mut primary = ReadOnly::new(rng, primary, reference::SENTINEL);
         self.compare_close(judge, rng, &mut primary, &capacities);
         if slots.len() == distances.len() {
             self.compare_close_entries(judge, rng, &mut primary, &capacities);
@@ -60,11 +60,11 @@ impl Parts {
         &self,
         judge: &mut Judge,
         rng: &mut Rng,
-        primary: &mut Lent<u8>,
+        primary: &mut ReadOnly<u8>,
         capacities: &[usize],
     ) {
-        let mut slots = Lent::new(rng, &self.slots, u64::MAX);
-        let mut distances = Lent::new(rng, &self.distances, 300);
+        let mut slots = ReadOnly::new(rng, &self.slots, u64::MAX);
+        let mut distances = ReadOnly::new(rng, &self.distances, 300);
         for &capacity in capacities {
             let call = Call::with_capacity("close", capacity);
             judge.file(
@@ -80,9 +80,9 @@ impl Parts {
                 },
                 |out, summary, refusal| {
                     raw::close(
-                        primary.lent(),
-                        slots.lent(),
-                        distances.lent(),
+                        primary.contents(),
+                        slots.contents(),
+                        distances.contents(),
                         out,
                         summary,
                         refusal,
@@ -99,7 +99,7 @@ impl Parts {
         &self,
         judge: &mut Judge,
         rng: &mut Rng,
-        primary: &mut Lent<u8>,
+        primary: &mut ReadOnly<u8>,
         capacities: &[usize],
     ) {
         let around = Entry {
@@ -108,7 +108,7 @@ impl Parts {
         };
         let theirs = self.entries(|slot, distance| reference::Entry { slot, distance });
         let ours = self.entries(|slot, distance| Entry { slot, distance });
-        let mut ours = Lent::new(rng, &ours, around);
+        let mut ours = ReadOnly::new(rng, &ours, around);
         for &capacity in capacities {
             let call = Call::with_capacity("close_entries", capacity);
             judge.file(
@@ -116,7 +116,7 @@ impl Parts {
                 capacity,
                 |out| reference::close_entries(primary.original(), &theirs, out),
                 |out, summary, refusal| {
-                    raw::close_entries(primary.lent(), ours.lent(), out, summary, refusal)
+                    raw::close_entries(primary.contents(), ours.contents(), out, summary, refusal)
                 },
             );
             primary.settle(judge, &call, "the primary array");

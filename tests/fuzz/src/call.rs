@@ -1,5 +1,5 @@
 //! One call of the library beside one of the reference: the number answered, the refusal, the
-//! result, and every element of what is lent.
+//! result, and every element of the caller's memory.
 
 use crate::entry;
 use crate::fence::{Fenced, Plain};
@@ -121,23 +121,23 @@ impl Bench {
 
         let end = |bit: u8| self.ends >> bit & 1 == 1;
         let [a, b, c] = &mut self.read;
-        let lent = (
-            &*a.lend(read.0, end(0)),
-            &*b.lend(read.1, end(1)),
-            &*c.lend(read.2, end(2)),
+        let placed = (
+            &*a.place(read.0, end(0)),
+            &*b.place(read.1, end(1)),
+            &*c.place(read.2, end(2)),
         );
         let [got, got_more] = &mut self.written;
-        let mut got = Buffer::lend(got, out, end(3));
-        let mut got_more = Buffer::lend(got_more, more, end(4));
+        let mut got = Buffer::place(got, out, end(3));
+        let mut got_more = Buffer::place(got_more, more, end(4));
         let mut cells = Cells::dirty();
         let written = (got.inner(), got_more.inner());
-        let number = ours(lent, written, &mut cells.result, &mut cells.refusal);
+        let number = ours(placed, written, &mut cells.result, &mut cells.refusal);
         assert_eq!((number, cells), Cells::wanted(answer), "{name}: answer");
         got.compare(name, "buffer", &wanted);
         got_more.compare(name, "second buffer", &wanted_more);
-        compare(name, "first list read", read.0, lent.0);
-        compare(name, "second list read", read.1, lent.1);
-        compare(name, "third list read", read.2, lent.2);
+        compare(name, "first list read", read.0, placed.0);
+        compare(name, "second list read", read.1, placed.1);
+        compare(name, "third list read", read.2, placed.2);
         wanted
     }
 
@@ -277,14 +277,14 @@ struct Buffer<'a, E> {
 }
 
 impl<'a, E: Plain + Dirty> Buffer<'a, E> {
-    fn lend(memory: &'a mut Fenced, contents: &[E], behind: bool) -> Buffer<'a, E> {
+    fn place(memory: &'a mut Fenced, contents: &[E], behind: bool) -> Buffer<'a, E> {
         let margin = dirty::<E>(MARGIN);
         let (all, start) = match behind {
             true => ([&margin, contents].concat(), MARGIN),
             false => ([contents, &margin].concat(), 0),
         };
         Buffer {
-            all: memory.lend(&all, behind),
+            all: memory.place(&all, behind),
             start,
             len: contents.len(),
         }

@@ -62,7 +62,7 @@ impl Fenced {
     }
 
     /// A copy of some elements next to a forbidden page: the one behind them, or the one before.
-    pub fn lend<T: Plain>(&mut self, elements: &[T], behind: bool) -> &mut [T] {
+    pub fn place<T: Plain>(&mut self, elements: &[T], behind: bool) -> &mut [T] {
         let len = size_of_val(elements);
         assert!(len <= self.len, "{len} bytes are too many");
         let offset = if behind { self.len - len } else { 0 };

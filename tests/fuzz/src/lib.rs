@@ -4,7 +4,7 @@
 //!
 //! Under a fuzzer ([`run`] is called by `LLVMFuzzerTestOneInput`) the independent implementation is
 //! built with counters of its branches, which lead the fuzzer to new inputs; the library's code is
-//! as it is shipped. What the library is lent lies between pages that nobody may touch, at either
+//! as it is shipped. The caller's memory lies between pages that nobody may touch, at either
 //! end of them, so that an access out of bounds stops the program.
 
 mod call;

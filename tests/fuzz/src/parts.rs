@@ -51,7 +51,7 @@ fn parts(input: &mut Input) -> Parts {
 }
 
 impl Parts {
-    /// Another byte, slot or distance, an entry more or fewer, two swapped, or a list cut.
+    /// Another byte, slot or distance, an entry more or fewer, two swapped, or a list truncated.
     fn damage(&mut self, input: &mut Input) {
         let Parts {
             primary,

@@ -11,8 +11,10 @@ pub struct Header {
     pub functions: Functions,
     /// The structs that consist of numbers.
     pub structs: Structs,
-    /// The numbers of refusals, and those that are defined as a word.
+    /// The numbers of refusals, and those that are defined as a word, but for the version's.
     pub numbers: BTreeMap<String, u64>,
+    /// The refusals' names, without `PCIV_`.
+    pub refusals: Vec<String>,
 }
 
 /// Reads a header: functions, structs and enums, and nothing else.
@@ -23,8 +25,11 @@ pub fn read_header(text: &str) -> Result<Header, String> {
     let mut header = Header::default();
     for line in text.lines() {
         if let ["#define", name, number] = line.split_whitespace().collect::<Vec<_>>()[..] {
-            if let Ok(number) = number.parse() {
-                header.numbers.insert(name.to_string(), number);
+            match number.parse() {
+                Ok(number) if !name.starts_with("PCIV_VERSION") => {
+                    header.numbers.insert(name.to_string(), number);
+                }
+                _ => (),
             }
         }
     }
@@ -159,6 +164,8 @@ impl Header {
             };
             let number = number.parse().map_err(|_| refuse(item))?;
             self.numbers.insert(name.to_string(), number);
+            let name = name.trim_start_matches("PCIV_");
+            self.refusals.push(name.to_string());
         }
         Ok(())
     }

@@ -4,7 +4,8 @@
 //!
 //! Each place is read into [`Functions`] in one form: a slice of the Rattle source is a pointer and
 //! a length, `size_t` and `usize` are numbers of 64 bits, and a pointer to a struct is one to its
-//! fields.
+//! fields. Functions that the header defines itself are no part of that; what they tell is compared
+//! where Rust tells it too.
 
 mod header;
 mod model;
@@ -12,12 +13,16 @@ mod rattle;
 mod rust;
 mod symbols;
 mod tokens;
+mod told;
 
 pub use header::{read_header, Header};
 pub use model::{compare_functions, compare_names, compare_structs, Functions, Structs};
 pub use rattle::{read_numbers, read_rattle};
 pub use rust::read_rust;
 pub use symbols::{exported, read_symbols};
+pub use told::{
+    compare_texts, compare_version, read_c_texts, read_rust_texts, read_version, read_versions,
+};
 
 use std::{fs, path::Path};
 
@@ -29,6 +34,8 @@ pub const RATTLE: &str = "crates/pciv_c/src/lib.rt";
 pub const RATTLE_FORMAT: &str = "crates/pciv_format/src/lib.rt";
 /// The folder of the Rust crate's source.
 pub const RUST: &str = "rust/pciv/src";
+/// The file that names the version.
+pub const CARGO: &str = "Cargo.toml";
 
 /// A struct of the header and its counterpart in Rust, and whether the Rattle source has it too.
 const STRUCTS: [(&str, &str, bool); 4] = [
@@ -65,6 +72,14 @@ pub fn compare(root: &Path, libraries: &[String]) -> Result<usize, Vec<String>> 
     }
     let numbers = read_numbers(&format);
     faults.extend(header.compare_numbers((RATTLE_FORMAT, &numbers)));
+    faults.extend(header.compare_numbers((RUST, &read_numbers(&crate_text))));
+    let refusals = header.refusals.iter().map(String::as_str);
+    let (in_c, in_rust) = (read_c_texts(&text), read_rust_texts(&crate_text));
+    let names = refusals.chain(["_"]);
+    faults.extend(compare_texts(names, (HEADER, &in_c), (RUST, &in_rust)));
+    let cargo = read_file(root, CARGO).map_err(failure)?;
+    let version = read_version(&cargo).unwrap_or("");
+    faults.extend(compare_version(&read_versions(&text), (CARGO, version)));
     for library in libraries {
         match exported(&root.join(library)) {
             Ok(symbols) => faults.extend(compare_names(declared, (library, &symbols))),

@@ -138,12 +138,12 @@ fn read_fields(body: &[String], structs: &Structs) -> Option<Vec<(String, Number
     Some(fields)
 }
 
-/// The numbers that a source names: `pub const NAME: usize = NUMBER;`.
+/// The numbers that a source names: `pub const NAME: usize = NUMBER;`, or with `u64`.
 pub fn read_numbers(source: &str) -> BTreeMap<String, u64> {
     let words = words(source);
     let mut numbers = BTreeMap::new();
     for part in words.windows(8) {
-        if let ["pub", "const", name, ":", "usize", "=", number, ";"] = strs(part)[..] {
+        if let ["pub", "const", name, ":", "usize" | "u64", "=", number, ";"] = strs(part)[..] {
             if let Ok(number) = number.parse() {
                 numbers.insert(name.to_string(), number);
             }

@@ -2,8 +2,9 @@
 //! compared with it; the other languages have a small interface each.
 
 use interface::{
-    compare_functions, compare_names, compare_structs, read_header, read_numbers, read_rattle,
-    read_rust, read_symbols, Functions, Header,
+    compare_functions, compare_names, compare_structs, compare_texts, compare_version,
+    read_c_texts, read_header, read_numbers, read_rattle, read_rust, read_rust_texts, read_symbols,
+    read_version, read_versions, Functions, Header,
 };
 use std::ops::Range;
 
@@ -222,6 +223,82 @@ fn another_number_or_field_is_told() {
     assert_eq!(faults(&swapped).len(), 1);
 }
 
+#[test]
+fn numbers_of_rust_are_read_too() {
+    let text = "impl Refusal { pub const BAD_MAGIC: u64 = 2; pub const BAD_MASK: u64 = 12; }";
+    let wanted =
+        "enum pciv_refusal_number { PCIV_OK = 0, PCIV_BAD_MAGIC = 2, PCIV_BAD_MASK = 13 };";
+    let faults = header(wanted).compare_numbers(("rust", &read_numbers(text)));
+    assert_eq!(
+        faults,
+        ["PCIV_BAD_MASK: 13 in the header, Some(12) in rust"]
+    );
+}
+
+#[test]
+fn other_words_are_told() {
+    const RUST: &str = include_str!("../../../rust/pciv/src/refusal.rs");
+    let refusals = header(HEADER).refusals;
+    assert_eq!(refusals.len(), 14);
+    let faults = |c: &str, rust: &str| {
+        let names = refusals.iter().map(String::as_str).chain(["_"]);
+        let (in_c, in_rust) = (read_c_texts(c), read_rust_texts(rust));
+        compare_texts(names, ("c", &in_c), ("rust", &in_rust))
+    };
+    assert_eq!(faults(HEADER, RUST), [""; 0]);
+    for name in &refusals {
+        let text = read_c_texts(HEADER).remove(name).unwrap();
+        assert!(
+            !text.contains(['\n', '\\']) || text.contains("\\\"PCIV\\\""),
+            "{text}"
+        );
+        let case = HEADER.replace(&format!("case PCIV_{name}:"), "case 99:");
+        assert_eq!(faults(&case, RUST).len(), 1, "{name}");
+        let arm = match name.as_str() {
+            "OK" => RUST.replace("0 => \"not", "99 => \"not"),
+            name => RUST.replace(&format!("Refusal::{name} =>"), "99 =>"),
+        };
+        assert_eq!(faults(HEADER, &arm).len(), 1, "{name}");
+    }
+    for (old, new) in [
+        ("a bit set past n\"", "a bit past n\""),
+        ("255, or no 255 in", "255, or not 255 in"),
+        ("\"unknown refusal\"", "\"\""),
+        ("fit into the buffer\"", "fit into that buffer\""),
+    ] {
+        assert_eq!(faults(&HEADER.replace(old, new), RUST).len(), 1, "{new}");
+        assert_eq!(faults(HEADER, &RUST.replace(old, new)).len(), 1, "{new}");
+        let both = faults(&HEADER.replace(old, new), &RUST.replace(old, new));
+        assert_eq!(both.len(), usize::from(new == "\"\""), "{new}");
+    }
+}
+
+#[test]
+fn another_version_is_told() {
+    let cargo = "[workspace.package]\nversion = \"1.20.3\"\nedition = \"2021\"\n";
+    let version = read_version(cargo).unwrap();
+    let text = "#define PCIV_VERSION_MAJOR 1\n#define PCIV_VERSION_MINOR 20\n\
+                #define PCIV_VERSION_PATCH 3\n#define PCIV_VERSION \"1.20.3\"\n\
+                #define PCIV_VERSION_NUMBER 1020003\n";
+    let faults = |text: &str| compare_version(&read_versions(text), ("cargo", version));
+    assert_eq!(faults(text), [""; 0]);
+    for (old, new) in [
+        ("MAJOR 1", "MAJOR 2"),
+        ("MINOR 20", "MINOR 2"),
+        ("PATCH 3", "PATCH 0"),
+        ("\"1.20.3\"", "\"1.20.4\""),
+        ("1020003", "1020004"),
+        ("#define PCIV_VERSION_PATCH 3\n", ""),
+    ] {
+        assert_eq!(faults(&text.replace(old, new)).len(), 1, "{new}");
+    }
+    assert_eq!(
+        compare_version(&read_versions(text), ("cargo", "")).len(),
+        1
+    );
+    assert!(header(text).numbers.is_empty());
+}
+
 const RATTLE_FORMAT: &str = "
     pub struct Summary { pub n: usize, pub k: usize }
     #[repr(C)]
@@ -319,7 +396,7 @@ fn changes_in_rattle_are_told() {
 fn changes_in_rust_are_told() {
     let c = header(C).functions;
     let faults = |old, new| {
-        let changed = rust(&RUST.replacen(old, new, 1));
+        let changed = rust(&RUST.replace(old, new));
         compare_functions(("c", &c), ("rust", &changed))
     };
     assert_eq!(faults("file: *const u8", "file: *mut u8").len(), 1);

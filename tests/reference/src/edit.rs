@@ -89,7 +89,7 @@ fn answer_numbers(answer: Result<Summary, Refusal>) -> [u64; ANSWER_LEN] {
     }
 }
 
-/// The plain editor: a list, the capacity of the buffer, and the length of the longest file so far.
+/// The plain editor: a list, the capacity of the buffer, and the length of the longest file yet.
 pub struct PlainEditor {
     list: Vec<u32>,
     k: u64,
@@ -130,8 +130,8 @@ impl PlainEditor {
         Ok(new)
     }
 
-    /// Gives a buffer what it has to hold: the list's file, then zeros up to the longest file so
-    /// far; what follows stays.
+    /// Gives a buffer what it has to hold: the list's file, then zeros up to the length of the
+    /// longest file yet; what follows stays.
     pub fn fill(&self, buffer: &mut [u8]) {
         let file = encode(&self.list).expect("few slots");
         buffer[..file.len()].copy_from_slice(&file);

@@ -16,6 +16,7 @@ mod layout;
 mod map;
 mod mask;
 mod report;
+pub mod vectors;
 mod write;
 
 pub use arith::{difference, maximum, minimum, shift, signed_difference, sum_maps};

@@ -39,7 +39,7 @@ impl<'a> Map<'a> {
         Map::open(file)
     }
 
-    /// Cuts a file of the right length into its parts.
+    /// Splits a file of the right length into its parts.
     fn split(file: &'a [u8], summary: Summary) -> Map<'a> {
         let (primary, rest) = file[HEADER_LEN..].split_at(summary.n as usize);
         let (overflow, index) = rest.split_at(OVERFLOW_ENTRY_LEN * summary.k as usize);

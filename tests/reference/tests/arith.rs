@@ -86,10 +86,10 @@ fn pairs_agree_with_plain_arithmetic() {
     assert_eq!(wide(list_of(|out| maximum(&a, &b, out))), plain(i64::max));
     let differences = wide(list_of(|out| difference(&a, &b, out)));
     assert_eq!(differences, plain(|x, y| (x - y).max(0)));
-    let mut changes = vec![7; xs.len()];
+    let mut signed = vec![7; xs.len()];
     let count = xs.len() as u64;
-    assert_eq!(signed_difference(&a, &b, &mut changes), Ok(count));
-    assert_eq!(changes, plain(|x, y| y - x));
+    assert_eq!(signed_difference(&a, &b, &mut signed), Ok(count));
+    assert_eq!(signed, plain(|x, y| y - x));
 }
 
 #[test]
@@ -143,11 +143,11 @@ fn refusals_in_their_order() {
     assert_eq!(shift(&b, 1, &mut out), Err(refused(11, 0, 3)));
     assert_eq!(shift(&b, -1, &mut out), Err(refused(12, 0, 0)));
     assert_eq!(out, [7; 3]);
-    let mut changes = [7; 3];
-    let mut refusal = |a, b| signed_difference(a, b, &mut changes).unwrap_err();
+    let mut signed = [7; 3];
+    let mut refusal = |a, b| signed_difference(a, b, &mut signed).unwrap_err();
     assert_eq!(refusal(bad_a, bad_b), refused(1, 1, 0));
     assert_eq!(refusal(&longer, bad_b), refused(2, 2, 0));
     assert_eq!(refusal(&longer, &b), refused(10, 0, 0));
     assert_eq!(refusal(&a, &b), refused(12, 0, 0));
-    assert_eq!(changes, [7; 3]);
+    assert_eq!(signed, [7; 3]);
 }

@@ -53,7 +53,7 @@ cast-excess : tie.Need-cast-excess Inv-loop μ-loop
 cast-excess c = search needs
 
 sub-excess : tie.Need-sub-excess Inv-loop μ-loop
-sub-excess c = omega (arith, good (c .before .before) .far)
+sub-excess c = omega (arith, good (c .before .before) .overflows)
 
 slot-inside : (c : tie.After-entry-distance Inv-loop μ-loop)
     → c .before .entry-slot .result < length (c .before .before .before .loop .out)

@@ -57,8 +57,8 @@ put-bits-requires c κs =
     let k = c .before .before in
     let b = k .before .before .before .before in
     let s = entry b in
-    let room = begun (s .args .n) 0 (s .args .out .now) _ (is-done k) .entries in
-    (omega (arith, s .pre .1 .count), omega (arith, b .begin .kept .0, room))
+    let space = begun (s .args .n) 0 (s .args .out .now) _ (is-done k) .entries in
+    (omega (arith, s .pre .1 .count), omega (arith, b .begin .kept .0, space))
 
 same-length : tie.Need-same-length
 same-length c = search needs

@@ -99,7 +99,7 @@ cast-waiting : tie.Need-cast-waiting Inv-loop μ-loop
 cast-waiting c = search needs
 
 add-waiting : tie.Need-add-waiting Inv-loop μ-loop
-add-waiting c = omega (arith, walked c .far .long, walked c .eight)
+add-waiting c = omega (arith, walked c .overflows .long, walked c .eight)
 
 add-i : tie.Need-add-i Inv-loop μ-loop
 add-i c = search needs
@@ -126,7 +126,7 @@ loop-less-2 c = search needs
 loop-again-2 : tie.Need-loop-again-2 Inv-loop μ-loop
 loop-again-2 c =
     let w = walked (c .before) in
-    (omega (arith, w .far .long, w .eight, c .if1 .left), w)
+    (omega (arith, w .overflows .long, w .eight, c .if1 .left), w)
 
 distances-few-requires : tie.Need-distances-few-requires Inv-loop μ-loop
 distances-few-requires c κs =

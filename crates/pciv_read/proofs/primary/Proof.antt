@@ -1,20 +1,22 @@
 -- Proves pciv_read::primary.
-use mathlib.Core.Path.{_≡_, refl, sym, ap, _∙_}
-use Prim.Native.Nat.{ℕ, _+_, _-_, _≤_, _<_}
+use mathlib.Core.Path.{_≡_, sym, _∙_}
 use native.Mathlib.Omega.{arith}
-use Rattle.pciv_format.specs.Refusals.{done, refused, fileAnswer}
+use Rattle.pciv_format.specs.Refusals.{done, refused}
 use Rattle.pciv_format.specs.Check.{checkFile}
 use Rattle.pciv_format.proofs.RefusalsLaws.{fileAnswer-done, fileAnswer-refused}
-use mathlib.Core.List.{List}
-use lib.ListN.{take, drop}
 use Rattle.pciv_map.proofs.MapLaws.{primary-inside}
-use Rattle.pciv_read.proofs.ReadLaws.{checked, primary-refused, primary-done}
+use Rattle.pciv_read.proofs.ReadLaws.{checked, primary-refused, primary-done, place-refused, place-done}
 use borrow.Author.Needs.{needs}
 use Rattle.pciv_read.proofs.primary.Statement.{statement}
 use Rattle.pciv_read.proofs.primary.Tie as tie
 
 -- what the check has shown
-is-map : (c : tie.After-checked) → checkFile 1 (c .before .before .before .before .args .file .now) ≡ done (c .checked .given .0 .0)
+is-refused : (c : tie.After-enum-told)
+    → checkFile 1 (c .before .before .before .before .args .file .now) ≡ refused (c .enum-told .given .0 .0)
+is-refused c = fileAnswer-refused _ _ (sym (c .enum-told .given .1) ∙ c .before .before .check .ensures)
+
+is-map : (c : tie.After-checked)
+    → checkFile 1 (c .before .before .before .before .args .file .now) ≡ done (c .checked .given .0 .0)
 is-map c = fileAnswer-done _ _ (sym (c .checked .given .1) ∙ c .before .before .check .ensures)
 
 check-requires : tie.Need-check-requires
@@ -23,41 +25,24 @@ check-requires c κs = search needs
 enum-told : tie.Need-enum-told
 enum-told c = search needs
 
-slice-aggregate-result : tie.Need-slice-aggregate-result
-slice-aggregate-result c = search needs
+part-requires : tie.Need-part-requires
+part-requires c κs = search needs
 
 enum-known-checked : tie.Need-enum-known-checked
 enum-known-checked c = search needs
 
-add-end : tie.Need-add-end
-add-end c =
-    let m = checked _ _ (is-map (c .before)) in
-    omega (arith, m .header .small)
-
-sub-result : tie.Need-sub-result
-sub-result c = search needs
-
-part-result-start : tie.Need-part-result-start
-part-result-start c = search needs
-
-part-result-end : tie.Need-part-result-end
-part-result-end c =
-    let m = checked _ _ (is-map (c .before)) in
-    omega (arith, primary-inside _ _ _ m)
+part-requires-2 : tie.Need-part-requires-2
+part-requires-2 c κs = omega (arith, primary-inside _ _ _ (checked _ _ (is-map (c .before))))
 
 returns : tie.Need-returns
 returns c =
-    let t = c .before in
-    let h = t .before .before in
-    sym (primary-refused (h .before .before .args .file .now) (t .enum-told .given .0 .0) (fileAnswer-refused _ _ (sym (t .enum-told .given .1) ∙ h .check .ensures)))
+    let no = is-refused (c .before) in
+    (c .part .ensures .0 ∙ sym (primary-refused _ _ no), c .part .ensures .1 ∙ sym (place-refused _ _ no _))
 
 returns-2 : tie.Need-returns-2
 returns-2 c =
-    let k = c .before .before in
-    let b = k .before .before .before .before .args .file .now in
-    let s = k .checked .given .0 .0 in
-    let n : 40 + s .n - 40 ≡ s .n = omega arith in
-    ap (λ (z : ℕ). take z (drop 40 b)) n ∙ sym (primary-done b s (is-map k))
+    let map = is-map (c .before .before) in
+    (c .part2 .ensures .0 ∙ sym (primary-done _ _ map), c .part2 .ensures .1 ∙ sym (place-done _ _ map _))
 
 pub primary-spec : {M : Type 1} → statement M
 primary-spec =
@@ -65,11 +50,8 @@ primary-spec =
     (tie.spec
     check-requires
     enum-told
-    slice-aggregate-result
+    part-requires
     enum-known-checked
-    add-end
-    sub-result
-    part-result-start
-    part-result-end
+    part-requires-2
     returns
     returns-2)

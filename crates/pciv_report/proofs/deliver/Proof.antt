@@ -25,10 +25,10 @@ returns-2 c =
     let put = c .before .before .put-word .ensures in
     let before = c .before .before .before .before in
     let a = before .before .before .before .args in
-    let room = le-ltb _ _ (before .if1 .left) in
+    let space = le-ltb _ _ (before .if1 .left) in
     let len : c .before .before .put-word .result ≡ length (a .text .now) = omega (arith, put .next) in
     let front = sets-front (a .text .now) (a .out .now) (before .if1 .left) in
-    (simp room (ap InNumber.Number len), simp room (put .bytes ∙ front))
+    (simp space (ap InNumber.Number len), simp space (put .bytes ∙ front))
 
 pub deliver-spec : {M : Type 1} → statement M
 deliver-spec = tie.close (tie.spec returns put-word-requires same-length returns-2)

@@ -24,9 +24,9 @@ entry c = c .before .before .before .before .before .before .before
 abbrev list : tie.Start Inv-loop μ-loop → List ℕ
 list s = s .args .distances .now
 
-room : (s : tie.Start Inv-loop μ-loop)
+space : (s : tie.Start Inv-loop μ-loop)
     → 40 + length (list s) + 12 * overflowCount (length (list s)) (at (list s)) ≤ length (s .args .out .now)
-room s = omega (arith, s .pre .1 .0, s .pre .1 .1 .0)
+space s = omega (arith, s .pre .1 .0, s .pre .1 .1 .0)
 
 -- the next slot in overflow
 next-at : (c : tie.In-loop Inv-loop μ-loop)
@@ -38,7 +38,7 @@ next-at c slot is = rw is (fill-next (c .before .loop .inv .1) (omega (arith, c 
 put-slots-requires : tie.Need-put-slots-requires Inv-loop μ-loop
 put-slots-requires c κs =
     let s = c .before .before .before in
-    omega (arith, same-count (length (list s)) (at (list s)) (s .args .out .now) (s .pre .1 .1 .1), room s)
+    omega (arith, same-count (length (list s)) (at (list s)) (s .args .out .now) (s .pre .1 .1 .1), space s)
 
 add-place : tie.Need-add-place Inv-loop μ-loop
 add-place c = search needs
@@ -53,12 +53,12 @@ loop-holds : tie.Need-loop-holds Inv-loop μ-loop
 loop-holds c =
     let p = c .before .before in
     let s = p .before .before .before .before in
-    (0, fill-start (length (list s)) (at (list s)) (s .args .out .now) _ (s .pre .1 .1 .1) (room s) (p .put-slots .ensures) (s .pre .0))
+    (0, fill-start (length (list s)) (at (list s)) (s .args .out .now) _ (s .pre .1 .1 .1) (space s) (p .put-slots .ensures) (s .pre .0))
 
 get64-requires : tie.Need-get64-requires Inv-loop μ-loop
 get64-requires c κs =
     let l = c .before .before .loop in
-    omega (arith, next-at (c .before) (get 8 (l .out) (l .place)) refl .room)
+    omega (arith, next-at (c .before) (get 8 (l .out) (l .place)) refl .space)
 
 mul-put-entry : tie.Need-mul-put-entry Inv-loop μ-loop
 mul-put-entry c =
@@ -74,7 +74,7 @@ shared-slice-read-put-entry c =
 put-entry-requires : tie.Need-put-entry-requires Inv-loop μ-loop
 put-entry-requires c κs =
     let g = c .before .before in
-    next-at (g .before .before) (g .get64 .result) (g .get64 .ensures) .room
+    next-at (g .before .before) (g .get64 .result) (g .get64 .ensures) .space
 
 loop-less : tie.Need-loop-less Inv-loop μ-loop
 loop-less c =
@@ -98,7 +98,7 @@ returns c =
     let l = c .before in
     let s = entry l in
     fill-end (l .loop .inv .1) (omega (arith, c .loop-test .left, s .pre .1 .0))
-    ∙ fill-over (length (list s)) (at (list s)) (s .args .out .now) _ (s .pre .1 .1 .1) (room s) (l .before .before .before .put-slots .ensures)
+    ∙ fill-over (length (list s)) (at (list s)) (s .args .out .now) _ (s .pre .1 .1 .1) (space s) (l .before .before .before .put-slots .ensures)
 
 pub put-entries-spec : {M : Type 1} → statement M
 put-entries-spec =

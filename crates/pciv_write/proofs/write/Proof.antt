@@ -26,8 +26,8 @@ list c = entry c .args .distances .now
 abbrev buffer : tie.After-count-overflow → List ℕ
 buffer c = entry c .args .out .now
 
-abbrev far : tie.After-count-overflow → ℕ
-far c = c .count-overflow .result
+abbrev overflows : tie.After-count-overflow → ℕ
+overflows c = c .count-overflow .result
 
 few : (c : tie.After-count-overflow) → length (list c) ≤ maxSlots
 few c = c .before .if1 .left
@@ -35,18 +35,18 @@ few c = c .before .if1 .left
 -- why the file is not begun, or its summary
 is-refused : (c : tie.After-begun)
     → (let k = c .before .before .before .before .before .before in
-    beginOutcome (length (list k)) (far k) (length (buffer k)) ≡ refused (c .begun .given .0 .0))
+    beginOutcome (length (list k)) (overflows k) (length (buffer k)) ≡ refused (c .begun .given .0 .0))
 is-refused c = fileAnswer-refused _ _ (sym (c .begun .given .1) ∙ c .before .before .before .before .begin .ensures .0)
 
 is-begun : (c : tie.After-begun2)
     → (let k = c .before .before .before .before .before .before in
-    beginOutcome (length (list k)) (far k) (length (buffer k)) ≡ done (c .begun2 .given .0 .0))
+    beginOutcome (length (list k)) (overflows k) (length (buffer k)) ≡ done (c .begun2 .given .0 .0))
 is-begun c = fileAnswer-done _ _ (sym (c .begun2 .given .1) ∙ c .before .before .before .before .begin .ensures .0)
 
 -- the file fits
 fits : (c : tie.After-begun2)
     → (let k = c .before .before .before .before .before .before in
-    Begun (length (list k)) (far k) (buffer k) (c .begun2 .given .0 .0))
+    Begun (length (list k)) (overflows k) (buffer k) (c .begun2 .given .0 .0))
 fits c = begun _ _ _ _ (is-begun c)
 
 returns : tie.Need-returns
@@ -111,9 +111,9 @@ returns-2 c =
     let b = c .before in
     let start = b .before .before .before .before in
     let k = start .before .before in
-    let e = write-begun (list k) (buffer k) (far k) (few k) (k .count-overflow .ensures) in (
+    let e = write-begun (list k) (buffer k) (overflows k) (few k) (k .count-overflow .ensures) in (
       sym (b .begun .given .1) ∙ start .begin .ensures .0 ∙ ap fileAnswer e,
-      write-refused (list k) (buffer k) (far k) (few k) (k .count-overflow .ensures) _ _ (is-refused b) (start .begin .ensures .1),
+      write-refused (list k) (buffer k) (overflows k) (few k) (k .count-overflow .ensures) _ _ (is-refused b) (start .begin .ensures .1),
     )
 
 same-length-2 : tie.Need-same-length-2
@@ -127,9 +127,9 @@ returns-3 c =
     let b = bytes .before .before .before in
     let start = b .before .before .before .before in
     let k = start .before .before in
-    let e = write-begun (list k) (buffer k) (far k) (few k) (k .count-overflow .ensures) in (
+    let e = write-begun (list k) (buffer k) (overflows k) (few k) (k .count-overflow .ensures) in (
       sym (b .begun2 .given .1) ∙ start .begin .ensures .0 ∙ ap fileAnswer e,
-      write-done (list k) (buffer k) (far k) (few k) (k .count-overflow .ensures) _ _ _ _ _ (is-begun b)
+      write-done (list k) (buffer k) (overflows k) (few k) (k .count-overflow .ensures) _ _ _ _ _ (is-begun b)
           (start .begin .ensures .1) (bytes .put-primary .ensures) (entries .put-entries .ensures) (index .finish .ensures),
     )
 

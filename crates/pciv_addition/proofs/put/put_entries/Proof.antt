@@ -40,8 +40,8 @@ v s = addedAt (s .args .of) (fileParts (s .args .a .now) (s .args .n) (s .args .
 abbrev known : tie.At-loop Inv-loop μ-loop → tie.After-shared-slice-known2 Inv-loop μ-loop
 known c = c .before .before .before .before .before
 
-room : (s : tie.Start Inv-loop μ-loop) → 40 + s .args .n + 12 * overflowCount (s .args .n) (v s) ≤ length (s .args .out .now)
-room s = omega (arith, s .pre .1 .1 .1 .0, s .pre .1 .1 .1 .1)
+space : (s : tie.Start Inv-loop μ-loop) → 40 + s .args .n + 12 * overflowCount (s .args .n) (v s) ≤ length (s .args .out .now)
+space s = omega (arith, s .pre .1 .1 .1 .0, s .pre .1 .1 .1 .1)
 
 -- both cursors at the next slot in overflow
 next-at : (c : tie.In-loop Inv-loop μ-loop)
@@ -59,7 +59,7 @@ next-at c slot is =
 put-slots-requires : tie.Need-put-slots-requires Inv-loop μ-loop
 put-slots-requires c κs =
     let s = entry (c .before) in
-    omega (arith, same-count (s .args .n) (v s) (s .args .out .now) (s .pre .1 .1 .0), room s)
+    omega (arith, same-count (s .args .n) (v s) (s .args .out .now) (s .pre .1 .1 .0), space s)
 
 add-at : tie.Need-add-at Inv-loop μ-loop
 add-at c = search needs
@@ -76,13 +76,13 @@ loop-holds c =
     let k = p .before .before in
     let s = entry k in
     putting-start (sound (maps k)) (s .args .of) _ _
-    (fill-start (s .args .n) (v s) (s .args .out .now) _ (s .pre .1 .1 .0) (room s) (p .put-slots .ensures) (s .pre .0 .first .header .small))
+    (fill-start (s .args .n) (v s) (s .args .out .now) _ (s .pre .1 .1 .0) (space s) (p .put-slots .ensures) (s .pre .0 .first .header .small))
 
 get64-requires : tie.Need-get64-requires Inv-loop μ-loop
 get64-requires c κs =
     let d = c .before in
     let l = d .before .loop in
-    omega (arith, next-at d (get 8 (l .out) (l .at)) refl .next .room)
+    omega (arith, next-at d (get 8 (l .out) (l .at)) refl .next .space)
 
 take-at-requires : tie.Need-take-at-requires Inv-loop μ-loop
 take-at-requires c κs =
@@ -109,7 +109,7 @@ add-put-entry c =
 put-entry-requires : tie.Need-put-entry-requires Inv-loop μ-loop
 put-entry-requires c κs =
     let g = c .before .before .before .before .before in
-    next-at (g .before .before) (g .get64 .result) (g .get64 .ensures) .next .room
+    next-at (g .before .before) (g .get64 .result) (g .get64 .ensures) .next .space
 
 loop-less : tie.Need-loop-less Inv-loop μ-loop
 loop-less c =
@@ -137,7 +137,7 @@ returns c =
     let p = c .before .before .before .before in
     let s = entry (known (c .before)) in
     fill-end (c .before .loop .inv .fill) (omega (arith, c .loop-test .left, s .pre .1 .1 .1 .0))
-    ∙ fill-over (s .args .n) (v s) (s .args .out .now) _ (s .pre .1 .1 .0) (room s) (p .put-slots .ensures)
+    ∙ fill-over (s .args .n) (v s) (s .args .out .now) _ (s .pre .1 .1 .0) (space s) (p .put-slots .ensures)
 
 pub put-entries-spec : {M : Type 1} → statement M
 put-entries-spec =

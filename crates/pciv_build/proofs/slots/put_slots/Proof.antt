@@ -6,7 +6,7 @@ use native.Mathlib.Omega.{arith}
 use mathlib.Core.List.{_++_}
 use lib.ListN.{length}
 use Rattle.pciv_build.specs.Slots.{fullSlots}
-use Rattle.pciv_build.proofs.SlotsLaws.{BlanksLeft, blanks-start, blanks-room, blanks-before, blanks-part, blanks-end, slots-part, slots-end}
+use Rattle.pciv_build.proofs.SlotsLaws.{BlanksLeft, blanks-start, blanks-space, blanks-before, blanks-part, blanks-end, slots-part, slots-end}
 use borrow.Author.Needs.{needs}
 use Rattle.pciv_build.proofs.slots.put_slots.Statement.{statement}
 use Rattle.pciv_build.proofs.slots.put_slots.Tie as tie
@@ -33,13 +33,13 @@ split c count inside =
     let l = c .loop in
     slots-part (a .out .now) (l .out) (l .i) count (λ j h₁ h₂. blanks-before (l .inv .1) (40 + j) (omega arith)) (a .n) inside
 
-room : (c : tie.At-loop Inv-loop μ-loop) (count : ℕ)
+space : (c : tie.At-loop Inv-loop μ-loop) (count : ℕ)
     → (let l = c .loop in
     l .i + count ≤ entry c .args .n → l .place + 12 * length (fullSlots (l .out) (l .i) count) ≤ length (l .out))
-room c count inside =
+space c count inside =
     let a = entry c .args in
     let l = c .loop in
-    blanks-room (l .inv .1) (fullSlots (l .out) (l .i) count) (fullSlots (a .out .now) (l .i + count) (a .n - (l .i + count)))
+    blanks-space (l .inv .1) (fullSlots (l .out) (l .i) count) (fullSlots (a .out .now) (l .i + count) (a .n - (l .i + count)))
     (split c count inside) (entry c .pre)
 
 add-place : tie.Need-add-place Inv-loop μ-loop
@@ -58,7 +58,7 @@ put-block-requires : tie.Need-put-block-requires Inv-loop μ-loop
 put-block-requires c κs =
     let l = c .before .before in
     let all : l .loop .i + 4096 - l .loop .i ≡ 4096 = omega arith in
-    ((omega arith, omega arith, omega (arith, l .loop .inv .1 .low)), rw all (room l 4096 (omega arith)))
+    ((omega arith, omega arith, omega (arith, l .loop .inv .1 .low)), rw all (space l 4096 (omega arith)))
 
 add-i : tie.Need-add-i Inv-loop μ-loop
 add-i c = search needs
@@ -80,7 +80,7 @@ put-block-requires-2 : tie.Need-put-block-requires-2 Inv-loop μ-loop
 put-block-requires-2 c κs =
     let l = c .before .before in
     let h = l .loop .inv .0 in
-    ((h, omega arith, l .loop .inv .1 .low), room l (entry l .args .n - l .loop .i) (omega (arith, h)))
+    ((h, omega arith, l .loop .inv .1 .low), space l (entry l .args .n - l .loop .i) (omega (arith, h)))
 
 same-length : tie.Need-same-length Inv-loop μ-loop
 same-length c = search needs

@@ -8,7 +8,7 @@ use lib.ListN.{getD}
 use Rattle.pciv_bytes.specs.Counts.{byteAt}
 use Rattle.pciv_format.specs.Mask.{word}
 use Rattle.pciv_build.specs.Slots.{isFull, fullSlots}
-use Rattle.pciv_build.proofs.SlotsLaws.{BlanksLeft, blanks-start, blanks-room, blanks-before, blanks-part, blanks-end, word-same, slots-word, slots-end}
+use Rattle.pciv_build.proofs.SlotsLaws.{BlanksLeft, blanks-start, blanks-space, blanks-before, blanks-part, blanks-end, word-same, slots-word, slots-end}
 use borrow.Author.Needs.{needs}
 use Rattle.pciv_build.proofs.slots.put_words.Statement.{statement}
 use Rattle.pciv_build.proofs.slots.put_words.Tie as tie
@@ -73,7 +73,7 @@ put-word-requires c κs =
       told d,
       (
         (omega (arith, d .loop-test .taken), omega (arith, l .inv .1 .low, s .pre .1 .0 .1)),
-        blanks-room (l .inv .1) (fullSlots (l .out) (l .slot) k) (fullSlots (a .out .now) (l .slot + 64) (a .to - (l .slot + 64)))
+        blanks-space (l .inv .1) (fullSlots (l .out) (l .slot) k) (fullSlots (a .out .now) (l .slot + 64) (a .to - (l .slot + 64)))
             (split d) (s .pre .1 .1),
       ),
     )

@@ -11,15 +11,15 @@ use Rattle.pciv_check.proofs.pair.check_pair.Tie as tie
 
 -- the counts of the first file, and of the second
 first-done : (c : tie.After-first2) → checkFile 1 (c .before .before .before .before .before .args .a .now) ≡ done (c .first2 .given .0 .0)
-first-done c = fileAnswer-done _ _ (sym (c .first2 .given .1) ∙ c .before .before .check .ensures)
+first-done c = fileAnswer-done _ _ (sym (c .first2 .given .1) ∙ c .before .before .check-with .ensures)
 
 second-done : (c : tie.After-second2)
     → (let f = c .before .before .before .before in
     checkFile 2 (f .before .before .before .before .before .args .b .now) ≡ done (c .second2 .given .0 .0))
-second-done c = fileAnswer-done _ _ (sym (c .second2 .given .1) ∙ c .before .before .check2 .ensures)
+second-done c = fileAnswer-done _ _ (sym (c .second2 .given .1) ∙ c .before .before .check-with2 .ensures)
 
-check-requires : tie.Need-check-requires
-check-requires c κs = search needs
+check-with-requires : tie.Need-check-with-requires
+check-with-requires c κs = search needs
 
 enum-known-first : tie.Need-enum-known-first
 enum-known-first c = search needs
@@ -27,8 +27,8 @@ enum-known-first c = search needs
 enum-known-first-2 : tie.Need-enum-known-first-2
 enum-known-first-2 c = search needs
 
-check-requires-2 : tie.Need-check-requires-2
-check-requires-2 c κs = search needs
+check-with-requires-2 : tie.Need-check-with-requires-2
+check-with-requires-2 c κs = search needs
 
 enum-known-second : tie.Need-enum-known-second
 enum-known-second c = search needs
@@ -46,13 +46,13 @@ returns-2 : tie.Need-returns-2
 returns-2 c =
     let f = c .before in
     ap pairAnswer
-    (sym (pairCounts-first _ _ _ (fileAnswer-refused _ _ (sym (f .first .given .1) ∙ f .before .before .check .ensures))))
+    (sym (pairCounts-first _ _ _ (fileAnswer-refused _ _ (sym (f .first .given .1) ∙ f .before .before .check-with .ensures))))
 
 returns-3 : tie.Need-returns-3
 returns-3 c =
     let t = c .before in
     let f = t .before .before .before .before in
-    let no = fileAnswer-refused _ _ (sym (t .second .given .1) ∙ t .before .before .check2 .ensures) in
+    let no = fileAnswer-refused _ _ (sym (t .second .given .1) ∙ t .before .before .check-with2 .ensures) in
     ap pairAnswer (sym (pairCounts-second _ _ _ (first-done f) _ no))
 
 returns-4 : tie.Need-returns-4
@@ -65,10 +65,10 @@ pub check-pair-spec : {M : Type 1} → statement M
 check-pair-spec =
     tie.close
     (tie.spec
-    check-requires
+    check-with-requires
     enum-known-first
     enum-known-first-2
-    check-requires-2
+    check-with-requires-2
     enum-known-second
     enum-known-second-2
     returns

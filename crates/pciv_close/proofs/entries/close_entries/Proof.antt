@@ -237,12 +237,12 @@ module _ {M : Type 1} (𝓤 : URA M) (H : Heap 𝓤) (A : Atoms 𝓤) (W : Given
         use2 W (later (some (λ (δ : GName). ‵ (Lent ν δ ys) ⊛ ‵ (Kept ν δ ys)))) (lends-again u8 κ₂ (ν ∷ []) q₂ γ₂ b₂ o₂ 𝓤 H A W (named 2) (named 0) ys n size) $ await ! soaks $ pick ! (λ δ. split ! $
         move ! (2 ∷ 7 ∷ 0 ∷ 3 ∷ []) $ then ν δ))
 
-    back : (room : Room u8 n) (ν : ℕ) (δ : GName) (zs : List ℕ) → length zs ≡ length ys
+    back : (space : Room u8 n) (ν : ℕ) (δ : GName) (zs : List ℕ) → length zs ≡ length ys
         → Sq W (‵ (flft κ₁ q₁) ∷ ‵ Bor ∷ ‵ (flft κ₀ q₀) ∷ ‵ Own₀ ∷ ‵ (flft κ₂ q₂) ∷ ‵ (Own₂ zs) ∷ Γ) G
         → Sq W ((‵ (flft (ν ∷ []) fullShare) ⊛ ‵ (flft κ₀ q₀) ⊛ ‵ ftrue) ∷ ‵ (finally u8 δ zs) ∷ ‵ (Kept ν δ ys) ∷ ‵ Own₀ ∷ ‵ (flft κ₁ q₁) ∷ ‵ Bor ∷ Γ) G
-    back room ν δ zs l then =
+    back space ν δ zs l then =
         split ! $ lft-end ! soaks $ move ! (0 ∷ 3 ∷ 2 ∷ []) $
-        use3 W (later (‵ (Own₂ zs) ⊛ ‵ (flft κ₂ q₂))) (comes-back u8 κ₂ (ν ∷ []) q₂ γ₂ b₂ o₂ 𝓤 H A W (named 2) (named 0) ys δ zs n size room l) $ await ! soaks $ split ! $
+        use3 W (later (‵ (Own₂ zs) ⊛ ‵ (flft κ₂ q₂))) (comes-back u8 κ₂ (ν ∷ []) q₂ γ₂ b₂ o₂ 𝓤 H A W (named 2) (named 0) ys δ zs n size space l) $ await ! soaks $ split ! $
         -- [out; token 2; token 0 and true; primary; token 1; the borrow; …]
         move ! (2 ∷ []) $ split ! $ move ! (1 ∷ []) $ drop ! $ move ! (4 ∷ 5 ∷ 0 ∷ 3 ∷ 2 ∷ 1 ∷ []) $ then
 
@@ -278,8 +278,8 @@ module _ {M : Type 1} (𝓤 : URA M) (H : Heap 𝓤) (A : Atoms 𝓤) (W : Given
     gk : k < 2 ^ 64
     gk = p₁ .0 .1 .0
 
-    room : Room u8 n
-    room = p₂ .0 .1
+    space : Room u8 n
+    space = p₂ .0 .1
 
     module _ (l₀ l₁ l₂ l₃ l₄ l₅ l₆ l₇ l₈ l₉ l₁₀ l₁₁ l₁₂ l₁₃ l₁₄ : ℕ) where
       abbrev En : Env 𝓤 H
@@ -343,7 +343,7 @@ module _ {M : Type 1} (𝓤 : URA M) (H : Heap 𝓤) (A : Atoms 𝓤) (W : Given
           split ! $ move ! (1 ∷ []) $ heard ! (Advances ps k job e ys r (zs .0)) (λ adv. fsplit ! $ fsplit ! $ move ! (1 ∷ []) $ feqL ! (λ l.
           -- [the last list; true; the tokens and the job; what is kept of out; …]
           move ! (2 ∷ []) $ split ! $ move ! (1 ∷ []) $ peeks ! J.the-row (Is J.the-row) (shows 𝓤 H A J.the-row) r (u ∷ []) (λ is. drop ! $ move ! (2 ∷ []) $ drop ! $
-          back tt ys (i .1 .1 .0) room ν δ (zs .0) l (
+          back tt ys (i .1 .1 .0) space ν δ (zs .0) l (
           land-last ! (from ! (stop !)) (store ! 24 refl (LL.lawful J.the-type J′.the-laws 𝓤 H A W .typed r (u ∷ []) is .0)) $
           forget ! 6 refl $ forget ! 8 refl $ forget ! 10 refl $ forget ! 12 refl $ forget ! 14 refl $ forget ! 16 refl $ forget ! 22 refl $
           rewrite ! 24 (λ (w : Val). ‵ (fat fullShare J′.mir l₅ 0 w)) (ap only (LL.tells J.the-type J′.the-laws r (u ∷ []) is)) refl $
@@ -357,7 +357,7 @@ module _ {M : Type 1} (𝓤 : URA M) (H : Heap 𝓤) (A : Atoms 𝓤) (W : Given
           (λ less. skips ! $ exec ! C Λ En more (anyQ (Turned i)) $
           assigns ! (of-opd ! (load ! (from ! (fld ! refl (stop !))) (look-in ! 24 (sub ! 0 refl (whole !))))) (from ! (stop !)) (init ! 22 refl (tt, record { fits = next-fits job (i .1 .1 .1 .0) })) $
           assigns ! (addr ! (from ! (fld ! refl (hop ! (look-in ! 28 (sub ! 0 refl (whole !))) (stop !))))) (from ! (stop !)) (init ! 14 refl (tt, tt)) $
-          assigns ! (agg ! (and-then ! (load ! (from ! (stop !)) (look ! 14 refl)) (and-then ! (load ! (from ! (fld ! refl (stop !))) (look-in ! 28 (sub ! 1 refl (whole !)))) (no-more !)))) (from ! (stop !)) (init ! 12 refl (tt, (tt, (record { fits = room .0 }, tt)))) $
+          assigns ! (agg ! (and-then ! (load ! (from ! (stop !)) (look ! 14 refl)) (and-then ! (load ! (from ! (fld ! refl (stop !))) (look-in ! 28 (sub ! 1 refl (whole !)))) (no-more !)))) (from ! (stop !)) (init ! 12 refl (tt, (tt, (record { fits = space .0 }, tt)))) $
           assigns ! (bin ! (load ! (from ! (stop !)) (look ! 22 refl)) (lit ! tt) (record { fits = wide less })) (from ! (stop !)) (init ! 10 refl (tt, record { fits = wide less })) $
           assigns ! (bin ! (load ! (from ! (fld ! refl (stop !))) (look-in ! 30 (sub ! 0 refl (whole !)))) (load ! (from ! (stop !)) (look ! 10 refl)) tt) (from ! (stop !)) (init ! 8 refl (tt, tt)) $
           rewrite ! 8 (λ (p′ : ℕ). ‵ (fat fullShare tyPtr l₁₃ 0 (vptr b p′))) (sym (place-is 16 o (job .next))) refl $
@@ -391,7 +391,7 @@ module _ {M : Type 1} (𝓤 : URA M) (H : Heap 𝓤) (A : Atoms 𝓤) (W : Given
           split ! $ move ! (1 ∷ []) $ use1 W (some (λ (zs : List ℕ × (Unit {0} × (Unit {0} × Unit {0}))). ‵ (lasts start.ended (ν ∷ [], (κ₀, tt)) (x δ out, (s₀, (k, tt))) zs) ⊛ raw (fact 𝓤 (Starts ps k out r (zs .0))))) (id⊢ 𝓤 _) $ pick ! (λ zs.
           split ! $ move ! (1 ∷ []) $ heard ! (Starts ps k out r (zs .0)) (λ st. fsplit ! $ fsplit ! $ move ! (1 ∷ []) $ feqL ! (λ l.
           move ! (2 ∷ []) $ split ! $ move ! (1 ∷ []) $ peeks ! J.the-row (Is J.the-row) (shows 𝓤 H A J.the-row) r (u ∷ []) (λ is. drop ! $ move ! (2 ∷ []) $ drop ! $
-          back tt out refl room ν δ (zs .0) l (
+          back tt out refl space ν δ (zs .0) l (
           land ! (from ! (stop !)) (init ! 24 refl (LL.lawful J.the-type J′.the-laws 𝓤 H A W .typed r (u ∷ []) is .0)) $
           forget ! 18 refl $ forget ! 20 refl $
           rewrite ! 24 (λ (w : Val). ‵ (fat fullShare J′.mir l₅ 0 w)) (ap only (LL.tells J.the-type J′.the-laws r (u ∷ []) is)) refl $
@@ -401,10 +401,10 @@ module _ {M : Type 1} (𝓤 : URA M) (H : Heap 𝓤) (A : Atoms 𝓤) (W : Given
     walk =
         qed W ((‵ (flft κ₀ q₀) ⊛ ‵ (flft κ₁ q₁) ⊛ ‵ (flft κ₂ q₂) ⊛ ‵ ftrue) ∷ ‵ (owns (ShrSlice (named 0) κ₀ u8 ∷ ShrSlice (named 1) κ₁ T.the-row ∷ MutSlice (named 2) κ₂ u8 ∷ []) (s₀, (s₁, (x γ₂ out, tt))) vs) ∷ []) ∵ enter ! C Λ code.function (v₀ ∷ v₁ ∷ v₂ ∷ []) _ $
         alloc1 ! (λ l₀. alloc1 ! (λ l₁. alloc1 ! (λ l₂. alloc1 ! (λ l₃. alloc1 ! (λ l₄. alloc1 ! (λ l₅. alloc1 ! (λ l₆. alloc1 ! (λ l₇. alloc1 ! (λ l₈. alloc1 ! (λ l₉. alloc1 ! (λ l₁₀. alloc1 ! (λ l₁₁. alloc1 ! (λ l₁₂. alloc1 ! (λ l₁₃. alloc1 ! (λ l₁₄. alloc0 ! $ params1 ! $
-        pass1 ! (init ! 26 refl (shr-slice-lawful 𝓤 H A W (named 0) κ₀ u8 .typed s₀ (v₀ ∷ []) p₀ .0)) $ pass1 ! (init ! 24 refl (shr-slice-lawful 𝓤 H A W (named 1) κ₁ T.the-row .typed s₁ (v₁ ∷ []) p₁ .0)) $ pass1 ! (init ! 22 refl (tt, (tt, (record { fits = room .0 }, tt)))) $ pass0 ! $
+        pass1 ! (init ! 26 refl (shr-slice-lawful 𝓤 H A W (named 0) κ₀ u8 .typed s₀ (v₀ ∷ []) p₀ .0)) $ pass1 ! (init ! 24 refl (shr-slice-lawful 𝓤 H A W (named 1) κ₁ T.the-row .typed s₁ (v₁ ∷ []) p₁ .0)) $ pass1 ! (init ! 22 refl (tt, (tt, (record { fits = space .0 }, tt)))) $ pass0 ! $
         assigns ! (of-opd ! (load ! (from ! (fld ! refl (stop !))) (look-in ! 24 (sub ! 1 refl (whole !))))) (from ! (stop !)) (init ! 20 refl (tt, record { fits = gk })) $
         assigns ! (addr ! (from ! (fld ! refl (hop ! (look-in ! 22 (sub ! 0 refl (whole !))) (stop !))))) (from ! (stop !)) (init ! 14 refl (tt, tt)) $
-        assigns ! (agg ! (and-then ! (load ! (from ! (stop !)) (look ! 14 refl)) (and-then ! (load ! (from ! (fld ! refl (stop !))) (look-in ! 22 (sub ! 1 refl (whole !)))) (no-more !)))) (from ! (stop !)) (init ! 12 refl (tt, (tt, (record { fits = room .0 }, tt)))) $
+        assigns ! (agg ! (and-then ! (load ! (from ! (stop !)) (look ! 14 refl)) (and-then ! (load ! (from ! (fld ! refl (stop !))) (look-in ! 22 (sub ! 1 refl (whole !)))) (no-more !)))) (from ! (stop !)) (init ! 12 refl (tt, (tt, (record { fits = space .0 }, tt)))) $
         -- the slice of entries is Copy: one copy of what it owns is kept for the exit, and of the other the fractured borrow
         move ! (31 ∷ []) $ fsplit ! $ move ! (1 ∷ []) $ fsplit ! $ use1 W (‵ Own₁ ⊛ ‵ Own₁) (shr-slice-copy 𝓤 H A W (named 1) κ₁ T.the-row .twice s₁ (v₁ ∷ [])) $ split ! $
         fsplit ! $ drop ! $ fsplit ! $ drop ! $ move ! (2 ∷ []) $ fsplit ! $ move ! (35 ∷ []) $ split ! $ move ! (1 ∷ []) $ split ! $ move ! (1 ∷ []) $ split ! $

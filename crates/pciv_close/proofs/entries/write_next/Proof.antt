@@ -7,7 +7,7 @@ use Rattle.pciv_bytes.specs.LittleEndian.{Bytes}
 use Rattle.pciv_close.specs.Entries.{Call, endedJob, Writing, Doing, Next}
 use Rattle.pciv_close.specs.declared.entries.Job.{Job}
 use Rattle.pciv_close.specs.declared.entries.Pass.the-variants.{Write}
-use Rattle.pciv_close.proofs.EntriesLaws.{writing-few, writing-fits, writing-room, writing-more, writing-end}
+use Rattle.pciv_close.proofs.EntriesLaws.{writing-few, writing-fits, writing-space, writing-more, writing-end}
 use Rattle.pciv_close.proofs.StepLaws.{writing-of, step-ended, step-onward}
 use borrow.Author.Needs.{needs}
 use Rattle.pciv_close.proofs.entries.write_next.Statement.{statement}
@@ -23,25 +23,25 @@ writing : (s : tie.Start) (call : Call) → Next call (s .args .k) (s .args .job
 writing s call nx d =
     writing-of (s .args .primary .now) call (s .args .k) (s .args .job) (s .args .e) nx (s .args .out .now) d (s .pre .1)
 
-room : (c : tie.After-shared-slice-known)
+space : (c : tie.After-shared-slice-known)
     → (let a = c .before .before .args in 40 + length (a .primary .now) + 12 * a .job .next + 12 ≤ length (a .out .now))
-room c =
+space c =
     let s = c .before .before in
     let a = s .args in
     let p = s .pre .0 in
-    writing-room (a .primary .now) (p .0) (a .k) (a .job) (a .e) (p .1) (bytes c) (a .out .now) (writing s (p .0) (p .1) (p .2))
+    writing-space (a .primary .now) (p .0) (a .k) (a .job) (a .e) (p .1) (bytes c) (a .out .now) (writing s (p .0) (p .1) (p .2))
 
 add-put-entry : tie.Need-add-put-entry
 add-put-entry c = search needs
 
 mul-put-entry : tie.Need-mul-put-entry
-mul-put-entry c = omega (arith, room (c .before .before), c .before .before .before .before .good)
+mul-put-entry c = omega (arith, space (c .before .before), c .before .before .before .before .good)
 
 add-put-entry-2 : tie.Need-add-put-entry-2
-add-put-entry-2 c = omega (arith, room (c .before .before), c .before .before .before .before .good)
+add-put-entry-2 c = omega (arith, space (c .before .before), c .before .before .before .before .good)
 
 put-entry-requires : tie.Need-put-entry-requires
-put-entry-requires c κs = omega (arith, room (c .before .before))
+put-entry-requires c κs = omega (arith, space (c .before .before))
 
 onward-requires : tie.Need-onward-requires
 onward-requires c κs = c .before .before .before .before .before .before .before .pre .0 .1 .more

@@ -13,14 +13,14 @@ take-out-requires : tie.Need-take-out-requires
 take-out-requires c κs =
     let entry = c .before .before .before in
     let near = c .before .if1 .taken in
-    let room = entry .pre .leaves near in
-    ((entry .pre .inside, room .0, room .1), near)
+    let space = entry .pre .leaves near in
+    ((entry .pre .inside, space .0, space .1), near)
 
 put-in-requires : tie.Need-put-in-requires
 put-in-requires c κs =
     let entry = c .before .before .before in
-    let room = entry .pre .enters (c .before .if1 .left) in
-    (entry .pre .inside, room .0, room .1)
+    let space = entry .pre .enters (c .before .if1 .left) in
+    (entry .pre .inside, space .0, space .1)
 
 same-length : tie.Need-same-length
 same-length c = search needs

@@ -66,7 +66,7 @@ change-entries-requires c κs =
     let found = put .before .before in
     let fit = found .before .before in
     rw (put .put-header .kept .0)
-    (law (fit .before .before) .room (found .entry-of .result) (found .entry-of .ensures) (fits fit))
+    (law (fit .before .before) .space (found .entry-of .result) (found .entry-of .ensures) (fits fit))
 
 finish-change-requires : tie.Need-finish-change-requires
 finish-change-requires c κs =

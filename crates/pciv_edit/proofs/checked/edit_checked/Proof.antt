@@ -94,9 +94,9 @@ add-cross c = search needs
 
 cross-requires-2 : tie.Need-cross-requires-2
 cross-requires-2 c κs =
-    let far = c .before .before .if2 .left in
+    let overflows = c .before .before .if2 .left in
     let inline = c .before .if4 .taken in
-    (the-slot (c .before .before .before), (unmarked _ inline ∙ sym (le-ltb _ 255 far), rw (le-ltb _ 255 far)))
+    (the-slot (c .before .before .before), (unmarked _ inline ∙ sym (le-ltb _ 255 overflows), rw (le-ltb _ 255 overflows)))
 
 same-length-3 : tie.Need-same-length-3
 same-length-3 c = search needs

@@ -55,11 +55,11 @@ returns-2 c =
     let k = c .before .before .before in
     let s = k .before in
     let P = parts s in
-    let far = c .before .if1 .left in
+    let overflows = c .before .if1 .left in
     record {
       is = c .entry-distance .ensures
-          ∙ value-at P (s .pre .0 .parts) (bytes k) (s .args .j) (s .args .slot) (s .pre .1 .1) (s .pre .1 .0) far;
-      next = cursor-more P (s .pre .0 .parts) (bytes k) (s .args .j) (s .args .slot) (s .pre .1 .1) (s .pre .1 .0) far;
+          ∙ value-at P (s .pre .0 .parts) (bytes k) (s .args .j) (s .args .slot) (s .pre .1 .1) (s .pre .1 .0) overflows;
+      next = cursor-more P (s .pre .0 .parts) (bytes k) (s .args .j) (s .args .slot) (s .pre .1 .1) (s .pre .1 .0) overflows;
     }
 
 pub take-at-spec : {M : Type 1} → statement M

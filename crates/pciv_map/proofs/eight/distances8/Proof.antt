@@ -30,10 +30,10 @@ abbrev entered : tie.In-loop Inv-loop μ-loop → tie.Start Inv-loop μ-loop
 entered c = c .before .before .before .before .before .before
 
 -- the place that is filled
-far : (c : tie.In-loop Inv-loop μ-loop) → (let a = entered c .args in
+overflows : (c : tie.In-loop Inv-loop μ-loop) → (let a = entered c .args in
     OverflowPlace (fileParts (a .file .now) (a .n) (a .k)) (a .slots .now) (length (a .slots .now))
     (getD (a .places .now) (c .before .loop .q) 0))
-far c = entered c .pre .1 .0 .each (c .before .loop .q) (c .loop-test .taken)
+overflows c = entered c .pre .1 .0 .each (c .before .loop .q) (c .loop-test .taken)
 
 -- the entry that was found for it
 entry : (c : tie.In-loop Inv-loop μ-loop) → (let a = entered c .args in
@@ -42,7 +42,7 @@ entry : (c : tie.In-loop Inv-loop μ-loop) → (let a = entered c .args in
     (j < a .k)
     × (valueOf P (getD (a .slots .now) (getD (a .places .now) (c .before .loop .q) 0) 0) ≡ P .distance j))
 entry c =
-    holds-value _ (entered c .pre .0 .parts) _ _ _ _ (far c)
+    holds-value _ (entered c .pre .0 .parts) _ _ _ _ (overflows c)
     (c .before .before .entries8 .ensures .each (c .before .loop .q) (c .loop-test .taken))
 
 entries8-requires : tie.Need-entries8-requires Inv-loop μ-loop
@@ -69,10 +69,10 @@ entry-distance-requires : tie.Need-entry-distance-requires Inv-loop μ-loop
 entry-distance-requires c κs = entry-inside _ _ _ (entered (c .before) .pre .0) _ (entry (c .before) .0)
 
 mul-out : tie.Need-mul-out Inv-loop μ-loop
-mul-out c = omega (arith, far (c .before .before) .before)
+mul-out c = omega (arith, overflows (c .before .before) .before)
 
 slice-write-out : tie.Need-slice-write-out Inv-loop μ-loop
-slice-write-out c = omega (arith, far (c .before .before) .before)
+slice-write-out c = omega (arith, overflows (c .before .before) .before)
 
 add-q : tie.Need-add-q Inv-loop μ-loop
 add-q c = search needs

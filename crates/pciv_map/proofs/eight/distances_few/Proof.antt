@@ -29,10 +29,10 @@ abbrev entered : tie.In-loop Inv-loop μ-loop → tie.Start Inv-loop μ-loop
 entered c = c .before .before .before .before .before
 
 -- the place that is filled
-far : (c : tie.In-loop Inv-loop μ-loop) → (let a = entered c .args in
+overflows : (c : tie.In-loop Inv-loop μ-loop) → (let a = entered c .args in
     OverflowPlace (fileParts (a .file .now) (a .n) (a .k)) (a .slots .now) (length (a .slots .now))
     (getD (a .places .now) (c .before .loop .q) 0))
-far c = entered c .pre .1 .0 .1 .each (c .before .loop .q) (c .loop-test .taken)
+overflows c = entered c .pre .1 .0 .1 .each (c .before .loop .q) (c .loop-test .taken)
 
 loop-holds : tie.Need-loop-holds Inv-loop μ-loop
 loop-holds c = (omega arith, refl, refl)
@@ -44,21 +44,21 @@ element-copy-out-place : tie.Need-element-copy-out-place Inv-loop μ-loop
 element-copy-out-place c = search needs
 
 mul-distance-at : tie.Need-mul-distance-at Inv-loop μ-loop
-mul-distance-at c = omega (arith, far (c .before) .before)
+mul-distance-at c = omega (arith, overflows (c .before) .before)
 
 shared-slice-read-distance-at : tie.Need-shared-slice-read-distance-at Inv-loop μ-loop
-shared-slice-read-distance-at c = far (c .before .before) .before
+shared-slice-read-distance-at c = overflows (c .before .before) .before
 
 distance-at-requires : tie.Need-distance-at-requires Inv-loop μ-loop
 distance-at-requires c κs =
     let in-loop = c .before .before in
-    (entered in-loop .pre .0, far in-loop .inside)
+    (entered in-loop .pre .0, overflows in-loop .inside)
 
 mul-out : tie.Need-mul-out Inv-loop μ-loop
-mul-out c = omega (arith, far (c .before .before .before) .before)
+mul-out c = omega (arith, overflows (c .before .before .before) .before)
 
 slice-write-out : tie.Need-slice-write-out Inv-loop μ-loop
-slice-write-out c = omega (arith, far (c .before .before .before) .before)
+slice-write-out c = omega (arith, overflows (c .before .before .before) .before)
 
 add-q : tie.Need-add-q Inv-loop μ-loop
 add-q c = search needs

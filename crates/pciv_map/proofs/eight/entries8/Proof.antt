@@ -6,7 +6,7 @@ use native.Mathlib.Omega.{arith}
 use borrow.Author.Needs.{needs}
 use Rattle.pciv_format.specs.Check.{fileParts}
 use Rattle.pciv_map.specs.Eight.{Eight}
-use Rattle.pciv_map.proofs.EightLaws.{far-some, eight-start}
+use Rattle.pciv_map.proofs.EightLaws.{overflow-some, eight-start}
 use Rattle.pciv_map.proofs.eight.entries8.Statement.{statement}
 use Rattle.pciv_map.proofs.eight.entries8.Tie as tie
 
@@ -19,7 +19,7 @@ abbrev μ-loop : tie.MeasureT-loop
 loop-holds : tie.Need-loop-holds Inv-loop μ-loop
 loop-holds c =
     let pre = c .before .before .pre in
-    (far-some _ (pre .0 .parts) _ _ _ (pre .1 .each 0 (omega arith)), eight-start _ _ _)
+    (overflow-some _ (pre .0 .parts) _ _ _ (pre .1 .each 0 (omega arith)), eight-start _ _ _)
 
 halve8-requires : tie.Need-halve8-requires Inv-loop μ-loop
 halve8-requires c κs =

@@ -25,10 +25,10 @@ abbrev entered : tie.In-loop Inv-loop μ-loop → tie.Start Inv-loop μ-loop
 entered c = c .before .before .before .before
 
 -- the slot that is searched for
-far : (c : tie.In-loop Inv-loop μ-loop) → (let a = entered c .args in
+overflows : (c : tie.In-loop Inv-loop μ-loop) → (let a = entered c .args in
     OverflowPlace (fileParts (a .file .now) (a .n) (a .k)) (a .slots .now) (length (a .slots .now))
     (getD (a .places .now) (c .before .loop .q) 0))
-far c = entered c .pre .1 .0 .each (c .before .loop .q) (omega (arith, c .loop-test .taken))
+overflows c = entered c .pre .1 .0 .each (c .before .loop .q) (omega (arith, c .loop-test .taken))
 
 -- the search that has its turn
 left : (c : tie.In-loop Inv-loop μ-loop) → (let a = entered c .args in
@@ -69,10 +69,10 @@ element-copy-out-slot : tie.Need-element-copy-out-slot Inv-loop μ-loop
 element-copy-out-slot c = search needs
 
 mul-slot-2 : tie.Need-mul-slot-2 Inv-loop μ-loop
-mul-slot-2 c = omega (arith, far (c .before) .before)
+mul-slot-2 c = omega (arith, overflows (c .before) .before)
 
 shared-slice-read-slot : tie.Need-shared-slice-read-slot Inv-loop μ-loop
-shared-slice-read-slot c = far (c .before .before) .before
+shared-slice-read-slot c = overflows (c .before .before) .before
 
 mul-entry-slot : tie.Need-mul-entry-slot Inv-loop μ-loop
 mul-entry-slot c = search needs
@@ -94,7 +94,7 @@ is-at-most-requires c κs =
     let map = entered in-loop .pre .0 in
     omega (
       arith,
-      far in-loop .inside,
+      overflows in-loop .inside,
       map .header .small,
       c .entry-slot .ensures,
       entry-good _ (map .parts) _ (probe-lt in-loop) .inside,

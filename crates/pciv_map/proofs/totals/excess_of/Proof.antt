@@ -44,7 +44,7 @@ sub-sum : tie.Need-sub-sum Inv-loop μ-loop
 sub-sum c =
     let d = c .before .before in
     let s = d .before .before in
-    omega (arith, entry-good (parts s) (s .pre .parts) (d .loop .j) (omega arith) .far)
+    omega (arith, entry-good (parts s) (s .pre .parts) (d .loop .j) (omega arith) .overflows)
 
 cast-sum-2 : tie.Need-cast-sum-2 Inv-loop μ-loop
 cast-sum-2 c = search needs

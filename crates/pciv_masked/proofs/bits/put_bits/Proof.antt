@@ -1,7 +1,7 @@
 -- Proves bits::put_bits. Invariant of both loops: what is left to write are the bits of the slots from i on; in the first
--- i is a multiple of 64. Falls: n - i.
+-- i is a multiple of 64, in the second the slots from i on are those of the last word. Falls: n - i.
 use mathlib.Core.Path.{_≡_, refl, sym, ap, _∙_}
-use Prim.Native.Nat.{ℕ, _+_, _-_, _%_, _≤_}
+use Prim.Native.Nat.{ℕ, _+_, _-_, _*_, _/_, _%_, _≤_}
 use native.Mathlib.Omega.{arith}
 use mathlib.Core.List.{List}
 use lib.ListN.{length, length-set}
@@ -9,7 +9,7 @@ use lib.Seq.{sets, length-sets}
 use Rattle.pciv_bytes.specs.Ranges.{table}
 use Rattle.pciv_bytes.proofs.WriteLaws.{sets-table-start, sets-table-more, sets-table-end, sets-table-part}
 use Rattle.pciv_format.specs.Mask.{maskValue}
-use Rattle.pciv_masked.proofs.RowLaws.{word-of-mask}
+use Rattle.pciv_masked.proofs.RowLaws.{word-of-mask, last-bit}
 use borrow.Author.Needs.{needs}
 use Rattle.pciv_masked.proofs.bits.put_bits.Statement.{statement}
 use Rattle.pciv_masked.proofs.bits.put_bits.Tie as tie
@@ -27,16 +27,16 @@ abbrev μ-loop : tie.MeasureT-loop
 μ-loop out₀ n words rows i₀ out i = n - i
 
 abbrev Inv-loop2 : tie.InvT-loop2
-Inv-loop2 out₀ n words i₀ out i = Left words n out₀ i₀ out i
+Inv-loop2 out₀ n words i₀ bits out i = (64 * (n / 64) ≤ i) × Left words n out₀ i₀ out i
 
 abbrev μ-loop2 : tie.MeasureT-loop2
-μ-loop2 out₀ n words i₀ out i = n - i
+μ-loop2 out₀ n words i₀ bits out i = n - i
 
 abbrev start : tie.In-loop Inv-loop μ-loop Inv-loop2 μ-loop2 → tie.Start Inv-loop μ-loop Inv-loop2 μ-loop2
 start c = c .before .before .before .before .before
 
 abbrev start2 : tie.In-loop2 Inv-loop μ-loop Inv-loop2 μ-loop2 → tie.Start Inv-loop μ-loop Inv-loop2 μ-loop2
-start2 c = c .before .before .before .before .before .before .before
+start2 c = c .before .before .before .before .before .before .before .before .before
 
 bit-rows-requires : tie.Need-bit-rows-requires Inv-loop μ-loop Inv-loop2 μ-loop2
 bit-rows-requires c κs = search needs
@@ -83,20 +83,25 @@ loop-again c =
       ),
     )
 
-loop2-holds : tie.Need-loop2-holds Inv-loop μ-loop Inv-loop2 μ-loop2
-loop2-holds c = (search needs, refl, refl)
+last-bits-requires : tie.Need-last-bits-requires Inv-loop μ-loop Inv-loop2 μ-loop2
+last-bits-requires c κs = c .before .before .before .bit-rows .ensures
 
-bit-of-requires : tie.Need-bit-of-requires Inv-loop μ-loop Inv-loop2 μ-loop2
-bit-of-requires c κs = omega (arith, start2 c .pre .0, c .loop2-test .taken)
+loop2-holds : tie.Need-loop2-holds Inv-loop μ-loop Inv-loop2 μ-loop2
+loop2-holds c =
+    let w = c .before .before in
+    let l = w .before .loop in
+    (omega (arith, l .inv .0, l .inv .1 .0, w .loop-test .left), (search needs, refl, refl))
+
+array-read-out : tie.Need-array-read-out Inv-loop μ-loop Inv-loop2 μ-loop2
+array-read-out c = search needs
 
 add-out : tie.Need-add-out Inv-loop μ-loop Inv-loop2 μ-loop2
 add-out c = search needs
 
 slice-write-out : tie.Need-slice-write-out Inv-loop μ-loop Inv-loop2 μ-loop2
 slice-write-out c =
-    let w = c .before in
-    let l = w .before in
-    omega (arith, start2 w .pre .1, w .loop2-test .taken, l .loop2 .inv .1, l .before .before .loop .inv .1 .1)
+    let l = c .before in
+    omega (arith, start2 c .pre .1, c .loop2-test .taken, l .loop2 .inv .1 .1, l .before .before .before .before .loop .inv .1 .1)
 
 add-i-2 : tie.Need-add-i-2 Inv-loop μ-loop Inv-loop2 μ-loop2
 add-i-2 c = search needs
@@ -106,11 +111,14 @@ loop2-less c = search needs
 
 loop2-again : tie.Need-loop2-again Inv-loop μ-loop Inv-loop2 μ-loop2
 loop2-again c =
-    let w = c .before in
-    let l = w .before .loop2 in
-    let a = start2 w .args in
-    let more = sets-table-more (maskValue (a .words .now)) 40 (a .n) (l .i) (l .out) (w .loop2-test .taken) in
-    (omega (arith, w .loop2-test .taken), simp length-set (l .inv .1), l .inv .2 ∙ more ∙ rw (c .bit-of .ensures))
+    let b = c .before .before in
+    let l = c .before .loop2 in
+    let a = start2 c .args in
+    let bit = last-bit _ (a .words .now) (a .n) (l .i) (b .last-bits .ensures) (l .inv .0) (c .loop2-test .taken) in
+    let more = sets-table-more (maskValue (a .words .now)) 40 (a .n) (l .i) (l .out) (c .loop2-test .taken) in (
+      omega (arith, l .inv .0),
+      (omega (arith, c .loop2-test .taken), simp length-set (l .inv .1 .1), l .inv .1 .2 ∙ more ∙ rw bit),
+    )
 
 same-length : tie.Need-same-length Inv-loop μ-loop Inv-loop2 μ-loop2
 same-length c = search needs
@@ -118,13 +126,13 @@ same-length c = search needs
 returns : tie.Need-returns Inv-loop μ-loop Inv-loop2 μ-loop2
 returns c =
     let l = c .before in
-    let k = l .before .before in
+    let k = l .before .before .before .before in
     let a = k .before .before .before .before .args in
     let f : ℕ → ℕ = maskValue (a .words .now) in
     sym
     (sets-table-start f 40 (a .n) (a .out .now)
     ∙ k .loop .inv .1 .2
-    ∙ l .loop2 .inv .2
+    ∙ l .loop2 .inv .1 .2
     ∙ sets-table-end f 40 (a .n) (l .loop2 .i) (l .loop2 .out) (omega (arith, c .loop2-test .left)))
 
 pub put-bits-spec : {M : Type 1} → statement M
@@ -145,8 +153,9 @@ put-bits-spec =
     add-i
     loop-less
     loop-again
+    last-bits-requires
     loop2-holds
-    bit-of-requires
+    array-read-out
     add-out
     slice-write-out
     add-i-2

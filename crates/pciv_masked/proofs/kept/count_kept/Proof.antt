@@ -11,7 +11,7 @@ use Rattle.pciv_build.proofs.EntriesLaws.{Counted, counted-start}
 use Rattle.pciv_map.proofs.MapLaws.{entry-inside}
 use Rattle.pciv_masked.specs.Masked.{maskedAt}
 use Rattle.pciv_masked.specs.declared.bytes.MaskedOp.the-variants.{Keep}
-use Rattle.pciv_masked.proofs.ByteLaws.{mask-room}
+use Rattle.pciv_masked.proofs.ByteLaws.{mask-covers}
 use Rattle.pciv_masked.proofs.KeptLaws.{kept-counted, kept-counted-all}
 use borrow.Author.Needs.{needs}
 use Rattle.pciv_masked.proofs.kept.count_kept.Statement.{statement}
@@ -58,7 +58,7 @@ bit-of-requires c κs =
     let w = c .before in
     let s = start w in
     let good = entry-good (parts s) (s .pre .0 .parts) (w .before .loop .j) (w .loop-test .taken) in
-    omega (arith, good .inside, c .entry-slot .ensures, mask-room (s .pre .1))
+    omega (arith, good .inside, c .entry-slot .ensures, mask-covers (s .pre .1))
 
 cast-count : tie.Need-cast-count Inv-loop μ-loop
 cast-count c = omega (arith, small c)

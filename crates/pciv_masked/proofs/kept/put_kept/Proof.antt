@@ -12,8 +12,8 @@ use Rattle.pciv_build.proofs.EntriesLaws.{EntriesLeft, entries-start}
 use Rattle.pciv_map.proofs.MapLaws.{entry-inside}
 use Rattle.pciv_masked.specs.Masked.{maskedAt}
 use Rattle.pciv_masked.specs.declared.bytes.MaskedOp.the-variants.{Keep}
-use Rattle.pciv_masked.proofs.ByteLaws.{mask-room}
-use Rattle.pciv_masked.proofs.KeptLaws.{kept-room, kept-here, kept-more, kept-written}
+use Rattle.pciv_masked.proofs.ByteLaws.{mask-covers}
+use Rattle.pciv_masked.proofs.KeptLaws.{kept-space, kept-here, kept-more, kept-written}
 use borrow.Author.Needs.{needs}
 use Rattle.pciv_masked.proofs.kept.put_kept.Statement.{statement}
 use Rattle.pciv_masked.proofs.kept.put_kept.Tie as tie
@@ -45,10 +45,10 @@ inside c =
     let s = start c in
     kept-here (parts s) (s .pre .0 .parts) (bytes c) (s .args .words .now) (c .before .loop .inv .0) (c .before .loop .inv .1) (more c)
 
-room : (c : tie.In-loop Inv-loop μ-loop) → c .before .loop .at + 12 ≤ length (c .before .loop .out)
-room c =
+space : (c : tie.In-loop Inv-loop μ-loop) → c .before .loop .at + 12 ≤ length (c .before .loop .out)
+space c =
     let s = start c in
-    kept-room (parts s) (s .pre .0 .parts) (bytes c) (s .args .words .now) (c .before .loop .inv .0) (c .before .loop .inv .1) (more c)
+    kept-space (parts s) (s .pre .0 .parts) (bytes c) (s .args .words .now) (c .before .loop .inv .0) (c .before .loop .inv .1) (more c)
 
 add-at : tie.Need-add-at Inv-loop μ-loop
 add-at c = search needs
@@ -74,7 +74,7 @@ entry-distance-requires : tie.Need-entry-distance-requires Inv-loop μ-loop
 entry-distance-requires c κs = entry-slot-requires (c .before .before) κs
 
 put-entry-requires : tie.Need-put-entry-requires Inv-loop μ-loop
-put-entry-requires c κs = room (c .before .before .before)
+put-entry-requires c κs = space (c .before .before .before)
 
 bit-of-requires : tie.Need-bit-of-requires Inv-loop μ-loop
 bit-of-requires c κs =
@@ -82,7 +82,7 @@ bit-of-requires c κs =
     let w = e .before in
     let s = start w in
     let good = entry-good (parts s) (s .pre .0 .parts) (w .before .loop .j) (inside w) in
-    omega (arith, good .inside, e .entry-slot .ensures, mask-room (s .pre .1 .0))
+    omega (arith, good .inside, e .entry-slot .ensures, mask-covers (s .pre .1 .0))
 
 cast-at : tie.Need-cast-at Inv-loop μ-loop
 cast-at c = search needs
@@ -92,7 +92,7 @@ mul-at c = omega (arith, flag-le (ltb 0 (c .bit-of .result)))
 
 add-at-2 : tie.Need-add-at-2 Inv-loop μ-loop
 add-at-2 c =
-    omega (arith, flag-le (ltb 0 (c .bit-of .result)), room (c .before .before .before .before .before .before .before))
+    omega (arith, flag-le (ltb 0 (c .bit-of .result)), space (c .before .before .before .before .before .before .before))
 
 add-j : tie.Need-add-j Inv-loop μ-loop
 add-j c = omega (arith, inside (c .before .before .before .before .before .before .before))

@@ -81,8 +81,8 @@ first-large-requires c κs =
 returns : tie.Need-returns
 returns c =
     let s = entry (c .before) in
-    let room : ℕ = length (s .args .out .now) in
-    let e = map-large (s .args .n) (v s) room (c .before .first-large .result) (c .before .first-large .ensures) (c .if1 .taken) in
+    let capacity : ℕ = length (s .args .out .now) in
+    let e = map-large (s .args .n) (v s) capacity (c .before .first-large .result) (c .before .first-large .ensures) (c .if1 .taken) in
     (ap fileAnswer (sym e), rw e)
 
 count-overflow-requires : tie.Need-count-overflow-requires

@@ -10,7 +10,7 @@ use Rattle.pciv_format.specs.Check.{fileParts}
 use Rattle.pciv_format.specs.Mask.{maskHas, maskValue}
 use Rattle.pciv_format.proofs.PartsLaws.{entry-good}
 use Rattle.pciv_map.proofs.MapLaws.{entry-inside}
-use Rattle.pciv_masked.proofs.ByteLaws.{mask-room}
+use Rattle.pciv_masked.proofs.ByteLaws.{mask-covers}
 use Rattle.pciv_masked.proofs.RaisedLaws.{FineTo, fine-start, fine-more, fine-found, fine-all}
 use borrow.Author.Needs.{needs}
 use Rattle.pciv_masked.proofs.raised.first_too_large.Statement.{statement}
@@ -75,7 +75,7 @@ bit-of-requires c κs =
     let w = e .before in
     let s = start w in
     let good = entry-good (parts s) (s .pre .0 .parts) (w .before .loop .j) (w .loop-test .taken) in
-    omega (arith, good .inside, e .entry-slot .ensures, mask-room (s .pre .1))
+    omega (arith, good .inside, e .entry-slot .ensures, mask-covers (s .pre .1))
 
 cast-if1 : tie.Need-cast-if1 Inv-loop μ-loop
 cast-if1 c = omega (arith, small c)

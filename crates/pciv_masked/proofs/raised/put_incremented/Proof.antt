@@ -12,7 +12,7 @@ use Rattle.pciv_format.specs.Mask.{maskHas}
 use Rattle.pciv_build.proofs.FillLaws.{same-count, fill-start, fill-over, fill-end}
 use Rattle.pciv_masked.specs.Masked.{maskedAt}
 use Rattle.pciv_masked.specs.declared.bytes.MaskedOp.the-variants.{Increment}
-use Rattle.pciv_masked.proofs.ByteLaws.{mask-room}
+use Rattle.pciv_masked.proofs.ByteLaws.{mask-covers}
 use Rattle.pciv_masked.proofs.RaisedLaws.{Raising, RaisingAt, raising-start, raising-next, raising-more}
 use borrow.Author.Needs.{needs}
 use Rattle.pciv_masked.proofs.raised.put_incremented.Statement.{statement}
@@ -41,8 +41,8 @@ bytes c i = c .before .shared-slice-known .given (40 + i) .fits
 abbrev known : tie.At-loop Inv-loop μ-loop → tie.After-shared-slice-known2 Inv-loop μ-loop
 known c = c .before .before .before .before .before
 
-room : (s : tie.Start Inv-loop μ-loop) → 40 + s .args .n + 12 * overflowCount (s .args .n) (v s) ≤ length (s .args .out .now)
-room s = omega (arith, s .pre .1 .1 .1 .1 .0, s .pre .1 .1 .1 .1 .1)
+space : (s : tie.Start Inv-loop μ-loop) → 40 + s .args .n + 12 * overflowCount (s .args .n) (v s) ≤ length (s .args .out .now)
+space s = omega (arith, s .pre .1 .1 .1 .1 .0, s .pre .1 .1 .1 .1 .1)
 
 -- the cursor at the next slot in overflow
 next-at : (c : tie.In-loop Inv-loop μ-loop)
@@ -59,7 +59,7 @@ next-at c slot is =
 put-slots-requires : tie.Need-put-slots-requires Inv-loop μ-loop
 put-slots-requires c κs =
     let s = entry (c .before) in
-    omega (arith, same-count (s .args .n) (v s) (s .args .out .now) (s .pre .1 .1 .1 .0), room s)
+    omega (arith, same-count (s .args .n) (v s) (s .args .out .now) (s .pre .1 .1 .1 .0), space s)
 
 add-at : tie.Need-add-at Inv-loop μ-loop
 add-at c = search needs
@@ -75,7 +75,7 @@ loop-holds c =
     let p = c .before .before in
     let s = entry (p .before .before) in
     raising-start (parts s) (s .args .words .now) _ _
-    (fill-start (s .args .n) (v s) (s .args .out .now) _ (s .pre .1 .1 .1 .0) (room s) (p .put-slots .ensures) (s .pre .0 .header .small))
+    (fill-start (s .args .n) (v s) (s .args .out .now) _ (s .pre .1 .1 .1 .0) (space s) (p .put-slots .ensures) (s .pre .0 .header .small))
 
 -- and at the slot that was read
 here : (c : tie.After-get64 Inv-loop μ-loop)
@@ -89,7 +89,7 @@ get64-requires : tie.Need-get64-requires Inv-loop μ-loop
 get64-requires c κs =
     let d = c .before in
     let l = d .before .loop in
-    omega (arith, next-at d (get 8 (l .out) (l .at)) refl .next .room)
+    omega (arith, next-at d (get 8 (l .out) (l .at)) refl .next .space)
 
 take-at-requires : tie.Need-take-at-requires Inv-loop μ-loop
 take-at-requires c κs =
@@ -100,7 +100,7 @@ bit-of-requires : tie.Need-bit-of-requires Inv-loop μ-loop
 bit-of-requires c κs =
     let g = c .before .before in
     let s = entry (known (g .before .before .before)) in
-    omega (arith, here g .next .inside, mask-room (s .pre .1 .0))
+    omega (arith, here g .next .inside, mask-covers (s .pre .1 .0))
 
 cast-put-entry : tie.Need-cast-put-entry Inv-loop μ-loop
 cast-put-entry c =
@@ -117,7 +117,7 @@ add-put-entry c =
     omega (arith, s .pre .1 .1 .0 _ (here g .next .inside), x .take-at .ensures .is, b .bit-of .ensures)
 
 put-entry-requires : tie.Need-put-entry-requires Inv-loop μ-loop
-put-entry-requires c κs = here (c .before .before .before .before) .next .room
+put-entry-requires c κs = here (c .before .before .before .before) .next .space
 
 loop-less : tie.Need-loop-less Inv-loop μ-loop
 loop-less c =
@@ -144,7 +144,7 @@ returns c =
     let p = c .before .before .before .before in
     let s = entry (known (c .before)) in
     fill-end (c .before .loop .inv .fill) (omega (arith, c .loop-test .left, s .pre .1 .1 .1 .1 .0))
-    ∙ fill-over (s .args .n) (v s) (s .args .out .now) _ (s .pre .1 .1 .1 .0) (room s) (p .put-slots .ensures)
+    ∙ fill-over (s .args .n) (v s) (s .args .out .now) _ (s .pre .1 .1 .1 .0) (space s) (p .put-slots .ensures)
 
 pub put-incremented-spec : {M : Type 1} → statement M
 put-incremented-spec =

@@ -18,9 +18,9 @@ use Rattle.pciv_merge.proofs.combine.put_parts.Statement.{statement}
 use Rattle.pciv_merge.proofs.combine.put_parts.Tie as tie
 
 module _ (a b : List ℕ) (n ka kb : ℕ) (d : List ℕ) {op case : MergeOp} (e : op ≡ case) where
-  room-in-case : 40 + n + 12 * overflowCount n (resultOf op a b n ka kb) ≤ length d
+  space-in-case : 40 + n + 12 * overflowCount n (resultOf op a b n ka kb) ≤ length d
       → 40 + n + 12 * overflowCount n (resultOf case a b n ka kb) ≤ length d
-  room-in-case room = rw (← e) room
+  space-in-case space = rw (← e) space
 
   in-case : (d' : List ℕ) → d' ≡ partsPut n (resultOf case a b n ka kb) d → d' ≡ partsPut n (resultOf op a b n ka kb) d
   in-case d' put = rw e put
@@ -49,8 +49,8 @@ put-led-requires c κs =
     let t = p .before .before in
     let s = t .before .before .before .before .before in
     let a = s .args in
-    let room = room-in-case (a .a .now) (a .b .now) (a .n) (a .ka) (a .kb) (a .out .now) (t .enum-told .given .1) (s .pre .1) in
-    (s .pre .0, (shrinks-minimum, omega (arith, room, p .put-primary .kept .0)))
+    let space = space-in-case (a .a .now) (a .b .now) (a .n) (a .ka) (a .kb) (a .out .now) (t .enum-told .given .1) (s .pre .1) in
+    (s .pre .0, (shrinks-minimum, omega (arith, space, p .put-primary .kept .0)))
 
 enum-told-2 : tie.Need-enum-told-2
 enum-told-2 c = search needs
@@ -66,8 +66,8 @@ put-joint-requires c κs =
     let t = p .before .before in
     let s = t .before .before .before .before .before in
     let a = s .args in
-    let room = room-in-case (a .a .now) (a .b .now) (a .n) (a .ka) (a .kb) (a .out .now) (t .enum-told2 .given .1) (s .pre .1) in
-    (s .pre .0, omega (arith, room, p .put-primary2 .kept .0))
+    let space = space-in-case (a .a .now) (a .b .now) (a .n) (a .ka) (a .kb) (a .out .now) (t .enum-told2 .given .1) (s .pre .1) in
+    (s .pre .0, omega (arith, space, p .put-primary2 .kept .0))
 
 enum-told-3 : tie.Need-enum-told-3
 enum-told-3 c = search needs
@@ -84,10 +84,10 @@ settle-led-requires c κs =
     let k = t .before .before in
     let s = k .before .before .before in
     let a = s .args in
-    let room = room-in-case (a .a .now) (a .b .now) (a .n) (a .ka) (a .kb) (a .out .now) (t .enum-told3 .given .1) (s .pre .1) in
+    let space = space-in-case (a .a .now) (a .b .now) (a .n) (a .ka) (a .kb) (a .out .now) (t .enum-told3 .given .1) (s .pre .1) in
     let right = inline-right Difference Sub same-difference (first s) (second s) refl (s .pre .0 .first .parts) (s .pre .0 .second .parts)
     (λ i. k .shared-slice-known2 .given (40 + i) .fits) (a .out .now) _ (omega (arith, s .pre .1)) (p .put-primary3 .ensures) in
-    (s .pre .0, (shrinks-difference, (right, omega (arith, room, p .put-primary3 .kept .0))))
+    (s .pre .0, (shrinks-difference, (right, omega (arith, space, p .put-primary3 .kept .0))))
 
 same-length : tie.Need-same-length
 same-length c = search needs

@@ -7,7 +7,7 @@ use native.Mathlib.Omega.{arith}
 use Rattle.pciv_format.specs.Layout.{maxSlots}
 use Rattle.pciv_format.specs.Parts.{Parts}
 use Rattle.pciv_format.specs.Check.{fileParts}
-use Rattle.pciv_merge.proofs.JointLaws.{JointLeft, joint-start, joint-room, joint-step, joint-more, joint-end}
+use Rattle.pciv_merge.proofs.JointLaws.{JointLeft, joint-start, joint-space, joint-step, joint-more, joint-end}
 use Rattle.pciv_merge.proofs.joint.put_joint.Statement.{statement}
 use Rattle.pciv_merge.proofs.joint.put_joint.Tie as tie
 
@@ -74,7 +74,7 @@ put-entry-requires c κs =
     let m = c .before in
     let l = m .before .before in
     let s = l .before .before .before .before in
-    joint-room (first s) (second s) refl (s .pre .0 .first .parts) (s .pre .0 .second .parts)
+    joint-space (first s) (second s) refl (s .pre .0 .first .parts) (s .pre .0 .second .parts)
     (λ i. l .before .before .shared-slice-known .given (40 + i) .fits) (λ i. l .before .shared-slice-known2 .given (40 + i) .fits)
     (l .loop .inv .0) (left (m .before)) (m .meet .result) (m .meet .ensures)
 

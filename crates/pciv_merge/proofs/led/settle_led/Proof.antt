@@ -10,7 +10,7 @@ use Rattle.pciv_format.specs.Check.{fileParts}
 use Rattle.pciv_format.proofs.PartsLaws.{entry-good}
 use Rattle.pciv_merge.specs.Merge.{combinedOf}
 use Rattle.pciv_merge.proofs.LedLaws.{LedAt, led-start, led-next, combined-led}
-use Rattle.pciv_merge.proofs.MendLaws.{Settled, settled-start, settled-size, settled-byte, settled-room, settled-more, settled-pass, settled-end}
+use Rattle.pciv_merge.proofs.MendLaws.{Settled, settled-start, settled-size, settled-byte, settled-space, settled-more, settled-pass, settled-end}
 use Rattle.pciv_merge.proofs.led.settle_led.Statement.{statement}
 use Rattle.pciv_merge.proofs.led.settle_led.Tie as tie
 
@@ -90,7 +90,7 @@ put-entry-requires c κs =
     let l = f .before .before in
     let s = l .before .before .before .before in
     let at = f .combine-entry .ensures in
-    settled-room (first s) (s .pre .0 .first .parts) (λ i. l .before .before .shared-slice-known .given (40 + i) .fits) (result s) (led s)
+    settled-space (first s) (s .pre .0 .first .parts) (λ i. l .before .before .shared-slice-known .given (40 + i) .fits) (result s) (led s)
     (s .args .out .now) (l .loop .j) (l .loop .out) (l .loop .at) (l .loop .inv .1) (f .before .loop-test .taken) _ _ (at .slot)
     (b .primary-byte .ensures ∙ ap primaryByte (at .distance)) (omega (arith, at .distance, c .before .if1 .taken))
 

@@ -6,10 +6,10 @@ use native.Mathlib.Omega.{arith}
 use Rattle.pciv_format.specs.Parts.{Parts, lowestSlot}
 use Rattle.pciv_format.specs.Check.{fileParts}
 use Rattle.pciv_format.proofs.PartsLaws.{entry-good}
-use Rattle.pciv_build.proofs.EntriesLaws.{EntriesLeft, entries-start, entries-room}
+use Rattle.pciv_build.proofs.EntriesLaws.{EntriesLeft, entries-start, entries-space}
 use Rattle.pciv_map.proofs.MapLaws.{entry-inside}
 use Rattle.pciv_shift.specs.Lowered.{loweredAt}
-use Rattle.pciv_shift.proofs.LoweredLaws.{left-at, left-far, left-more, left-skip, left-all}
+use Rattle.pciv_shift.proofs.LoweredLaws.{left-at, left-overflows, left-more, left-skip, left-all}
 use borrow.Author.Needs.{needs}
 use Rattle.pciv_shift.proofs.lowered.put_entries.Statement.{statement}
 use Rattle.pciv_shift.proofs.lowered.put_entries.Tie as tie
@@ -65,10 +65,10 @@ put-entry-requires c κs =
     let d = t .before .before .before .before in
     let s = start d in
     let l = d .before .loop in
-    let far : 255 ≤ parts s .distance (l .j) - s .args .m = omega (arith, low (t .before), t .if1 .taken) in
+    let overflows : 255 ≤ parts s .distance (l .j) - s .args .m = omega (arith, low (t .before), t .if1 .taken) in
     let left = left-at (parts s) (s .pre .0 .parts) (bytes d) (s .args .m) (d .loop-test .taken) (l .inv .1) in
-    entries-room left (entry-good (parts s) (s .pre .0 .parts) (l .j) (omega arith) .inside)
-    (left-far (parts s) (s .pre .0 .parts) (bytes d) (s .args .m) (d .loop-test .taken) (l .inv .1) far)
+    entries-space left (entry-good (parts s) (s .pre .0 .parts) (l .j) (omega arith) .inside)
+    (left-overflows (parts s) (s .pre .0 .parts) (bytes d) (s .args .m) (d .loop-test .taken) (l .inv .1) overflows)
 
 loop-less : tie.Need-loop-less Inv-loop μ-loop
 loop-less c = search needs

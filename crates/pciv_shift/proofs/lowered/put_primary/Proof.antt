@@ -123,8 +123,8 @@ loop-again c =
     let s = start d in
     let a = s .args in
     let l = d .before .loop in
-    let room : 40 + a .n ≤ length (d .before .before .before .before .map-into .last .1 .1 .1 .0) = omega (arith, s .pre .1, d .before .before .before .before .map-into .kept) in
-    let more = bytes-more (a .file .now) (a .n) (a .k) (a .m) (s .pre .0) (bytes (d .before .before .before .before)) (l .j) _ (omega arith) room in (
+    let space : 40 + a .n ≤ length (d .before .before .before .before .map-into .last .1 .1 .1 .0) = omega (arith, s .pre .1, d .before .before .before .before .map-into .kept) in
+    let more = bytes-more (a .file .now) (a .n) (a .k) (a .m) (s .pre .0) (bytes (d .before .before .before .before)) (l .j) _ (omega arith) space in (
       omega arith,
       simp length-set (l .inv .1),
       rw (l .inv .2, e .entry-slot .ensures, c .primary-byte2 .ensures, c .before .lower .ensures, c .before .before .entry-distance .ensures) more,

@@ -1,28 +1,28 @@
-//! Memory that the library only reads.
+//! Memory of the caller that the library only reads, between guards.
 
 use crate::judge::Judge;
 use compare::rng::Rng;
 use std::fmt::{Debug, Display};
 use std::ops::Range;
 
-/// What is lent starts anywhere up to here in its memory, so bytes at any alignment.
+/// The elements start anywhere up to here in their memory, so bytes at any alignment.
 const MAX_SHIFT: usize = 16;
 
-/// Elements lent to the library, between others that must not matter.
-pub struct Lent<T> {
+/// A file or list that the library reads, between other elements that must not matter.
+pub struct ReadOnly<T> {
     memory: Vec<T>,
     range: Range<usize>,
     /// The memory as it was at first; the reference answers from it.
     original: Vec<T>,
 }
 
-impl<T: Clone + PartialEq + Debug> Lent<T> {
-    /// Lends a copy of some elements, with `around` on both sides.
-    pub fn new(rng: &mut Rng, elements: &[T], around: T) -> Lent<T> {
+impl<T: Clone + PartialEq + Debug> ReadOnly<T> {
+    /// A copy of some elements, with `around` on both sides.
+    pub fn new(rng: &mut Rng, elements: &[T], around: T) -> ReadOnly<T> {
         let shift = rng.below(MAX_SHIFT);
         let around = vec![around; shift];
         let memory = [&around, elements, &around].concat();
-        Lent {
+        ReadOnly {
             original: memory.clone(),
             memory,
             range: shift..shift + elements.len(),
@@ -30,7 +30,7 @@ impl<T: Clone + PartialEq + Debug> Lent<T> {
     }
 
     /// What the library gets.
-    pub fn lent(&self) -> &[T] {
+    pub fn contents(&self) -> &[T] {
         &self.memory[self.range.clone()]
     }
 

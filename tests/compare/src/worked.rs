@@ -1,0 +1,607 @@
+//! The outcomes that `docs/FORMAT.md` gives, on the library: its worked examples, its table of
+//! lengths, and the entry fewer that needs more bytes. Answers and small files are written down
+//! here; the reference makes input, and the bytes of large files, alone.
+
+use crate::call::{Answer, Call, Dirty, Guarded};
+use crate::files::encode;
+use crate::judge::Judge;
+use crate::run::{Run, Subject};
+use compare::lists::{self, SPREADS};
+use compare::rng::Rng;
+use pciv::{raw, Refusal, Summary, ANSWER_LEN};
+
+/// All groups of such cases.
+pub fn run_all(run: &mut Run) {
+    worked_examples(run);
+    lengths(run);
+    an_entry_fewer(run);
+}
+
+const EMPTY: &str = "
+    50 43 49 56 00 00 00 00   00 00 00 00 00 00 00 00
+    00 00 00 00 00 00 00 00   00 00 00 00 00 00 00 00
+    00 00 00 00 00 00 00 00";
+
+/// 0, 254, 255, 300.
+const A: &str = "
+    50 43 49 56 00 00 00 00   04 00 00 00 00 00 00 00
+    02 00 00 00 00 00 00 00   00 00 00 00 00 00 00 00
+    00 00 00 00 00 00 00 00   00 FE FF FF
+    02 00 00 00 00 00 00 00   FF 00 00 00
+    03 00 00 00 00 00 00 00   2C 01 00 00";
+
+/// 1, 1, 1, 4294967295.
+const B: &str = "
+    50 43 49 56 00 00 00 00   04 00 00 00 00 00 00 00
+    01 00 00 00 00 00 00 00   00 00 00 00 00 00 00 00
+    00 00 00 00 00 00 00 00   01 01 01 FF
+    03 00 00 00 00 00 00 00   FF FF FF FF";
+
+/// 1, 1, 1, 1.
+const ONES: &str = "
+    50 43 49 56 00 00 00 00   04 00 00 00 00 00 00 00
+    00 00 00 00 00 00 00 00   00 00 00 00 00 00 00 00
+    00 00 00 00 00 00 00 00   01 01 01 01";
+
+/// 0, 1, 1, 300.
+const MINIMUM: &str = "
+    50 43 49 56 00 00 00 00   04 00 00 00 00 00 00 00
+    01 00 00 00 00 00 00 00   00 00 00 00 00 00 00 00
+    00 00 00 00 00 00 00 00   00 01 01 FF
+    03 00 00 00 00 00 00 00   2C 01 00 00";
+
+/// 1, 254, 255, 4294967295.
+const MAXIMUM: &str = "
+    50 43 49 56 00 00 00 00   04 00 00 00 00 00 00 00
+    02 00 00 00 00 00 00 00   00 00 00 00 00 00 00 00
+    00 00 00 00 00 00 00 00   01 FE FF FF
+    02 00 00 00 00 00 00 00   FF 00 00 00
+    03 00 00 00 00 00 00 00   FF FF FF FF";
+
+/// 1, 255, 256, 301.
+const A_PLUS_ONES: &str = "
+    50 43 49 56 00 00 00 00   04 00 00 00 00 00 00 00
+    03 00 00 00 00 00 00 00   00 00 00 00 00 00 00 00
+    00 00 00 00 00 00 00 00   01 FF FF FF
+    01 00 00 00 00 00 00 00   FF 00 00 00
+    02 00 00 00 00 00 00 00   00 01 00 00
+    03 00 00 00 00 00 00 00   2D 01 00 00";
+
+/// 0, 253, 254, 0.
+const A_LESS_B: &str = "
+    50 43 49 56 00 00 00 00   04 00 00 00 00 00 00 00
+    00 00 00 00 00 00 00 00   00 00 00 00 00 00 00 00
+    00 00 00 00 00 00 00 00   00 FD FE 00";
+
+/// 1, 0, 0, 4294966995.
+const B_LESS_A: &str = "
+    50 43 49 56 00 00 00 00   04 00 00 00 00 00 00 00
+    01 00 00 00 00 00 00 00   00 00 00 00 00 00 00 00
+    00 00 00 00 00 00 00 00   01 00 00 FF
+    03 00 00 00 00 00 00 00   D3 FE FF FF";
+
+/// 0, 254, 254, 300, then the twelve zeros that the edit leaves.
+const A_SLOT_2_AT_254: &str = "
+    50 43 49 56 00 00 00 00   04 00 00 00 00 00 00 00
+    01 00 00 00 00 00 00 00   00 00 00 00 00 00 00 00
+    00 00 00 00 00 00 00 00   00 FE FE FF
+    03 00 00 00 00 00 00 00   2C 01 00 00
+    00 00 00 00 00 00 00 00   00 00 00 00";
+
+/// 0, 255, 255, 300.
+const A_SLOT_1_AT_255: &str = "
+    50 43 49 56 00 00 00 00   04 00 00 00 00 00 00 00
+    03 00 00 00 00 00 00 00   00 00 00 00 00 00 00 00
+    00 00 00 00 00 00 00 00   00 FF FF FF
+    01 00 00 00 00 00 00 00   FF 00 00 00
+    02 00 00 00 00 00 00 00   FF 00 00 00
+    03 00 00 00 00 00 00 00   2C 01 00 00";
+
+fn bytes(hexadecimal: &str) -> Vec<u8> {
+    let digits = hexadecimal.split_whitespace();
+    digits
+        .map(|byte| u8::from_str_radix(byte, 16).expect("two digits"))
+        .collect()
+}
+
+/// A row of the worked examples: its case in the document's words, and its calls.
+#[derive(Clone, Copy)]
+struct Row {
+    case: &'static str,
+    calls: fn(&mut Judge),
+}
+
+const fn row(case: &'static str, calls: fn(&mut Judge)) -> Row {
+    Row { case, calls }
+}
+
+const ROWS: [Row; 17] = [
+    row("empty map", empty_map),
+    row("primary array of A", primary_of_a),
+    row("overflow entries of A", entries_of_a),
+    row("minimum of A and B", |judge| {
+        combines(
+            judge,
+            "minimum",
+            raw::minimum,
+            (A, B),
+            of_four(1, 56),
+            MINIMUM,
+        )
+    }),
+    row("maximum of A and B", |judge| {
+        combines(
+            judge,
+            "maximum",
+            raw::maximum,
+            (A, B),
+            of_four(2, 68),
+            MAXIMUM,
+        )
+    }),
+    row("sum of A and B", sum_of_a_and_b),
+    row("A + (1, 1, 1, 1)", |judge| {
+        combines(
+            judge,
+            "sum_maps",
+            raw::sum_maps,
+            (A, ONES),
+            of_four(3, 80),
+            A_PLUS_ONES,
+        )
+    }),
+    row("difference A - B", |judge| {
+        combines(
+            judge,
+            "difference",
+            raw::difference,
+            (A, B),
+            of_four(0, 44),
+            A_LESS_B,
+        )
+    }),
+    row("difference B - A", |judge| {
+        combines(
+            judge,
+            "difference",
+            raw::difference,
+            (B, A),
+            of_four(1, 56),
+            B_LESS_A,
+        )
+    }),
+    row("mask of A, at most 254", |judge| {
+        selects(
+            judge,
+            "mask_at_most",
+            raw::mask_at_most,
+            (&bytes(A), 254),
+            &[3],
+        )
+    }),
+    row("mask of A, at least 255", mask_at_least_255),
+    row("edit of A, slot 2 to 254", |judge| {
+        edits(
+            judge,
+            &bytes(A),
+            (2, 254),
+            Ok(of_four(1, 56)),
+            &bytes(A_SLOT_2_AT_254),
+        )
+    }),
+    row(
+        "edit of A, slot 1 to 255, in a buffer of 79 / 80 bytes",
+        edit_into_overflow,
+    ),
+    row("Bray-Curtis of (3) and (1)", bray_curtis),
+    row("n = 0, 64, 65", mask_words),
+    row("report on A", |judge| {
+        let text = b"slots 4\nfar 2\nstep 0\nindex 0\nsum 809\nreadings 3\n";
+        reports(judge, &bytes(A), text)
+    }),
+    row("report on no bytes at all", |judge| {
+        reports(judge, &[], b"refused 1 map 1 place 0\n")
+    }),
+];
+
+fn worked_examples(run: &mut Run) {
+    for (number, row) in ROWS.into_iter().enumerate() {
+        run.case("row of the worked examples", number, |_| row);
+    }
+}
+
+impl Subject for Row {
+    fn describe(&self) -> String {
+        self.case.into()
+    }
+
+    fn compare(&self, judge: &mut Judge, _: &mut Rng) {
+        (self.calls)(judge);
+    }
+}
+
+/// The summary of a map of four slots.
+const fn of_four(k: u64, len: u64) -> Summary {
+    Summary {
+        n: 4,
+        k,
+        m: 0,
+        step: 0,
+        len,
+    }
+}
+
+fn refused<T>(number: u64, map: u64, place: u64) -> Answer<T> {
+    Err(reference::Refusal { number, map, place })
+}
+
+fn empty_map(judge: &mut Judge) {
+    let summary = Summary {
+        n: 0,
+        k: 0,
+        m: 0,
+        step: 0,
+        len: 40,
+    };
+    writes(judge, "write", summary, EMPTY, |out, summary, refusal| {
+        raw::write(&[], out, summary, refusal)
+    });
+    checks(judge, &bytes(EMPTY), summary);
+}
+
+fn primary_of_a(judge: &mut Judge) {
+    let list = [0, 254, 255, 300];
+    writes(
+        judge,
+        "write",
+        of_four(2, 68),
+        A,
+        |out, summary, refusal| raw::write(&list, out, summary, refusal),
+    );
+    let file = bytes(A);
+    checks(judge, &file, of_four(2, 68));
+    let primary: &[u8] = &[0x00, 0xFE, 0xFF, 0xFF];
+    judge.same_buffer(&"primary", primary, pciv::primary(&file));
+}
+
+fn entries_of_a(judge: &mut Judge) {
+    let file = bytes(A);
+    for (slot, distance) in [(0, 0), (1, 254), (2, 255), (3, 300)] {
+        let call = Call::new("lookup", format!(" of slot {slot}"));
+        judge.value(&call, Ok(distance), |out, refusal| {
+            raw::lookup(&file, slot, out, refusal)
+        });
+    }
+    let (primary, slots, distances) = ([0x00, 0xFE, 0xFF, 0xFF], [2, 3], [255, 300]);
+    writes(
+        judge,
+        "close",
+        of_four(2, 68),
+        A,
+        |out, summary, refusal| raw::close(&primary, &slots, &distances, out, summary, refusal),
+    );
+}
+
+fn sum_of_a_and_b(judge: &mut Judge) {
+    let (a, b) = (bytes(A), bytes(B));
+    for capacity in [0, 100] {
+        judge.buffer(
+            &Call::with_capacity("sum_maps", capacity),
+            capacity,
+            |_| refused(11, 0, 3),
+            |out, summary, refusal| raw::sum_maps(&a, &b, out, summary, refusal),
+        );
+    }
+}
+
+fn mask_at_least_255(judge: &mut Judge) {
+    selects(
+        judge,
+        "mask_at_least",
+        raw::mask_at_least,
+        (&bytes(A), 255),
+        &[12],
+    );
+    judge.value(&Call::new("set_bits", ""), Ok(2), |count, refusal| {
+        raw::set_bits(4, &[12], count, refusal)
+    });
+}
+
+fn edit_into_overflow(judge: &mut Judge) {
+    let mut buffer = bytes(A);
+    buffer.extend((68..79).map(u8::dirty));
+    edits(judge, &buffer, (1, 255), refused(12, 0, 0), &buffer);
+    buffer.push(u8::dirty(79));
+    edits(
+        judge,
+        &buffer,
+        (1, 255),
+        Ok(of_four(3, 80)),
+        &bytes(A_SLOT_1_AT_255),
+    );
+}
+
+fn bray_curtis(judge: &mut Judge) {
+    let [three, one] = [3, 1].map(|distance| encode(&[distance]));
+    let call = Call::new("bray_curtis", "");
+    judge.value(&call, Ok(0.5f64.to_bits()), |bits, refusal| {
+        let mut figure = 7.0;
+        let number = raw::bray_curtis(&three, &one, &mut figure, refusal);
+        *bits = figure.to_bits();
+        number
+    });
+}
+
+fn mask_words(judge: &mut Judge) {
+    judge.same(&"mask_len", [0, 1, 2], [0, 64, 65].map(pciv::mask_len));
+    let masks: [(usize, &[u64]); 3] = [(0, &[]), (64, &[u64::MAX]), (65, &[u64::MAX, 1])];
+    for (n, mask) in masks {
+        let file = encode(&vec![7; n]);
+        selects(judge, "mask_at_least", raw::mask_at_least, (&file, 7), mask);
+    }
+}
+
+/// A call that writes this file, to a buffer that is exactly long enough and to a longer one.
+fn writes(
+    judge: &mut Judge,
+    routine: &'static str,
+    summary: Summary,
+    file: &str,
+    library: impl Fn(&mut [u8], &mut Summary, &mut Refusal) -> u64,
+) {
+    let file = bytes(file);
+    for capacity in [file.len(), file.len() + 9] {
+        judge.buffer(
+            &Call::with_capacity(routine, capacity),
+            capacity,
+            |out| {
+                out[..file.len()].copy_from_slice(&file);
+                Ok(summary)
+            },
+            &library,
+        );
+    }
+}
+
+fn combines(
+    judge: &mut Judge,
+    routine: &'static str,
+    library: fn(&[u8], &[u8], &mut [u8], &mut Summary, &mut Refusal) -> u64,
+    (a, b): (&str, &str),
+    summary: Summary,
+    file: &str,
+) {
+    let (a, b) = (bytes(a), bytes(b));
+    writes(judge, routine, summary, file, |out, summary, refusal| {
+        library(&a, &b, out, summary, refusal)
+    });
+}
+
+fn checks(judge: &mut Judge, file: &[u8], summary: Summary) {
+    judge.value(&Call::new("check", ""), Ok(summary), |out, refusal| {
+        raw::check(file, out, refusal)
+    });
+}
+
+/// A mask of a file at a threshold.
+fn selects(
+    judge: &mut Judge,
+    routine: &'static str,
+    library: fn(&[u8], u32, &mut [u64], &mut u64, &mut Refusal) -> u64,
+    (file, t): (&[u8], u32),
+    mask: &[u64],
+) {
+    for capacity in [mask.len(), mask.len() + 2] {
+        judge.buffer(
+            &Call::with_capacity(routine, capacity),
+            capacity,
+            |out| {
+                out[..mask.len()].copy_from_slice(mask);
+                Ok(mask.len() as u64)
+            },
+            |out, count, refusal| library(file, t, out, count, refusal),
+        );
+    }
+}
+
+fn reports(judge: &mut Judge, input: &[u8], text: &[u8]) {
+    judge.buffer(
+        &Call::new("report", ""),
+        160,
+        |out| {
+            out[..text.len()].copy_from_slice(text);
+            Ok(text.len() as u64)
+        },
+        |out, count, refusal| raw::report(input, out, count, refusal),
+    );
+}
+
+/// An edit of the file at the front of a buffer, by itself and as a list of one: its answer, and
+/// what the buffer holds after it.
+fn edits(
+    judge: &mut Judge,
+    buffer: &[u8],
+    (slot, distance): (u64, u32),
+    answer: Answer<Summary>,
+    after: &[u8],
+) {
+    let with = format!(" of slot {slot} to {distance} in {} bytes", buffer.len());
+    let wanted = Guarded::with(after);
+
+    let call = Call::new("edit", with.clone());
+    let mut got = Guarded::with(buffer);
+    judge.value(&call, answer, |summary, refusal| {
+        raw::edit(got.contents_mut(), slot, distance, summary, refusal)
+    });
+    judge.same_guarded(&call, "buffer", &wanted, &got);
+
+    let call = Call::new("edit_list", with);
+    let wanted_answers = Guarded::with(&match answer {
+        Ok(Summary { n, k, m, step, len }) => [0, 0, 0, n, k, m, step, len],
+        Err(reference::Refusal { number, map, place }) => [number, map, place, 0, 0, 0, 0, 0],
+    });
+    let (mut got, mut answers) = (Guarded::with(buffer), Guarded::dirty(ANSWER_LEN));
+    judge.value(&call, Ok(1), |count, refusal| {
+        let (buffer, answers) = (got.contents_mut(), answers.contents_mut());
+        raw::edit_list(buffer, &[slot], &[distance], answers, count, refusal)
+    });
+    judge.same_guarded(&call, "buffer", &wanted, &got);
+    judge.same_guarded(&call, "answers", &wanted_answers, &answers);
+}
+
+/// The table of "Derived counts".
+const LENGTHS: [Summary; 5] = [
+    length(5_000, 2_048, 0, 0, 29_616),
+    length(5_000, 2_049, 2, 1_025, 46_028),
+    length(5_000, 4_096, 2, 2_048, 86_960),
+    length(5_000, 4_097, 3, 1_366, 76_060),
+    length(1_048_576, 1_048_576, 512, 2_048, 13_664_296),
+];
+
+/// A row of it, in its order.
+const fn length(n: u64, k: u64, step: u64, m: u64, len: u64) -> Summary {
+    Summary { n, k, m, step, len }
+}
+
+/// A list, and the summary of its file.
+struct Length {
+    list: Vec<u32>,
+    summary: Summary,
+}
+
+fn lengths(run: &mut Run) {
+    for (number, summary) in LENGTHS.into_iter().enumerate() {
+        for (inner, spread) in SPREADS.into_iter().enumerate() {
+            run.case("row of the lengths", 3 * number + inner, |rng| Length {
+                list: lists::with_overflow(rng, summary.n as usize, summary.k as usize, spread),
+                summary,
+            });
+        }
+    }
+}
+
+impl Subject for Length {
+    fn describe(&self) -> String {
+        format!("{:?}", self.summary)
+    }
+
+    /// The list is written, to a buffer that is a byte short and to an exact one; its file is
+    /// checked and scanned.
+    fn compare(&self, judge: &mut Judge, _: &mut Rng) {
+        let Length { list, summary } = self;
+        let len = summary.len as usize;
+        judge.buffer(
+            &Call::with_capacity("write", len - 1),
+            len - 1,
+            |_| refused(12, 0, 0),
+            |out, summary, refusal| raw::write(list, out, summary, refusal),
+        );
+        let call = Call::with_capacity("write", len);
+        let mut file = Guarded::dirty(len);
+        judge.value(&call, Ok(*summary), |summary, refusal| {
+            raw::write(list, file.contents_mut(), summary, refusal)
+        });
+        judge.same_guarded(&call, "file", &Guarded::with(&encode(list)), &file);
+        checks(judge, file.contents(), *summary);
+        judge.buffer(
+            &Call::new("scan", ""),
+            list.len(),
+            |out| {
+                out.copy_from_slice(list);
+                Ok(summary.n)
+            },
+            |out, count, refusal| raw::scan(file.contents(), out, count, refusal),
+        );
+    }
+}
+
+/// A list of 5,000 slots, 4,097 of them in overflow, and one of these.
+struct EntryFewer {
+    list: Vec<u32>,
+    slot: usize,
+}
+
+fn an_entry_fewer(run: &mut Run) {
+    for (number, spread) in SPREADS.into_iter().enumerate() {
+        for (inner, place) in [0, 1, 2_048, 4_095, 4_096].into_iter().enumerate() {
+            run.case("an entry fewer, a longer file", 5 * number + inner, |rng| {
+                let list = lists::with_overflow(rng, 5_000, 4_097, spread);
+                let mut slots = (0..5_000).filter(|&slot| list[slot] >= 255);
+                let slot = slots.nth(place).expect("4,097 slots in overflow");
+                EntryFewer { list, slot }
+            });
+        }
+    }
+}
+
+impl Subject for EntryFewer {
+    fn describe(&self) -> String {
+        format!("slot {} out of overflow and into it", self.slot)
+    }
+
+    /// 86,959 bytes are too few to go from 4,097 entries to 4,096, and 86,960 are enough. From
+    /// 4,096 to 4,097 the file becomes shorter, and the bytes up to the old length become 0.
+    fn compare(&self, judge: &mut Judge, _: &mut Rng) {
+        let mut list = self.list.clone();
+        let (slot, distance) = (self.slot as u64, list[self.slot]);
+        let (summary_4096, summary_4097) = (LENGTHS[2], LENGTHS[3]);
+        let with_4097 = encode(&list);
+        list[self.slot] = 254;
+        let with_4096 = encode(&list);
+
+        let mut buffer = with_4097.clone();
+        buffer.extend((76_060..86_959).map(u8::dirty));
+        edits(judge, &buffer, (slot, 254), refused(12, 0, 0), &buffer);
+        buffer.push(u8::dirty(86_959));
+        edits(judge, &buffer, (slot, 254), Ok(summary_4096), &with_4096);
+
+        let mut after = with_4097;
+        after.resize(86_960, 0);
+        edits(
+            judge,
+            &with_4096,
+            (slot, distance),
+            Ok(summary_4097),
+            &after,
+        );
+    }
+}
+
+#[cfg(test)]
+mod tests {
+    use super::*;
+
+    const DOCUMENT: &str = include_str!("../../../docs/FORMAT.md");
+
+    /// The rows of the only table in a section, cell by cell.
+    fn table(section: &str) -> Vec<Vec<&'static str>> {
+        let mut lines = DOCUMENT.lines();
+        lines
+            .find(|line| line.strip_prefix("## ") == Some(section))
+            .expect("the section");
+        let rows = lines
+            .take_while(|line| !line.starts_with("## "))
+            .filter_map(|line| line.strip_prefix("| "));
+        rows.skip(1).map(|row| row.split(" | ").collect()).collect()
+    }
+
+    #[test]
+    fn every_worked_example_is_run() {
+        let document: Vec<&str> = table("Worked examples").iter().map(|row| row[0]).collect();
+        assert_eq!(document, ROWS.map(|row| row.case));
+    }
+
+    #[test]
+    fn every_row_of_the_lengths_is_run() {
+        let number = |cell: &&str| -> u64 {
+            let digits = cell.replace([',', ' ', '|'], "");
+            digits.parse().expect("a number")
+        };
+        let document: Vec<Vec<u64>> = table("Derived counts")
+            .iter()
+            .map(|row| row.iter().map(number).collect())
+            .collect();
+        let run = LENGTHS.map(|row| vec![row.n, row.k, row.step, row.m, row.len]);
+        assert_eq!(document, run);
+    }
+}
