@@ -4,3 +4,4 @@ pub mod RefusalLaws
 pub mod EntryLaws
 pub mod IndexLaws
 pub mod PairLaws
+pub mod PartsRefusalLaws

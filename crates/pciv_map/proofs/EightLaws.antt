@@ -22,7 +22,7 @@ use Rattle.pciv_bytes.proofs.WriteLaws.{set-before-sets}
 use Rattle.pciv_format.specs.Parts.{Parts, valueOf, SoundParts}
 use Rattle.pciv_format.proofs.PartsLaws.{slots-rise, slot-entry, valueOf-slot}
 use Rattle.pciv_map.specs.Eight.{OverflowPlace, Holds, Eight, setsAt}
-use Rattle.pciv_map.proofs.LookupLaws.{slots-sorted}
+use Rattle.pciv_map.proofs.EntryLaws.{slots-sorted}
 
 -- ---- a test without a branch
 

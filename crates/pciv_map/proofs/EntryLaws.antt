@@ -2,6 +2,7 @@
 -- alone tell how the distances differ from the primary bytes.
 --   excess P j         what entry j has above the byte 255
 --   reading x          1 for a reading, a distance or byte that is not 0
+--   slots-sorted       the slots of the entries do not fall
 --   slot-below         entries before entry j have smaller slots
 --   gap-inline         a slot past entry j - 1 and before entry j is inline
 --   sum-entries        the sum of all distances: that of the bytes and of the excesses; sum-entries-of for any f
@@ -21,14 +22,21 @@ use Rattle.pciv_bytes.specs.Ranges.{flag, sumFrom}
 use Rattle.pciv_bytes.specs.Counts.{byteAt, byteIs}
 use Rattle.pciv_bytes.proofs.SumLaws.{sumFrom-none, sumFrom-more, sumFrom-split, sumFrom-cong, sumFrom-rest}
 use Rattle.pciv_format.specs.Parts.{Parts, lowestSlot, valueOf, SoundParts}
-use Rattle.pciv_format.proofs.PartsLaws.{entry-good, valueOf-slot, valueOf-inline, slot-cases, neb-not}
-use Rattle.pciv_map.proofs.LookupLaws.{slots-sorted}
+use Rattle.pciv_format.proofs.PartsLaws.{entry-good, slots-rise, valueOf-slot, valueOf-inline, slot-cases, neb-not}
 
 abbrev pub excess : Parts → ℕ → ℕ
 excess P j = P .distance j - 255
 
 abbrev pub reading : ℕ → ℕ
 reading x = flag (not (eqb x 0))
+
+-- the slots of the entries do not fall
+pub slots-sorted : (P : Parts) → SoundParts P → (i j : ℕ) → i ≤ j → j < P .k → P .slot i ≤ P .slot j
+slots-sorted P s i j h inside =
+    elim (decLe j i) [
+      | yes d ↦ (let e : i ≡ j = omega arith in omega (arith, ap (P .slot) e))
+      | no d ↦ omega (arith, slots-rise P s i j (omega arith) inside)
+    ]
 
 module _ (P : Parts) (s : SoundParts P) (bytes : (i : ℕ) → P .byte i < 256) where
   -- the entries before entry j have slots below the least that it may have

@@ -22,18 +22,12 @@ use Rattle.pciv_format.specs.Check.{mField, stepField, fileParts, badIndexEntry
 use Rattle.pciv_format.proofs.PartsLaws.{or-false, not-eqb, entry-good, slots-rise, slot-entry, valueOf-slot, overflowSlots-are}
 use Rattle.pciv_format.proofs.LayoutLaws.{index-inside, fileLen-is}
 use Rattle.pciv_map.specs.Lookup.{lowerBound, entriesBelow, blockStart, blockEnd, keyAt, Sorted, KeyTable}
+use Rattle.pciv_map.proofs.EntryLaws.{slots-sorted}
 use Rattle.pciv_map.proofs.SearchLaws.{Between, lowerBound-is, between-part, Sample, sample-sorted, block-between}
 
 -- ---- the entry of a slot
 
 module _ (P : Parts) (sound : SoundParts P) where
-  pub slots-sorted : Sorted (P .slot) (P .k)
-  slots-sorted i j h hk =
-      elim (decLe j i) [
-        | yes d ↦ (let e : i ≡ j = omega arith in omega (arith, ap (P .slot) e))
-        | no d ↦ omega (arith, slots-rise P sound i j (omega arith) hk)
-      ]
-
   -- past the last slot every entry is smaller
   pub entriesBelow-past : (i : ℕ) → P .n ≤ i → entriesBelow P i ≡ P .k
   entriesBelow-past i h =
@@ -44,7 +38,7 @@ module _ (P : Parts) (sound : SoundParts P) where
   pub entriesBelow-slot : (j : ℕ) → j < P .k → entriesBelow P (P .slot j) ≡ j
   entriesBelow-slot j h =
       lowerBound-is (P .slot) (P .slot j) (P .k) j (omega arith) (λ t ht. slots-rise P sound t j ht h)
-      (λ t ht hk. slots-sorted j t ht hk)
+      (λ t ht hk. slots-sorted P sound j t ht hk)
 
   -- a slot with byte 255 has its entry there
   pub valueOf-entry : (i : ℕ) → i < P .n → P .byte i ≡ 255

@@ -1,0 +1,50 @@
+-- Which of the refusals 6 to 8 the parts of a file get, case by case.
+use mathlib.Core.Path.{_≡_, refl, sym, ap, _∙_}
+use Prim.Native.Nat.{ℕ, _+_, _*_, _≤_, _<_}
+use native.Mathlib.Omega.{arith}
+use mathlib.Core.Bool.{Bool, true, false, not, _||_}
+use mathlib.Core.List.{List}
+use lib.ListN.{length}
+use lib.Dec.{ltb, eqb}
+use borrow.Author.Tests.{lt-ltb, le-ltb, ltb-false}
+use Rattle.pciv_bytes.specs.LittleEndian.{get}
+use Rattle.pciv_bytes.specs.Ranges.{firstBelow}
+use Rattle.pciv_format.specs.Layout.{maxSlots, magic, indexStep, indexLen, countsOf}
+use Rattle.pciv_format.specs.Refusals.{done, refuse}
+use Rattle.pciv_format.specs.Parts.{badEntry, badSlot}
+use Rattle.pciv_format.specs.Check.{nField, kField, mField, stepField, fileParts, badIndexEntry, badCounts, checkHeader, checkParts}
+use Rattle.pciv_format.specs.declared.Summary.{Summary}
+use Rattle.pciv_format.proofs.PartsLaws.{or-true, not-eqb, eqb-not, neb-not}
+use Rattle.pciv_format.proofs.RefusalsLaws.{refuseFirst-none, refuseFirst-some}
+use Rattle.pciv_format.proofs.LayoutLaws.{fileLen-is}
+use Rattle.pciv_format.proofs.CheckLaws.{done-checkHeader}
+use Rattle.pciv_check.specs.Inside.{PartsInside}
+use Rattle.pciv_check.specs.Length.{wrongLength}
+
+module _ (mp : ℕ) (b : List ℕ) (n k place : ℕ) where
+  pub parts-entry : place ≡ firstBelow (badEntry (fileParts b n k)) k → place < k → checkParts mp b n k ≡ refuse 6 mp place
+  unfolding checkParts
+  parts-entry e h = refuseFirst-some 6 mp (badEntry (fileParts b n k)) k place _ e h
+
+  module _ (entries : (j : ℕ) → j < k → badEntry (fileParts b n k) j ≡ false) where
+    pub parts-slot : place ≡ firstBelow (badSlot (fileParts b n k)) n → place < n → checkParts mp b n k ≡ refuse 7 mp place
+    unfolding checkParts
+    parts-slot e h =
+        refuseFirst-none 6 mp (badEntry (fileParts b n k)) k _ entries
+        ∙ refuseFirst-some 7 mp (badSlot (fileParts b n k)) n place _ e h
+
+    pub parts-index : ((i : ℕ) → i < n → badSlot (fileParts b n k) i ≡ false)
+        → place ≡ firstBelow (badIndexEntry b n k) (indexLen k) → place < indexLen k → checkParts mp b n k ≡ refuse 8 mp place
+    unfolding checkParts
+    parts-index slots e h =
+        refuseFirst-none 6 mp (badEntry (fileParts b n k)) k _ entries
+        ∙ refuseFirst-none 7 mp (badSlot (fileParts b n k)) n _ slots
+        ∙ refuseFirst-some 8 mp (badIndexEntry b n k) (indexLen k) place _ e h
+
+    pub parts-done : ((i : ℕ) → i < n → badSlot (fileParts b n k) i ≡ false)
+        → ((i : ℕ) → i < indexLen k → badIndexEntry b n k i ≡ false) → checkParts mp b n k ≡ done (countsOf n k)
+    unfolding checkParts
+    parts-done slots index =
+        refuseFirst-none 6 mp (badEntry (fileParts b n k)) k _ entries
+        ∙ refuseFirst-none 7 mp (badSlot (fileParts b n k)) n _ slots
+        ∙ refuseFirst-none 8 mp (badIndexEntry b n k) (indexLen k) _ index
