@@ -27,9 +27,9 @@ use Rattle.pciv_format.proofs.ReadLaws.{length-listOf, at-list}
 use Rattle.pciv_check.specs.Pair.{pairCounts, CheckedPair}
 use Rattle.pciv_check.specs.declared.pair.PairCounts.{PairCounts}
 use Rattle.pciv_check.proofs.PairLaws.{pair-checked, pairOutcome-ready, pairOutcome-refused}
-use Rattle.pciv_merge.specs.Merge.{slotOpOf, resultOf, combinedInto, combinedBuffer}
-use Rattle.pciv_merge.specs.declared.combine.MergeOp.{MergeOp}
-use Rattle.pciv_merge.specs.declared.combine.MergeOp.the-variants.{Minimum, Maximum, Difference}
+use Rattle.pciv_arith_merge.specs.Merge.{slotOpOf, resultOf, combinedInto, combinedBuffer}
+use Rattle.pciv_arith_merge.specs.declared.combine.MergeOp.{MergeOp}
+use Rattle.pciv_arith_merge.specs.declared.combine.MergeOp.the-variants.{Minimum, Maximum, Difference}
 
 -- ---- the maps are refused
 

@@ -1,1 +1,4 @@
 pub mod ArithLaws
+pub mod SignedDifferenceLaws
+pub mod ShiftLaws
+pub mod SumMapsLaws

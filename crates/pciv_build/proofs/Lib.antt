@@ -1,7 +1,6 @@
 pub mod BuildLaws
 pub mod EntriesLaws
 pub mod IndexLaws
-pub mod PrimaryLaws
-pub mod WordLaws
+pub mod FullWordLaws
 pub mod SlotsLaws
 pub mod FillLaws

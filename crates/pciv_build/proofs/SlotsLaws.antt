@@ -24,7 +24,7 @@ use Rattle.pciv_bytes.proofs.PositionsLaws.{positions-cong, positions-append}
 use Rattle.pciv_bytes.proofs.JoinedLaws.{joined-append, length-joined}
 use Rattle.pciv_bytes.proofs.WriteLaws.{sets-append}
 use Rattle.pciv_format.specs.Mask.{word}
-use Rattle.pciv_words.proofs.BitLaws.{word-cong}
+use Rattle.pciv_format.proofs.BitLaws.{word-cong}
 use Rattle.pciv_build.specs.Slots.{isFull, fullSlots, blankEntry, blankEntries}
 use Rattle.pciv_build.proofs.EntriesLaws.{rest-before}
 

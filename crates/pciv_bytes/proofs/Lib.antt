@@ -6,3 +6,5 @@ pub mod JoinedLaws
 pub mod LittleEndianLaws
 pub mod WriteLaws
 pub mod AnyLaws
+pub mod MoveLaws
+pub mod TableLaws

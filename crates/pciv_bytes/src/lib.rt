@@ -1,7 +1,8 @@
-// Bytes: little-endian numbers, counts and sums, copies, two lists byte by byte. Nothing here knows of PCIV.
+// TOP
 pub mod copies;
 pub mod counts;
 pub mod extremes;
 pub mod find;
 pub mod little_endian;
+pub mod moves;
 pub mod pairs;

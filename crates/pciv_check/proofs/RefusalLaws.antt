@@ -18,7 +18,7 @@ use Rattle.pciv_format.proofs.PartsLaws.{or-true, not-eqb, eqb-not, neb-not}
 use Rattle.pciv_format.proofs.RefusalsLaws.{refuseFirst-none, refuseFirst-some}
 use Rattle.pciv_format.proofs.LayoutLaws.{fileLen-is}
 use Rattle.pciv_format.proofs.CheckLaws.{done-checkHeader}
-use Rattle.pciv_check.specs.Inside.{PartsInside}
+use Rattle.pciv_check_parts.specs.Inside.{PartsInside}
 use Rattle.pciv_check.specs.Length.{wrongLength}
 
 -- ---- the length

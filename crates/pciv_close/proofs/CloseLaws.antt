@@ -16,7 +16,7 @@ use Rattle.pciv_format.specs.Layout.{at}
 use Rattle.pciv_format.specs.Parts.{Parts, lowestSlot, badEntry, entryOf, badSlot}
 use Rattle.pciv_format.specs.Write.{closeParts}
 use Rattle.pciv_format.proofs.PartsLaws.{GoodEntry, goodEntry-of-test, badEntry-good, or-true}
-use Rattle.pciv_check.proofs.EntryLaws.{badEntry-outside, badEntry-inline}
+use Rattle.pciv_format.proofs.BadEntryLaws.{badEntry-outside, badEntry-inline}
 use Rattle.pciv_close.specs.Close.{wrongEntry, slotParts, EntriesRight}
 
 -- ---- the test of an entry

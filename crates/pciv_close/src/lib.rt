@@ -1,8 +1,6 @@
 // Close: the file of a primary array and its overflow entries (docs/FORMAT.md, "Writing").
 // One pass over the entries and a count of the bytes 255 decide refusals 6 and 7; only where the count is off
 // does a search between the entries look for the least slot without one. Then the file is written.
-pub mod entries;
-
 ghost use mathlib.Core.Path.{_≡_};
 ghost use Prim.Native.Nat.{_+_, _*_, min, max, _≤_};
 ghost use lib.ListN.{length};
@@ -28,7 +26,7 @@ use pciv_format::SENTINEL;
 use pciv_format::TOO_MANY_SLOTS;
 
 // A refusal of the map that is to be closed, as an answer.
-fn refused(number: usize, place: usize) -> FileAnswer
+pub fn refused(number: usize, place: usize) -> FileAnswer
     ensures { λ r. ⌜ r ≡ fileAnswer (refuse number 1 place) ⌝ }
 {
     FileAnswer::Refused(Refusal {
@@ -53,7 +51,7 @@ fn longer(a: usize, b: usize) -> usize
 // ---- what is refused
 
 // An entry with this slot and distance is wrong; its slot may be `lowest` at the least.
-fn bad_entry(primary: &[u8], lowest: usize, slot: usize, distance: u32) -> bool
+pub fn bad_entry(primary: &[u8], lowest: usize, slot: usize, distance: u32) -> bool
     ensures { λ r. ⌜ r ≡ wrongEntry (now (primary .entry)) lowest slot distance ⌝ }
 {
     if primary.len() <= slot {
@@ -86,7 +84,7 @@ fn first_bad_entry(primary: &[u8], slots: &[usize], distances: &[u32]) -> usize
 }
 
 // The least slot from `from` up to `to` with byte 255, or `to`.
-fn first_full(primary: &[u8], from: usize, to: usize) -> usize
+pub fn first_full(primary: &[u8], from: usize, to: usize) -> usize
     requires { ⌜ to ≤ length (now primary) ⌝ }
     ensures { λ r. ⌜ r ≡ firstFull (at (now (primary .entry))) from to ⌝ }
 {

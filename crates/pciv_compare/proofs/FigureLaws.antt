@@ -32,13 +32,13 @@ use Rattle.pciv_format.proofs.ReadLaws.{length-listOf, at-list, total-is}
 use Rattle.pciv_check.specs.Pair.{pairCounts, CheckedPair}
 use Rattle.pciv_check.specs.declared.pair.PairCounts.{PairCounts}
 use Rattle.pciv_check.proofs.PairLaws.{pair-checked, pairOutcome-ready, pairOutcome-refused}
-use Rattle.pciv_map.proofs.MapLaws.{sum-lt}
+use Rattle.pciv_format.proofs.MapLaws.{sum-lt}
 use Rattle.pciv_compare.specs.Weigh.{weightOf, over, Weighed}
 use Rattle.pciv_compare.specs.Figure.{figureOutcome, numeratorOf, denominatorOf, divisorOf}
 use Rattle.pciv_compare.specs.declared.weigh.Weight.{Weight}
 use Rattle.pciv_compare.specs.declared.weigh.Weight.the-variants.{Distance, From}
 use Rattle.pciv_compare.proofs.WeighLaws.{weighed-both}
-use Rattle.pciv_compare.proofs.ExactLaws.{quotient-nearest}
+use Rattle.pciv_compare.proofs.DivisionLaws.{quotient-nearest}
 
 -- ---- at one slot
 

@@ -1,3 +1,3 @@
-pub mod ExactLaws
+pub mod DivisionLaws
 pub mod WeighLaws
 pub mod FigureLaws

@@ -28,10 +28,10 @@ use Rattle.pciv_format.specs.Parts.{Parts, valueOf, SoundParts}
 use Rattle.pciv_format.specs.Check.{fileParts, CheckedMap}
 use Rattle.pciv_format.specs.declared.SlotOp.the-variants.{Minimum}
 use Rattle.pciv_format.proofs.PartsLaws.{valueOf-slot, slot-cases}
-use Rattle.pciv_map.proofs.EntryLaws.{sum-entries-of}
-use Rattle.pciv_map.proofs.MapLaws.{primaryOf, primary-length, primary-at}
-use Rattle.pciv_merge.specs.Merge.{CombinedAt}
-use Rattle.pciv_merge.specs.declared.led.Combined.{Combined}
+use Rattle.pciv_format.proofs.EntryLaws.{sum-entries-of}
+use Rattle.pciv_format.proofs.MapLaws.{primaryOf, primary-length, primary-at}
+use Rattle.pciv_arith_merge.specs.Merge.{CombinedAt}
+use Rattle.pciv_arith_merge.specs.declared.led.Combined.{Combined}
 use Rattle.pciv_compare.specs.Weigh.{weightOf, beyondOf, Late, sharedAt, over, Weighed}
 use Rattle.pciv_compare.specs.declared.weigh.Weight.{Weight}
 use Rattle.pciv_compare.specs.declared.weigh.Weight.the-variants.{Distance, From}

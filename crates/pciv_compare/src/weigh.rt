@@ -10,6 +10,7 @@ ghost use Rattle.pciv_format.specs.Parts.{valueOf};
 ghost use Rattle.pciv_format.specs.Check.{fileParts, CheckedMap};
 ghost use Rattle.pciv_check.specs.Pair.{CheckedPair};
 ghost use Rattle.pciv_compare.specs.Weigh.{weightOf, beyondOf, Late, sharedAt, Weighed};
+use pciv_arith_merge::led::combine_entry;
 use pciv_bytes::counts::Term;
 use pciv_bytes::counts::Test;
 use pciv_bytes::extremes::Extremes;
@@ -17,7 +18,6 @@ use pciv_bytes::extremes::add_extremes;
 use pciv_format::HEADER_LEN;
 use pciv_format::SlotOp;
 use pciv_map::entries::entry_distance;
-use pciv_merge::led::combine_entry;
 
 // What a distance weighs: itself, or 1 where it is the given one or more.
 pub enum Weight {

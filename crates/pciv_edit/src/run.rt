@@ -7,7 +7,6 @@ ghost use lib.Seq.{sets};
 ghost use Rattle.pciv_format.specs.Refusals.{refuse, numberAnswer};
 ghost use Rattle.pciv_format.specs.Check.{CheckedMap};
 ghost use Rattle.pciv_format.specs.Edit.{editOutcome, editBuffer, editRun, editOutcomes, answerLen, cellsOf, answerCells, allCells, editsOf, editListOutcome, editListBuffer, editListAnswers};
-use crate::checked::edit_checked;
 use pciv_check::check_buffer;
 use pciv_format::ANSWER_LEN;
 use pciv_format::BUFFER_TOO_SMALL;
@@ -16,6 +15,7 @@ use pciv_format::NumberAnswer;
 use pciv_format::Refusal;
 use pciv_format::SLOT_OUT_OF_RANGE;
 use pciv_format::Summary;
+use pciv_slot::edit_checked;
 
 // A refusal that concerns no map.
 fn refused(number: usize, place: usize) -> NumberAnswer

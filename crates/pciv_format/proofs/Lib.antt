@@ -1,3 +1,8 @@
+pub mod PrimaryLaws
+pub mod BadSlotLaws
+pub mod FullCountLaws
+pub mod BadEntryLaws
+pub mod BadIndexLaws
 pub mod PartsLaws
 pub mod RefusalsLaws
 pub mod LayoutLaws
@@ -12,3 +17,9 @@ pub mod RunLaws
 pub mod EditLaws
 pub mod LimitLaws
 pub mod ListLaws
+pub mod EntryLaws
+pub mod PatchLaws
+pub mod MapLaws
+pub mod ReadCaseLaws
+pub mod BitLaws
+pub mod MaskLaws

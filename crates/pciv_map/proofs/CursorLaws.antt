@@ -15,7 +15,7 @@ use borrow.Author.Tests.{lt-ltb, le-ltb}
 use Rattle.pciv_format.specs.Parts.{Parts, lowestSlot, valueOf, SoundParts}
 use Rattle.pciv_format.proofs.PartsLaws.{entry-good, valueOf-slot, valueOf-inline}
 use Rattle.pciv_map.specs.Cursor.{Cursor, TakenAt, nextSlot}
-use Rattle.pciv_map.proofs.EntryLaws.{gap-inline}
+use Rattle.pciv_format.proofs.EntryLaws.{gap-inline}
 
 pub cursor-start : (P : Parts) → Cursor P 0 0
 cursor-start P = record { few = omega arith; low = omega arith; high = λ more. omega arith }

@@ -20,8 +20,8 @@ use Rattle.pciv_bytes.specs.Ranges.{flag}
 use Rattle.pciv_bytes.proofs.WriteLaws.{sets-copy-more, sets-copy-end, set-before-sets}
 use Rattle.pciv_format.specs.Parts.{Parts, valueOf, SoundParts}
 use Rattle.pciv_format.proofs.PartsLaws.{valueOf-inline}
-use Rattle.pciv_map.specs.Eight.{OverflowPlace, OverflowPlaces, setsAt}
-use Rattle.pciv_map.proofs.EightLaws.{setsAt-last, setsAt-sets, setsAt-none}
+use Rattle.pciv_map_lookup.specs.Eight.{OverflowPlace, OverflowPlaces, setsAt}
+use Rattle.pciv_map_lookup.proofs.EightLaws.{setsAt-last, setsAt-sets, setsAt-none}
 
 abbrev pub distanceAt : Parts → List ℕ → ℕ → ℕ
 distanceAt P xs p = valueOf P (getD xs p 0)

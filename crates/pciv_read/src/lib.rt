@@ -23,12 +23,12 @@ use pciv_format::NumberAnswer;
 use pciv_format::Refusal;
 use pciv_format::SENTINEL;
 use pciv_format::SLOT_OUT_OF_RANGE;
-use pciv_map::eight::distances_few;
-use pciv_map::eight::distances8;
-use pciv_map::lookup::distance_at;
 use pciv_map::scan::scan_into;
 use pciv_map::totals::readings_of;
 use pciv_map::totals::sum_of;
+use pciv_map_lookup::distance_at;
+use pciv_map_lookup::eight::distances_few;
+use pciv_map_lookup::eight::distances8;
 
 // A refusal that concerns no map, as an answer.
 fn refused(number: usize, place: usize) -> NumberAnswer

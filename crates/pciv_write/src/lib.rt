@@ -12,7 +12,6 @@ ghost use Rattle.pciv_format.specs.Write.{writeOutcome, writeBuffer};
 ghost use Rattle.pciv_build.specs.Slots.{HoldsPrimary};
 use pciv_build::begin;
 use pciv_build::finish;
-use pciv_build::primary_byte;
 use pciv_build::put_entry;
 use pciv_build::slots::put_slots;
 use pciv_bytes::little_endian::get64;
@@ -22,6 +21,7 @@ use pciv_format::MAX_SLOTS;
 use pciv_format::Refusal;
 use pciv_format::SENTINEL;
 use pciv_format::TOO_MANY_SLOTS;
+use pciv_layout::primary_byte;
 
 // The least distance that is in overflow.
 const OVERFLOW_MIN: u32 = SENTINEL as u32;

@@ -8,7 +8,7 @@ use Rattle.pciv_format.specs.Parts.{Parts, badEntry, badSlot, SoundParts}
 use Rattle.pciv_format.specs.Write.{closeParts}
 use Rattle.pciv_close.specs.Close.{slotParts, EntriesRight}
 use Rattle.pciv_close.proofs.CloseLaws.{slotParts-right, slotParts-slot}
-use Rattle.pciv_close.proofs.OutcomeLaws.{close-many, close-entry, close-slot, close-sound}
+use Rattle.pciv_close.proofs.CloseOutcomeLaws.{close-many, close-entry, close-slot, close-sound}
 use borrow.Author.Needs.{needs}
 use Rattle.pciv_close.proofs.close.Statement.{statement}
 use Rattle.pciv_close.proofs.close.Tie as tie

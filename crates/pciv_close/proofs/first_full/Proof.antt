@@ -4,7 +4,7 @@ use Prim.Native.Nat.{ℕ, _-_, _≤_, _<_}
 use native.Mathlib.Omega.{arith}
 use native.Mathlib.Decide.{decLe}
 use Rattle.pciv_format.specs.Layout.{at}
-use Rattle.pciv_close.proofs.SearchLaws.{firstFull-none, firstFull-at}
+use Rattle.pciv_close.proofs.FullSearchLaws.{firstFull-none, firstFull-at}
 use borrow.Author.Needs.{needs}
 use Rattle.pciv_close.proofs.first_full.Statement.{statement}
 use Rattle.pciv_close.proofs.first_full.Tie as tie

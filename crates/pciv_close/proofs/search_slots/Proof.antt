@@ -6,9 +6,9 @@ use native.Mathlib.Numerals.{add-one}
 use native.Mathlib.Omega.{arith}
 use lib.ListN.{length}
 use Rattle.pciv_format.specs.Parts.{Parts, lowestSlot}
-use Rattle.pciv_check.proofs.WalkLaws.{entry-at}
+use Rattle.pciv_format.proofs.BadSlotLaws.{entry-at}
 use Rattle.pciv_close.specs.Close.{slotParts}
-use Rattle.pciv_close.proofs.SearchLaws.{Searched, searched-found, searched-more, searched-end}
+use Rattle.pciv_close.proofs.FullSearchLaws.{Searched, searched-found, searched-more, searched-end}
 use borrow.Author.Needs.{needs}
 use Rattle.pciv_close.proofs.search_slots.Statement.{statement}
 use Rattle.pciv_close.proofs.search_slots.Tie as tie

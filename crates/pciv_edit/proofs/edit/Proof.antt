@@ -7,7 +7,7 @@ use Rattle.pciv_format.specs.declared.FileAnswer.{FileAnswer}
 use Rattle.pciv_format.specs.declared.EditAnswer.{EditAnswer}
 use Rattle.pciv_format.proofs.RefusalsLaws.{fileAnswer-done, fileAnswer-refused}
 use Rattle.pciv_format.proofs.CheckLaws.{done-buffer}
-use Rattle.pciv_edit.proofs.CaseLaws.{edit-refused, buffer-refused}
+use Rattle.pciv_slot.proofs.CaseLaws.{edit-refused, buffer-refused}
 use borrow.Author.Needs.{needs}
 use Rattle.pciv_edit.proofs.edit.Statement.{statement}
 use Rattle.pciv_edit.proofs.edit.Tie as tie

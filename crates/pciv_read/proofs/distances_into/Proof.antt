@@ -9,7 +9,7 @@ use mir.Val.{boolByte}
 use borrow.Author.Needs.{needs}
 use Rattle.pciv_bytes.proofs.SumLaws.{boolByte-flag}
 use Rattle.pciv_format.specs.Check.{fileParts}
-use Rattle.pciv_map.proofs.MapLaws.{primary-inside}
+use Rattle.pciv_format.proofs.MapLaws.{primary-inside}
 use Rattle.pciv_read.proofs.WaitLaws.{Waits, waits-start, waits-more, waits-places, waits-filled, waits-end}
 use Rattle.pciv_read.proofs.distances_into.Statement.{statement}
 use Rattle.pciv_read.proofs.distances_into.Tie as tie

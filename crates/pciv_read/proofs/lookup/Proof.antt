@@ -5,7 +5,7 @@ use native.Mathlib.Omega.{arith}
 use Rattle.pciv_format.specs.Refusals.{done, refused, distanceAnswer}
 use Rattle.pciv_format.specs.Check.{checkFile}
 use Rattle.pciv_format.proofs.RefusalsLaws.{fileAnswer-done, fileAnswer-refused}
-use Rattle.pciv_read.proofs.ReadLaws.{checked, lookup-refused, lookup-outside, lookup-inside}
+use Rattle.pciv_format.proofs.ReadCaseLaws.{checked, lookup-refused, lookup-outside, lookup-inside}
 use borrow.Author.Needs.{needs}
 use Rattle.pciv_read.proofs.lookup.Statement.{statement}
 use Rattle.pciv_read.proofs.lookup.Tie as tie

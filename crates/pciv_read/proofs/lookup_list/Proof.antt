@@ -9,7 +9,7 @@ use lib.ListN.{length, getD}
 use lib.Dec.{leb}
 use Rattle.pciv_bytes.specs.Ranges.{firstBelow}
 use Rattle.pciv_format.specs.Read.{lookupListBuffer}
-use Rattle.pciv_read.proofs.ReadLaws.{checked, list-refused, list-outside, list-inside, list-short, list-done, list-buffer}
+use Rattle.pciv_format.proofs.ReadCaseLaws.{checked, list-refused, list-outside, list-inside, list-short, list-done, list-buffer}
 use borrow.Author.Needs.{needs}
 use Rattle.pciv_read.proofs.lookup_list.Statement.{statement}
 use Rattle.pciv_read.proofs.lookup_list.Tie as tie

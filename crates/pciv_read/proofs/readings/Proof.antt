@@ -11,8 +11,8 @@ use lib.ListN.{length, take, drop, getD}
 use lib.Dec.{eqb}
 use Rattle.pciv_bytes.specs.Ranges.{flag, sumFrom}
 use Rattle.pciv_bytes.specs.LittleEndian.{Bytes}
-use Rattle.pciv_map.proofs.MapLaws.{primary-inside, readings-primary}
-use Rattle.pciv_read.proofs.ReadLaws.{checked, readings-refused, readings-done}
+use Rattle.pciv_format.proofs.MapLaws.{primary-inside, readings-primary}
+use Rattle.pciv_format.proofs.ReadCaseLaws.{checked, readings-refused, readings-done}
 use borrow.Author.Needs.{needs}
 use Rattle.pciv_read.proofs.readings.Statement.{statement}
 use Rattle.pciv_read.proofs.readings.Tie as tie

@@ -7,7 +7,7 @@ use Rattle.pciv_format.specs.Check.{checkFile}
 use Rattle.pciv_format.proofs.RefusalsLaws.{fileAnswer-done, fileAnswer-refused}
 use lib.ListN.{length}
 use Rattle.pciv_format.specs.Read.{scanBuffer}
-use Rattle.pciv_read.proofs.ReadLaws.{checked, scan-refused, scan-short, scan-done, scan-buffer}
+use Rattle.pciv_format.proofs.ReadCaseLaws.{checked, scan-refused, scan-short, scan-done, scan-buffer}
 use borrow.Author.Needs.{needs}
 use Rattle.pciv_read.proofs.scan.Statement.{statement}
 use Rattle.pciv_read.proofs.scan.Tie as tie

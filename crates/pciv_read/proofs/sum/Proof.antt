@@ -5,7 +5,7 @@ use native.Mathlib.Omega.{arith}
 use Rattle.pciv_format.specs.Refusals.{done, refused, numberAnswer}
 use Rattle.pciv_format.specs.Check.{checkFile}
 use Rattle.pciv_format.proofs.RefusalsLaws.{fileAnswer-done, fileAnswer-refused}
-use Rattle.pciv_read.proofs.ReadLaws.{checked, sum-refused, sum-done}
+use Rattle.pciv_format.proofs.ReadCaseLaws.{checked, sum-refused, sum-done}
 use borrow.Author.Needs.{needs}
 use Rattle.pciv_read.proofs.sum.Statement.{statement}
 use Rattle.pciv_read.proofs.sum.Tie as tie

@@ -10,8 +10,8 @@ use Rattle.pciv_format.proofs.LayoutLaws.{overflowCount-le}
 use Rattle.pciv_format.proofs.RefusalsLaws.{fileAnswer-done, fileAnswer-refused}
 use Rattle.pciv_build.specs.Build.{beginOutcome}
 use Rattle.pciv_build.proofs.BuildLaws.{Begun, begun}
-use Rattle.pciv_build.proofs.PrimaryLaws.{primary-at}
-use Rattle.pciv_write.proofs.WriteLaws.{write-long, write-begun, write-refused, write-done}
+use Rattle.pciv_format.proofs.PrimaryLaws.{primary-at}
+use Rattle.pciv_write.proofs.WriteOutcomeLaws.{write-long, write-begun, write-refused, write-done}
 use borrow.Author.Needs.{needs}
 use Rattle.pciv_write.proofs.write.Statement.{statement}
 use Rattle.pciv_write.proofs.write.Tie as tie

@@ -1,6 +1,6 @@
 -- Proves slots::find_full: of the bytes, 255 alone is not below 255.
 use Rattle.pciv_bytes.specs.LittleEndian.{Bytes}
-use Rattle.pciv_build.proofs.WordLaws.{tell-full}
+use Rattle.pciv_build.proofs.FullWordLaws.{tell-full}
 use borrow.Author.Needs.{needs}
 use Rattle.pciv_build.proofs.slots.find_full.Statement.{statement}
 use Rattle.pciv_build.proofs.slots.find_full.Tie as tie

@@ -7,7 +7,7 @@ use lib.ListN.{length}
 use lib.Count.{trailingZeros, trailing-le}
 use Rattle.pciv_format.specs.Mask.{word}
 use Rattle.pciv_build.specs.Slots.{isFull, fullSlots}
-use Rattle.pciv_build.proofs.WordLaws.{NextBit, word-next, word-none}
+use Rattle.pciv_build.proofs.FullWordLaws.{NextBit, word-next, word-none}
 use Rattle.pciv_build.proofs.SlotsLaws.{BlanksLeft, blanks-start, blanks-more, blanks-end}
 use borrow.Author.Needs.{needs}
 use Rattle.pciv_build.proofs.slots.put_word.Statement.{statement}

@@ -3,7 +3,7 @@ use mathlib.Core.Path.{sym, _∙_}
 use native.Mathlib.Nat.{add-sub-cancel-left}
 use native.Mathlib.Omega.{arith}
 use borrow.Author.Needs.{needs}
-use Rattle.pciv_map.proofs.MapLaws.{primary-inside, primary-length}
+use Rattle.pciv_format.proofs.MapLaws.{primary-inside, primary-length}
 use Rattle.pciv_compare.proofs.WeighLaws.{weighed-bytes}
 use Rattle.pciv_compare.proofs.weigh.weigh_bytes.Statement.{statement}
 use Rattle.pciv_compare.proofs.weigh.weigh_bytes.Tie as tie

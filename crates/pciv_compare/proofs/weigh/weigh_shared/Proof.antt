@@ -9,8 +9,8 @@ use Rattle.pciv_bytes.specs.Ranges.{sumFrom}
 use Rattle.pciv_bytes.proofs.SumLaws.{Added, added-none, added-one, added-all}
 use Rattle.pciv_format.specs.Parts.{Parts}
 use Rattle.pciv_format.specs.Check.{fileParts}
-use Rattle.pciv_merge.proofs.CombineLaws.{shrinks-minimum}
-use Rattle.pciv_merge.proofs.LedLaws.{LedAt, led-start, led-next}
+use Rattle.pciv_arith_merge.proofs.CombineLaws.{shrinks-minimum}
+use Rattle.pciv_arith_merge.proofs.LedLaws.{LedAt, led-start, led-next}
 use Rattle.pciv_compare.specs.Weigh.{beyondOf, sharedAt}
 use Rattle.pciv_compare.specs.declared.weigh.Weight.{Weight}
 use Rattle.pciv_compare.proofs.WeighLaws.{combined-shared, shared-le}

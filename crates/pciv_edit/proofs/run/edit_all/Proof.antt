@@ -6,7 +6,7 @@ use native.Mathlib.Omega.{arith}
 use lib.ListN.{length}
 use Rattle.pciv_format.specs.Check.{CheckedMap}
 use Rattle.pciv_format.specs.Edit.{answerLen, editsOf}
-use Rattle.pciv_edit.proofs.RunLaws.{Left, left-start, left-more, left-end, editAt, editsFrom, edits-more, edits-end}
+use Rattle.pciv_edit.proofs.EditListLaws.{Left, left-start, left-more, left-end, editAt, editsFrom, edits-more, edits-end}
 use borrow.Author.Needs.{needs}
 use Rattle.pciv_edit.proofs.run.edit_all.Statement.{statement}
 use Rattle.pciv_edit.proofs.run.edit_all.Tie as tie

@@ -8,7 +8,7 @@ use Rattle.pciv_format.specs.Check.{checkBuffer}
 use Rattle.pciv_format.specs.Edit.{answerLen}
 use Rattle.pciv_format.proofs.RefusalsLaws.{fileAnswer-done, fileAnswer-refused}
 use Rattle.pciv_format.proofs.CheckLaws.{done-buffer}
-use Rattle.pciv_edit.proofs.RunLaws.{list-refused, list-fewer-slots, list-fewer-distances, list-short, list-done, refused-run, made-run}
+use Rattle.pciv_edit.proofs.EditListLaws.{list-refused, list-fewer-slots, list-fewer-distances, list-short, list-done, refused-run, made-run}
 use borrow.Author.Needs.{needs}
 use Rattle.pciv_edit.proofs.run.edit_list.Statement.{statement}
 use Rattle.pciv_edit.proofs.run.edit_list.Tie as tie

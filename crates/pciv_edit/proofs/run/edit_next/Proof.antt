@@ -5,8 +5,8 @@ use lib.Seq.{sets}
 use Rattle.pciv_format.specs.Refusals.{done, refused}
 use Rattle.pciv_format.specs.Edit.{Edit, editOutcome}
 use Rattle.pciv_format.proofs.RefusalsLaws.{fileAnswer-done, fileAnswer-refused}
-use Rattle.pciv_edit.proofs.CaseLaws.{buffer-refused}
-use Rattle.pciv_edit.proofs.RunLaws.{accepted-checked, cells-refused, cells-done}
+use Rattle.pciv_slot.proofs.CaseLaws.{buffer-refused}
+use Rattle.pciv_edit.proofs.EditListLaws.{accepted-checked, cells-refused, cells-done}
 use borrow.Author.Needs.{needs}
 use Rattle.pciv_edit.proofs.run.edit_next.Statement.{statement}
 use Rattle.pciv_edit.proofs.run.edit_next.Tie as tie

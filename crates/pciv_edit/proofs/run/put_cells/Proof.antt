@@ -1,7 +1,7 @@
 -- Proves pciv_edit::run::put_cells.
 use native.Mathlib.Omega.{arith}
 use lib.ListN.{length-set}
-use Rattle.pciv_edit.proofs.RunLaws.{cells-written}
+use Rattle.pciv_edit.proofs.EditListLaws.{cells-written}
 use borrow.Author.Needs.{needs}
 use Rattle.pciv_edit.proofs.run.put_cells.Statement.{statement}
 use Rattle.pciv_edit.proofs.run.put_cells.Tie as tie

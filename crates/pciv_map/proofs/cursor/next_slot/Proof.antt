@@ -3,7 +3,7 @@ use mathlib.Core.Path.{sym, _∙_}
 use native.Mathlib.Omega.{arith}
 use Rattle.pciv_format.specs.Check.{fileParts}
 use Rattle.pciv_map.proofs.CursorLaws.{nextSlot-entry, nextSlot-none}
-use Rattle.pciv_map.proofs.MapLaws.{entry-inside}
+use Rattle.pciv_format.proofs.MapLaws.{entry-inside}
 use borrow.Author.Needs.{needs}
 use Rattle.pciv_map.proofs.cursor.next_slot.Statement.{statement}
 use Rattle.pciv_map.proofs.cursor.next_slot.Tie as tie

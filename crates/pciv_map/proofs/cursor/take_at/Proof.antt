@@ -6,7 +6,7 @@ use Rattle.pciv_format.specs.Parts.{Parts}
 use Rattle.pciv_format.specs.Check.{fileParts}
 use Rattle.pciv_format.proofs.PartsLaws.{valueOf-inline}
 use Rattle.pciv_map.proofs.CursorLaws.{cursor-at, cursor-more, cursor-inline, value-at}
-use Rattle.pciv_map.proofs.MapLaws.{entry-inside, primary-inside}
+use Rattle.pciv_format.proofs.MapLaws.{entry-inside, primary-inside}
 use borrow.Author.Needs.{needs}
 use Rattle.pciv_map.proofs.cursor.take_at.Statement.{statement}
 use Rattle.pciv_map.proofs.cursor.take_at.Tie as tie

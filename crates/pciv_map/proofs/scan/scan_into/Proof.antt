@@ -10,8 +10,8 @@ use Rattle.pciv_bytes.specs.LittleEndian.{Bytes}
 use Rattle.pciv_format.specs.Parts.{Parts}
 use Rattle.pciv_format.specs.Check.{fileParts}
 use Rattle.pciv_format.proofs.PartsLaws.{entry-good}
-use Rattle.pciv_map.proofs.PatchLaws.{plain, over, over-again, over-more, over-end}
-use Rattle.pciv_map.proofs.MapLaws.{entry-inside, primary-inside, primary-length, primary-over}
+use Rattle.pciv_format.proofs.PatchLaws.{plain, over, over-again, over-more, over-end}
+use Rattle.pciv_format.proofs.MapLaws.{entry-inside, primary-inside, primary-length, primary-over}
 use Rattle.pciv_map.proofs.scan.scan_into.Statement.{statement}
 use Rattle.pciv_map.proofs.scan.scan_into.Tie as tie
 

@@ -10,8 +10,8 @@ use Rattle.pciv_bytes.proofs.SumLaws.{Added, added-none, added-one, added-all}
 use Rattle.pciv_format.specs.Parts.{Parts}
 use Rattle.pciv_format.specs.Check.{fileParts}
 use Rattle.pciv_format.proofs.PartsLaws.{entry-good}
-use Rattle.pciv_map.proofs.EntryLaws.{excess}
-use Rattle.pciv_map.proofs.MapLaws.{entry-inside, excess-lt}
+use Rattle.pciv_format.proofs.EntryLaws.{excess}
+use Rattle.pciv_format.proofs.MapLaws.{entry-inside, excess-lt}
 use Rattle.pciv_map.proofs.totals.excess_of.Statement.{statement}
 use Rattle.pciv_map.proofs.totals.excess_of.Tie as tie
 

@@ -5,7 +5,7 @@ use native.Mathlib.Nat.{add-sub-cancel-left}
 use native.Mathlib.Omega.{arith}
 use borrow.Author.Needs.{needs}
 use Rattle.pciv_bytes.specs.LittleEndian.{Bytes}
-use Rattle.pciv_map.proofs.MapLaws.{primary-inside, sum-primary, sum-lt}
+use Rattle.pciv_format.proofs.MapLaws.{primary-inside, sum-primary, sum-lt}
 use Rattle.pciv_map.proofs.totals.sum_of.Statement.{statement}
 use Rattle.pciv_map.proofs.totals.sum_of.Tie as tie
 

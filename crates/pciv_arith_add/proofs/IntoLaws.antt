@@ -1,0 +1,58 @@
+-- A computed map written as a file: refusal 11 or none, and the primary bytes in the buffer.
+--   map-large, map-fits    what `mapInto` answers where a distance is too large, and where none is
+--   fits-none              no slot is too large
+--   mapInto-cong, mapBuffer-cong    the distances of the n slots alone count
+--   holds-primary          the primary bytes stand in a buffer where they were written
+-- Axioms: none.
+use mathlib.Core.Path.{_≡_, ap, _∙_}
+use Prim.Native.Nat.{ℕ, _+_, _≤_, _<_}
+use native.Mathlib.Omega.{arith}
+use mathlib.Core.List.{List}
+use lib.ListN.{length}
+use lib.Seq.{sets}
+use lib.Dec.{ltb}
+use borrow.Author.Tests.{le-ltb, ltb-false}
+use Rattle.pciv_bytes.specs.Ranges.{firstBelow}
+use Rattle.pciv_bytes.specs.Counts.{byteAt}
+use Rattle.pciv_bytes.proofs.RangesLaws.{firstBelow-all, firstBelow-cong}
+use Rattle.pciv_format.specs.Layout.{maxDistance, primary}
+use Rattle.pciv_format.specs.Refusals.{Outcome, refuse, written}
+use Rattle.pciv_format.specs.Write.{fileInto, mapInto, fileBuffer}
+use Rattle.pciv_format.specs.declared.Summary.{Summary}
+use Rattle.pciv_format.proofs.RefusalsLaws.{refuseFirst-none, refuseFirst-some}
+use Rattle.pciv_format.proofs.LayoutLaws.{file-cong, summary-cong}
+use Rattle.pciv_build.specs.Slots.{HoldsPrimary}
+use Rattle.pciv_format.proofs.PrimaryLaws.{primary-at}
+use Rattle.pciv_arith_add.specs.Addition.{Fits}
+
+module _ (n : ℕ) (v : ℕ → ℕ) where
+  pub map-large : (capacity place : ℕ) → place ≡ firstBelow (λ (i : ℕ). ltb maxDistance (v i)) n → place < n
+      → mapInto n v capacity ≡ refuse 11 0 place
+  map-large capacity place is h = refuseFirst-some 11 0 (λ (i : ℕ). ltb maxDistance (v i)) n place (fileInto n v capacity) is h
+
+  pub map-fits : (capacity : ℕ) → Fits n v → mapInto n v capacity ≡ fileInto n v capacity
+  map-fits capacity fits =
+      refuseFirst-none 11 0 (λ (i : ℕ). ltb maxDistance (v i)) n (fileInto n v capacity)
+      (λ i h. le-ltb maxDistance (v i) (fits i h))
+
+  pub fits-none : (place : ℕ) → place ≡ firstBelow (λ (i : ℕ). ltb maxDistance (v i)) n → n ≤ place → Fits n v
+  fits-none place is h i inside =
+      ltb-false maxDistance (v i) (firstBelow-all (λ (i : ℕ). ltb maxDistance (v i)) n i (omega arith) inside)
+
+  pub holds-primary : (d d' : List ℕ) → 40 + n ≤ length d → d' ≡ sets d 40 (primary n v) → HoldsPrimary n v d'
+  holds-primary d d' capacity is i h = ap (λ (b : List ℕ). byteAt b (40 + i)) is ∙ primary-at n v d capacity i h
+
+-- ---- the distances of the n slots alone count
+
+module _ (n : ℕ) (v w : ℕ → ℕ) (same : (i : ℕ) → i < n → v i ≡ w i) where
+  pub mapInto-cong : (capacity : ℕ) → mapInto n v capacity ≡ mapInto n w capacity
+  mapInto-cong capacity =
+      rw (
+        firstBelow-cong (λ (i : ℕ). ltb maxDistance (v i)) (λ (i : ℕ). ltb maxDistance (w i)) n
+            (λ i h. ap (ltb maxDistance) (same i h)),
+        file-cong n v w same,
+        summary-cong n v w same,
+      )
+
+  pub mapBuffer-cong : (o : Outcome Summary) (out : List ℕ) → fileBuffer o n v out ≡ fileBuffer o n w out
+  mapBuffer-cong o out = ap (λ (f : List ℕ). written o f out) (file-cong n v w same)

@@ -1,0 +1,107 @@
+-- Proves lowered::count_lowered. Invariant: count is that of the slots below the least that entry j may have.
+-- Falls: k - j.
+use mathlib.Core.Path.{_≡_, ap, _∙_}
+use Prim.Native.Nat.{ℕ, _+_, _-_, _≤_, _<_}
+use native.Mathlib.Omega.{arith}
+use Rattle.pciv_format.specs.Parts.{Parts, lowestSlot}
+use Rattle.pciv_format.specs.Check.{fileParts}
+use Rattle.pciv_build.proofs.EntriesLaws.{Counted, counted-start}
+use Rattle.pciv_format.proofs.MapLaws.{entry-inside}
+use Rattle.pciv_arith_lower.specs.Lowered.{loweredAt}
+use Rattle.pciv_arith_lower.proofs.LoweredLaws.{lowered-counted, lowered-uncounted, lowered-counted-all}
+use borrow.Author.Needs.{needs}
+use Rattle.pciv_arith_lower.proofs.count_lowered.Statement.{statement}
+use Rattle.pciv_arith_lower.proofs.count_lowered.Tie as tie
+
+abbrev Inv-loop : tie.InvT-loop
+Inv-loop file n k m count₀ j₀ count j =
+    (j ≤ k)
+    × Counted n (loweredAt (fileParts file n k) m) (lowestSlot (fileParts file n k) j) count
+
+abbrev μ-loop : tie.MeasureT-loop
+μ-loop file n k m count₀ j₀ count j = k - j
+
+abbrev parts : tie.Start Inv-loop μ-loop → Parts
+parts s = fileParts (s .args .file .now) (s .args .n) (s .args .k)
+
+bytes : (c : tie.After-shared-slice-known Inv-loop μ-loop) → ((i : ℕ) → parts (c .before) .byte i < 256)
+bytes c i = c .shared-slice-known .given (40 + i) .fits
+
+-- the lowered distance of entry j
+low : (c : tie.After-lower Inv-loop μ-loop)
+    → (let d = c .before .before in
+    c .lower .result ≡ parts (d .before .before .before) .distance (d .before .loop .j) - d .before .before .before .args .m)
+low c = c .lower .ensures ∙ ap (λ (x : ℕ). x - c .before .before .before .before .before .args .m) (c .before .entry-distance .ensures)
+
+loop-holds : tie.Need-loop-holds Inv-loop μ-loop
+loop-holds c =
+    (omega arith, counted-start (c .before .args .n) (loweredAt (parts (c .before)) (c .before .args .m)))
+
+entry-distance-requires : tie.Need-entry-distance-requires Inv-loop μ-loop
+entry-distance-requires c κs =
+    let s = c .before .before .before in
+    entry-inside (s .args .file .now) (s .args .n) (s .args .k) (s .pre) (c .before .loop .j) (omega arith)
+
+lower-requires : tie.Need-lower-requires Inv-loop μ-loop
+lower-requires c κs = search needs
+
+add-j : tie.Need-add-j Inv-loop μ-loop
+add-j c = search needs
+
+add-count : tie.Need-add-count Inv-loop μ-loop
+add-count c =
+    let d = c .before .before .before in
+    let s = d .before .before .before in
+    let l = d .before .loop in
+    omega (arith, l .inv .1 .below, l .inv .1 .inside, s .pre .header .small)
+
+loop-less : tie.Need-loop-less Inv-loop μ-loop
+loop-less c = search needs
+
+loop-again : tie.Need-loop-again Inv-loop μ-loop
+loop-again c =
+    let d = c .before .before .before in
+    let k = d .before .before in
+    let s = k .before in
+    let l = d .before .loop in (
+      omega arith,
+      lowered-counted (parts s) (s .pre .parts) (bytes k) (s .args .m) (d .loop-test .taken) (l .inv .1) (omega (arith, low (c .before), c .if1 .taken)),
+    )
+
+loop-less-2 : tie.Need-loop-less-2 Inv-loop μ-loop
+loop-less-2 c = search needs
+
+loop-again-2 : tie.Need-loop-again-2 Inv-loop μ-loop
+loop-again-2 c =
+    let d = c .before .before .before in
+    let k = d .before .before in
+    let s = k .before in
+    let l = d .before .loop in (
+      omega arith,
+      lowered-uncounted (parts s) (s .pre .parts) (bytes k) (s .args .m) (d .loop-test .taken) (l .inv .1) (omega (arith, low (c .before), c .if1 .left)),
+    )
+
+returns : tie.Need-returns Inv-loop μ-loop
+returns c =
+    let k = c .before .before in
+    let s = k .before in
+    let l = c .before .loop in
+    let all : l .j ≡ s .args .k = omega (arith, l .inv .0, c .loop-test .left) in
+    lowered-counted-all (parts s) (s .pre .parts) (bytes k) (s .args .m) (rw all at (l .inv .1))
+
+pub count-lowered-spec : {M : Type 1} → statement M
+count-lowered-spec =
+    tie.close
+    (tie.spec
+    Inv-loop
+    μ-loop
+    loop-holds
+    entry-distance-requires
+    lower-requires
+    add-j
+    add-count
+    loop-less
+    loop-again
+    loop-less-2
+    loop-again-2
+    returns)
