@@ -13,7 +13,7 @@ use lib.Seq.{sets}
 use lib.Dec.{ltb}
 use borrow.Author.Tests.{le-ltb, ltb-false}
 use Rattle.pciv_bytes.specs.Ranges.{firstBelow}
-use Rattle.pciv_bytes.specs.Counts.{byteAt}
+use Rattle.pciv_bytes.specs.ByteAt.{byteAt}
 use Rattle.pciv_bytes.proofs.RangesLaws.{firstBelow-all, firstBelow-cong}
 use Rattle.pciv_format.specs.Layout.{maxDistance, primary}
 use Rattle.pciv_format.specs.Refusals.{Outcome, refuse, written}

@@ -17,9 +17,9 @@ use lib.Seq.{sets}
 use lib.Dec.{leb, eqb}
 use Rattle.pciv_bytes.specs.Ranges.{flag, table, sumFrom}
 use Rattle.pciv_bytes.specs.LittleEndian.{le, get}
-use Rattle.pciv_bytes.specs.Counts.{byteAt, byteFrom}
-use Rattle.pciv_bytes.specs.Pairs.{byteOp, pairAt, oneAt, fullAt}
-use Rattle.pciv_bytes.specs.declared.pairs.ByteOp.the-variants.{Add}
+use Rattle.pciv_bytes.specs.ByteAt.{byteAt, byteFrom}
+use Rattle.pciv_passes.specs.Pairs.{byteOp, pairAt, oneAt, fullAt}
+use Rattle.pciv_passes.specs.declared.pairs.ByteOp.the-variants.{Add}
 use Rattle.pciv_bytes.proofs.RangesLaws.{table-cong}
 use Rattle.pciv_bytes.proofs.SumLaws.{sumFrom-cong}
 use Rattle.pciv_format.specs.Layout.{inOverflow, primaryByte, primary, overflowCount}

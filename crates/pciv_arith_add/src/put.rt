@@ -12,16 +12,16 @@ use crate::addend::Addend;
 use crate::addend::take_addend;
 use pciv_build::put_entry;
 use pciv_build::slots::put_slots;
-use pciv_bytes::counts::count_from;
 use pciv_bytes::little_endian::get64;
-use pciv_bytes::pairs::ByteOp;
-use pciv_bytes::pairs::count_full;
-use pciv_bytes::pairs::map_into;
-use pciv_bytes::pairs::zip_into;
 use pciv_format::HEADER_LEN;
 use pciv_format::SENTINEL;
 use pciv_layout::primary_byte;
 use pciv_map::cursor::take_at;
+use pciv_passes::counts::count_from;
+use pciv_passes::pairs::ByteOp;
+use pciv_passes::pairs::count_full;
+use pciv_passes::pairs::map_into;
+use pciv_passes::pairs::zip_into;
 
 // How many slots of the result are in overflow.
 pub fn count_added(of: Addend, a: &[u8], b: &[u8], n: usize, ka: usize, kb: usize) -> usize

@@ -12,7 +12,7 @@ use lib.IntN.{ℤ, pos, negℤ, _-ℤ_}
 use lib.Signed.{mag}
 use Rattle.pciv_bytes.specs.Ranges.{table}
 use Rattle.pciv_bytes.specs.LittleEndian.{Bytes}
-use Rattle.pciv_bytes.specs.Counts.{byteAt}
+use Rattle.pciv_bytes.specs.ByteAt.{byteAt}
 use Rattle.pciv_bytes.proofs.RangesLaws.{length-table, getD-table, table-cong, table-shift}
 use Rattle.pciv_bytes.proofs.WriteLaws.{sets-front, getD-sets, sets-table-part}
 use Rattle.pciv_format.specs.Parts.{Parts, lowestSlot, valueOf, SoundParts}

@@ -10,7 +10,7 @@ use mathlib.Core.List.{List}
 use lib.ListN.{getD, set}
 use lib.IntN.{ℤ, pos, _+ℤ_, _-ℤ_}
 use lib.Signed.{mag}
-use Rattle.pciv_bytes.specs.Counts.{byteAt}
+use Rattle.pciv_bytes.specs.ByteAt.{byteAt}
 use Rattle.pciv_format.specs.Parts.{Parts}
 use Rattle.pciv_arith_change.specs.declared.Side.{Side}
 use Rattle.pciv_arith_change.specs.declared.Side.the-variants.{Subtracted, Reduced}

@@ -8,7 +8,7 @@ ghost use lib.ListN.{length};
 ghost use lib.Signed.{mag};
 ghost use lib.Seq.{sets};
 ghost use Rattle.pciv_bytes.specs.Ranges.{table};
-ghost use Rattle.pciv_bytes.specs.Counts.{byteAt};
+ghost use Rattle.pciv_bytes.specs.ByteAt.{byteAt};
 ghost use Rattle.pciv_format.specs.Parts.{valueOf};
 ghost use Rattle.pciv_format.specs.Check.{fileParts, CheckedMap};
 ghost use Rattle.pciv_check.specs.Pair.{CheckedPair};

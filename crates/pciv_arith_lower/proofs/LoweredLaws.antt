@@ -12,9 +12,9 @@ use lib.ListN.{length, set}
 use lib.Seq.{sets}
 use Rattle.pciv_bytes.specs.Ranges.{table}
 use Rattle.pciv_bytes.specs.LittleEndian.{Bytes, le}
-use Rattle.pciv_bytes.specs.Counts.{byteAt}
-use Rattle.pciv_bytes.specs.Pairs.{oneAt}
-use Rattle.pciv_bytes.specs.declared.pairs.ByteOp.the-variants.{Sub}
+use Rattle.pciv_bytes.specs.ByteAt.{byteAt}
+use Rattle.pciv_passes.specs.Pairs.{oneAt}
+use Rattle.pciv_passes.specs.declared.pairs.ByteOp.the-variants.{Sub}
 use Rattle.pciv_bytes.proofs.RangesLaws.{table-cong}
 use Rattle.pciv_bytes.proofs.WriteLaws.{set-sets, sets-again}
 use Rattle.pciv_format.specs.Layout.{primaryByte, primary, overflowCount, overflowPart}

@@ -13,13 +13,13 @@ ghost use Rattle.pciv_arith_lower.specs.Lowered.{loweredAt};
 use pciv_build::begin;
 use pciv_build::finish;
 use pciv_build::put_entry;
-use pciv_bytes::pairs::ByteOp;
-use pciv_bytes::pairs::map_into;
 use pciv_format::FileAnswer;
 use pciv_format::HEADER_LEN;
 use pciv_layout::primary_byte;
 use pciv_map::entries::entry_distance;
 use pciv_map::entries::entry_slot;
+use pciv_passes::pairs::ByteOp;
+use pciv_passes::pairs::map_into;
 
 // A distance lowered by m.
 fn lower(x: u32, m: u32) -> u32

@@ -20,9 +20,9 @@ use lib.Seq.{sets, length-sets}
 use lib.Dec.{eqb}
 use borrow.Author.Tests.{le-leb, lt-leb, eq-eqb, ne-eqb}
 use Rattle.pciv_bytes.specs.Ranges.{flag, table, sumFrom}
-use Rattle.pciv_bytes.specs.Pairs.{byteOp, pairAt, fullAt}
-use Rattle.pciv_bytes.specs.declared.pairs.ByteOp.{ByteOp}
-use Rattle.pciv_bytes.specs.declared.pairs.ByteOp.the-variants.{Min, Max, Sub}
+use Rattle.pciv_passes.specs.Pairs.{byteOp, pairAt, fullAt}
+use Rattle.pciv_passes.specs.declared.pairs.ByteOp.{ByteOp}
+use Rattle.pciv_passes.specs.declared.pairs.ByteOp.the-variants.{Min, Max, Sub}
 use Rattle.pciv_bytes.proofs.RangesLaws.{length-table, getD-table, table-cong}
 use Rattle.pciv_bytes.proofs.SumLaws.{sumFrom-cong}
 use Rattle.pciv_bytes.proofs.WriteLaws.{getD-sets}

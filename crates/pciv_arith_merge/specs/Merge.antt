@@ -15,8 +15,8 @@ use Prim.Native.Nat.{ℕ, _+_, _≤_, _<_}
 use mathlib.Core.List.{List}
 use lib.ListN.{length, getD}
 use lib.Seq.{sets}
-use Rattle.pciv_bytes.specs.Pairs.{byteOp}
-use Rattle.pciv_bytes.specs.declared.pairs.ByteOp.{ByteOp}
+use Rattle.pciv_passes.specs.Pairs.{byteOp}
+use Rattle.pciv_passes.specs.declared.pairs.ByteOp.{ByteOp}
 use Rattle.pciv_format.specs.Layout.{primaryByte, primary, overflowPart}
 use Rattle.pciv_format.specs.Refusals.{Outcome}
 use Rattle.pciv_format.specs.Parts.{Parts, lowestSlot, valueOf}

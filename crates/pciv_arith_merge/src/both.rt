@@ -9,10 +9,10 @@ ghost use Rattle.pciv_check.specs.Pair.{CheckedPair};
 ghost use Rattle.pciv_arith_merge.specs.Merge.{combinedOf};
 use crate::joint::lower;
 use crate::primary::count_full_slots;
-use pciv_bytes::pairs::ByteOp;
 use pciv_format::HEADER_LEN;
 use pciv_format::SENTINEL;
 use pciv_map::entries::entry_slot;
+use pciv_passes::pairs::ByteOp;
 
 // An entry takes as long as this many slots whose bytes are compared.
 const ENTRY_COST: usize = 32;

@@ -15,10 +15,10 @@ use crate::led::settle_led;
 use crate::primary::put_primary;
 use pciv_build::begin;
 use pciv_build::finish;
-use pciv_bytes::pairs::ByteOp;
 use pciv_format::FileAnswer;
 use pciv_format::HEADER_LEN;
 use pciv_format::SlotOp;
+use pciv_passes::pairs::ByteOp;
 
 // The slot operations whose result is never above the larger distance.
 pub enum MergeOp {

@@ -8,10 +8,10 @@ ghost use Rattle.pciv_bytes.specs.Ranges.{flag, table, sumFrom};
 ghost use Rattle.pciv_format.specs.Check.{fileParts};
 ghost use Rattle.pciv_check.specs.Pair.{CheckedPair};
 ghost use Rattle.pciv_arith_merge.specs.Merge.{combinedBytes};
-use pciv_bytes::pairs::ByteOp;
-use pciv_bytes::pairs::count_full;
-use pciv_bytes::pairs::zip_into;
 use pciv_format::HEADER_LEN;
+use pciv_passes::pairs::ByteOp;
+use pciv_passes::pairs::count_full;
+use pciv_passes::pairs::zip_into;
 
 // Writes the operation on every two primary bytes where a file has its primary array.
 pub fn put_primary(out: &mut [u8], op: ByteOp, a: &[u8], b: &[u8], n: usize, ka: usize, kb: usize)

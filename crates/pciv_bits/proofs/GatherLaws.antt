@@ -17,7 +17,7 @@ use lib.Bits.{bitOr}
 use lib.Dec.{eqb}
 use Rattle.pciv_bytes.specs.Ranges.{flag}
 use Rattle.pciv_bytes.specs.LittleEndian.{get}
-use Rattle.pciv_bytes.specs.Counts.{byteAt}
+use Rattle.pciv_bytes.specs.ByteAt.{byteAt}
 use Rattle.pciv_bytes.proofs.SumLaws.{flag-le}
 use Rattle.pciv_bytes.proofs.LittleEndianLaws.{get-suc}
 use Rattle.pciv_format.specs.Mask.{bitAt, word}

@@ -12,7 +12,7 @@ use mathlib.Core.Bool.{Bool, true, false, not}
 use mathlib.Core.List.{List}
 use lib.Dec.{ltb}
 use Rattle.pciv_bytes.specs.Ranges.{flag}
-use Rattle.pciv_bytes.specs.Counts.{byteAt}
+use Rattle.pciv_bytes.specs.ByteAt.{byteAt}
 use Rattle.pciv_format.specs.Mask.{bitAt}
 
 abbrev pub isBelow : List ℕ → ℕ → ℕ → Bool

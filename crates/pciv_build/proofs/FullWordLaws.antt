@@ -17,7 +17,7 @@ use lib.Dec.{ltb, eqb}
 use borrow.Author.Tests.{lt-ltb, le-ltb, eq-eqb, ne-eqb}
 use Rattle.pciv_bytes.specs.Ranges.{flag, positions, keepIf}
 use Rattle.pciv_bytes.specs.LittleEndian.{Bytes}
-use Rattle.pciv_bytes.specs.Counts.{byteAt}
+use Rattle.pciv_bytes.specs.ByteAt.{byteAt}
 use Rattle.pciv_bytes.proofs.WriteLaws.{getD-sets}
 use Rattle.pciv_format.specs.Mask.{word, maskOf}
 use Rattle.pciv_format.proofs.BitLaws.{word-lt, bitAt-word, word-unique}

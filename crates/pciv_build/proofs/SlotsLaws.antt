@@ -19,7 +19,7 @@ use lib.Seq.{sets, length-sets}
 use lib.Dec.{eqb}
 use Rattle.pciv_bytes.specs.Ranges.{positions, joined}
 use Rattle.pciv_bytes.specs.LittleEndian.{le}
-use Rattle.pciv_bytes.specs.Counts.{byteAt}
+use Rattle.pciv_bytes.specs.ByteAt.{byteAt}
 use Rattle.pciv_bytes.proofs.PositionsLaws.{positions-cong, positions-append}
 use Rattle.pciv_bytes.proofs.JoinedLaws.{joined-append, length-joined}
 use Rattle.pciv_bytes.proofs.WriteLaws.{sets-append}

@@ -1,7 +1,6 @@
 pub mod RangesLaws
 pub mod PositionsLaws
 pub mod SumLaws
-pub mod ExtremesLaws
 pub mod JoinedLaws
 pub mod LittleEndianLaws
 pub mod WriteLaws

@@ -12,7 +12,7 @@ use lib.Dec.{eqb}
 use mir.Val.{boolByte}
 use Rattle.pciv_bytes.specs.Ranges.{flag, sumFrom}
 use Rattle.pciv_bytes.specs.LittleEndian.{Bytes}
-use Rattle.pciv_bytes.specs.Counts.{byteAt, byteIs}
+use Rattle.pciv_bytes.specs.ByteAt.{byteAt, byteIs}
 
 pub flag-le : (b : Bool) → flag b ≤ 1
 flag-le true = omega arith

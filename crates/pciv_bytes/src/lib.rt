@@ -1,8 +1,6 @@
-// TOP
+// Bytes and lists: little-endian numbers, copies, moves, a search, the smaller of two numbers. Nothing of PCIV.
 pub mod copies;
-pub mod counts;
-pub mod extremes;
 pub mod find;
 pub mod little_endian;
 pub mod moves;
-pub mod pairs;
+pub mod numbers;

@@ -11,7 +11,6 @@ ghost use Rattle.pciv_format.specs.Refusals.{refuse, fileAnswer};
 ghost use Rattle.pciv_format.specs.Parts.{lowestSlot, badEntry, badSlot};
 ghost use Rattle.pciv_format.specs.Check.{fileParts, badIndexEntry, checkParts};
 ghost use Rattle.pciv_check_parts.specs.Inside.{PartsInside};
-use pciv_bytes::counts::count_byte;
 use pciv_bytes::little_endian::get32;
 use pciv_bytes::little_endian::get64;
 use pciv_format::BAD_INDEX_ENTRY;
@@ -25,6 +24,7 @@ use pciv_format::Summary;
 use pciv_layout::file_len;
 use pciv_layout::index_len;
 use pciv_layout::index_step;
+use pciv_passes::counts::count_byte;
 
 // A refusal as an answer.
 pub fn refused(number: usize, map: usize, place: usize) -> FileAnswer

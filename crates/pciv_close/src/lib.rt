@@ -15,7 +15,6 @@ use pciv_build::begin;
 use pciv_build::finish;
 use pciv_build::put_entry;
 use pciv_bytes::copies::copy_bytes;
-use pciv_bytes::counts::count_byte;
 use pciv_format::BAD_OVERFLOW_ENTRY;
 use pciv_format::FileAnswer;
 use pciv_format::HEADER_LEN;
@@ -24,6 +23,7 @@ use pciv_format::MISSING_OVERFLOW_ENTRY;
 use pciv_format::Refusal;
 use pciv_format::SENTINEL;
 use pciv_format::TOO_MANY_SLOTS;
+use pciv_passes::counts::count_byte;
 
 // A refusal of the map that is to be closed, as an answer.
 pub fn refused(number: usize, place: usize) -> FileAnswer

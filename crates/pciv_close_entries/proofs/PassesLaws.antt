@@ -16,7 +16,7 @@ use lib.Seq.{sets, length-sets}
 use borrow.Author.Count.{below-more}
 use Rattle.pciv_bytes.specs.Ranges.{firstBelow, sumFrom}
 use Rattle.pciv_bytes.specs.LittleEndian.{le, Bytes}
-use Rattle.pciv_bytes.specs.Counts.{byteIs}
+use Rattle.pciv_bytes.specs.ByteAt.{byteIs}
 use Rattle.pciv_bytes.proofs.RangesLaws.{firstBelow-at, firstBelow-all}
 use Rattle.pciv_format.specs.Layout.{maxSlots, fileLen, header, countsOf, at, overflowCount, overflowPart}
 use Rattle.pciv_format.specs.Refusals.{Outcome, done, refused, refuse, fileAnswer}

@@ -13,7 +13,6 @@ use pciv_build::begin;
 use pciv_build::finish;
 use pciv_build::put_entry;
 use pciv_bytes::copies::copy_bytes;
-use pciv_bytes::counts::count_byte;
 use pciv_close::bad_entry;
 use pciv_close::close;
 use pciv_close::first_full;
@@ -26,6 +25,7 @@ use pciv_format::MAX_SLOTS;
 use pciv_format::MISSING_OVERFLOW_ENTRY;
 use pciv_format::SENTINEL;
 use pciv_format::TOO_MANY_SLOTS;
+use pciv_passes::counts::count_byte;
 
 // What is done with the entries.
 enum Pass {

@@ -16,12 +16,13 @@ use lib.Dec.{leb}
 use borrow.Author.Tests.{le-leb, lt-leb}
 use Rattle.pciv_bytes.specs.Ranges.{flag, sumFrom}
 use Rattle.pciv_bytes.specs.LittleEndian.{Bytes}
-use Rattle.pciv_bytes.specs.Counts.{byteAt, termOf}
-use Rattle.pciv_bytes.specs.Extremes.{ExtremeSums}
-use Rattle.pciv_bytes.specs.declared.counts.Term.{Term}
-use Rattle.pciv_bytes.specs.declared.counts.Term.the-variants.{Passing, Byte}
-use Rattle.pciv_bytes.specs.declared.counts.Test.the-variants.{AtLeast}
-use Rattle.pciv_bytes.specs.declared.extremes.Extremes.{Extremes}
+use Rattle.pciv_bytes.specs.ByteAt.{byteAt}
+use Rattle.pciv_passes.specs.Counts.{termOf}
+use Rattle.pciv_passes.specs.Extremes.{ExtremeSums}
+use Rattle.pciv_passes.specs.declared.counts.Term.{Term}
+use Rattle.pciv_passes.specs.declared.counts.Term.the-variants.{Passing, Byte}
+use Rattle.pciv_passes.specs.declared.counts.Test.the-variants.{AtLeast}
+use Rattle.pciv_passes.specs.declared.extremes.Extremes.{Extremes}
 use Rattle.pciv_bytes.proofs.SumLaws.{flag-le, sumFrom-le, sumFrom-cong, sumFrom-plus}
 use Rattle.pciv_bytes.proofs.LittleEndianLaws.{get-lt}
 use Rattle.pciv_format.specs.Parts.{Parts, valueOf, SoundParts}

@@ -5,19 +5,19 @@
 ghost use mathlib.Core.Path.{_≡_};
 ghost use Prim.Native.Nat.{ℕ};
 ghost use Rattle.pciv_bytes.specs.Ranges.{sumFrom};
-ghost use Rattle.pciv_bytes.specs.Counts.{termOf};
+ghost use Rattle.pciv_passes.specs.Counts.{termOf};
 ghost use Rattle.pciv_format.specs.Parts.{valueOf};
 ghost use Rattle.pciv_format.specs.Check.{fileParts, CheckedMap};
 ghost use Rattle.pciv_check.specs.Pair.{CheckedPair};
 ghost use Rattle.pciv_compare.specs.Weigh.{weightOf, beyondOf, Late, sharedAt, Weighed};
 use pciv_arith_merge::led::combine_entry;
-use pciv_bytes::counts::Term;
-use pciv_bytes::counts::Test;
-use pciv_bytes::extremes::Extremes;
-use pciv_bytes::extremes::add_extremes;
 use pciv_format::HEADER_LEN;
 use pciv_format::SlotOp;
 use pciv_map::entries::entry_distance;
+use pciv_passes::counts::Term;
+use pciv_passes::counts::Test;
+use pciv_passes::extremes::Extremes;
+use pciv_passes::extremes::add_extremes;
 
 // What a distance weighs: itself, or 1 where it is the given one or more.
 pub enum Weight {

@@ -13,7 +13,7 @@ use lib.ListN.{length, take, drop, length-drop}
 use lib.Seq.{sets, ext-getD, length-take-le, getD-take, getD-drop}
 use Rattle.pciv_bytes.specs.Ranges.{table, sumFrom}
 use Rattle.pciv_bytes.specs.LittleEndian.{Bytes}
-use Rattle.pciv_bytes.specs.Counts.{byteAt}
+use Rattle.pciv_bytes.specs.ByteAt.{byteAt}
 use Rattle.pciv_bytes.proofs.RangesLaws.{length-table, getD-table}
 use Rattle.pciv_bytes.proofs.SumLaws.{sumFrom-cong, sumFrom-le}
 use Rattle.pciv_bytes.proofs.LittleEndianLaws.{get-lt}

@@ -3,19 +3,18 @@
 
 // The most slots that a map may have.
 pub const MAX_SLOTS: usize = 1048576;
-
 // The length of the header; the primary array follows it.
 pub const HEADER_LEN: usize = 40;
-
 // The first eight bytes as a number: "PCIV" and four zeros.
 pub const MAGIC: usize = 0x56494350;
-
 // The primary byte of a distance that is in overflow.
 pub const SENTINEL: u8 = 255;
-
+// The largest distance that is stored inline.
+pub const INLINE_MAX: u8 = 254;
+// The largest distance.
+pub const MAX_DISTANCE: u32 = 4294967295;
 // Up to this many overflow entries a file has no sparse index.
 pub const UNINDEXED_MAX: usize = 2048;
-
 // How many numbers an answer of a run of edits is.
 pub const ANSWER_LEN: usize = 8;
 

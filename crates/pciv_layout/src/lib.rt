@@ -1,9 +1,12 @@
 // What the layout derives from n slots and k overflow entries: counts, lengths, the summary (docs/FORMAT.md, "Derived
-// counts"); the primary byte of a distance.
+// counts"); the primary byte of a distance; refusals as answers.
+pub mod refusals;
+
 ghost use mathlib.Core.Path.{_≡_};
 ghost use Prim.Native.Nat.{_≤_, _+_, _^_, _<_};
 ghost use Rattle.pciv_format.specs.Layout.{maxSlots, countsOf, primaryByte, indexStep, indexLen, fileLen};
 ghost use Rattle.pciv_bytes.specs.Ranges.{ceilDiv};
+ghost use Rattle.pciv_format.specs.Mask.{maskLen};
 use pciv_format::HEADER_LEN;
 use pciv_format::SENTINEL;
 use pciv_format::Summary;
@@ -71,4 +74,12 @@ pub fn file_len(n: usize, k: usize) -> usize
     ensures { λ r. ⌜ r ≡ fileLen n k ⌝ }
 {
     HEADER_LEN + n + 12 * k + 16 * index_len(k)
+}
+
+// How many words a mask of n slots has.
+pub fn mask_len(n: usize) -> usize
+    requires { ⌜ n ≤ maxSlots ⌝ }
+    ensures { λ r. ⌜ r ≡ maskLen n ⌝ }
+{
+    ceil_div(n, 64)
 }

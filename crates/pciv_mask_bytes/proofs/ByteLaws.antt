@@ -19,7 +19,7 @@ use lib.Bits.{bitAnd}
 use lib.Count.{trailingZeros}
 use Rattle.pciv_bytes.specs.Ranges.{flag, table}
 use Rattle.pciv_bytes.specs.LittleEndian.{Bytes}
-use Rattle.pciv_bytes.specs.Counts.{byteAt}
+use Rattle.pciv_bytes.specs.ByteAt.{byteAt}
 use Rattle.pciv_bytes.proofs.RangesLaws.{length-table, getD-table, table-cong, table-shift}
 use Rattle.pciv_bytes.proofs.SumLaws.{flag-le}
 use Rattle.pciv_bytes.proofs.WriteLaws.{sets-at, sets-set-inside, sets-same, sets-over}

@@ -14,7 +14,7 @@ use mathlib.Core.List.{List, [], _++_, append-nil}
 use lib.ListN.{length, getD, replicate, drop-of-length-le, List·getD-eq-default}
 use lib.Seq.{sets}
 use Rattle.pciv_bytes.specs.Ranges.{table, joined}
-use Rattle.pciv_bytes.specs.Counts.{byteAt}
+use Rattle.pciv_bytes.specs.ByteAt.{byteAt}
 use Rattle.pciv_bytes.proofs.RangesLaws.{length-table, getD-table, table-cong, table-shift}
 use Rattle.pciv_bytes.proofs.SumLaws.{flag-le}
 use Rattle.pciv_bytes.proofs.WriteLaws.{sets-front, sets-at}

@@ -14,7 +14,7 @@ use Prim.Native.Nat.{ℕ, zero, suc, _+_, _*_, _/_, _%_, _<_, min}
 use mathlib.Core.Bool.{Bool, cond}
 use mathlib.Core.List.{List}
 use lib.Dec.{eqb}
-use Rattle.pciv_bytes.specs.Counts.{byteAt, byteIs}
+use Rattle.pciv_bytes.specs.ByteAt.{byteAt, byteIs}
 use Rattle.pciv_format.specs.Parts.{Parts, valueOf}
 use Rattle.pciv_format.specs.Mask.{bitAt, maskHas, maskValue, keptIf, plusIf}
 use Rattle.pciv_mask_bytes.specs.declared.primary.MaskedOp.{MaskedOp}

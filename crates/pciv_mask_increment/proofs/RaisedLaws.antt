@@ -20,7 +20,7 @@ use lib.Dec.{eqb, ltb}
 use borrow.Author.Tests.{le-leb, lt-leb, lt-ltb, le-ltb, eq-eqb, ne-eqb}
 use Rattle.pciv_bytes.specs.Ranges.{flag, firstBelow, sumFrom}
 use Rattle.pciv_bytes.specs.LittleEndian.{Bytes, le, get}
-use Rattle.pciv_bytes.specs.Counts.{byteAt, byteIs}
+use Rattle.pciv_bytes.specs.ByteAt.{byteAt, byteIs}
 use Rattle.pciv_bytes.proofs.RangesLaws.{firstBelow-at, firstBelow-none}
 use Rattle.pciv_bytes.proofs.SumLaws.{flag-le, sumFrom-split, sumFrom-le}
 use Rattle.pciv_format.specs.Layout.{maxDistance, inOverflow, primaryByte, overflowCount}

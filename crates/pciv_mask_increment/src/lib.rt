@@ -5,7 +5,7 @@ ghost use lib.ListN.{length};
 ghost use lib.Seq.{sets};
 ghost use lib.Dec.{ltb};
 ghost use Rattle.pciv_bytes.specs.Ranges.{firstBelow, sumFrom};
-ghost use Rattle.pciv_bytes.specs.Counts.{byteIs};
+ghost use Rattle.pciv_bytes.specs.ByteAt.{byteIs};
 ghost use Rattle.pciv_format.specs.Layout.{maxDistance, overflowCount, overflowPart};
 ghost use Rattle.pciv_format.specs.Check.{fileParts, CheckedMap};
 ghost use Rattle.pciv_format.specs.Words.{IsMask};

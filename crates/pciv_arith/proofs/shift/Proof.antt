@@ -1,4 +1,4 @@
--- Proves pciv_shift::shift.
+-- Proves pciv_arith::shift.
 use mathlib.Core.Path.{_≡_, sym, ap, _∙_}
 use Prim.Native.Nat.{ℕ}
 use lib.ListN.{length}

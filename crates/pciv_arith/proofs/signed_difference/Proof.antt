@@ -1,4 +1,4 @@
--- Proves pciv_change::signed_difference.
+-- Proves pciv_arith::signed_difference.
 use mathlib.Core.Path.{_≡_, sym, ap, _∙_}
 use Prim.Native.Nat.{_≤_, _<_}
 use lib.ListN.{length}

@@ -1,4 +1,4 @@
--- Proves pciv_sum::sum_maps.
+-- Proves pciv_arith::sum_maps.
 use mathlib.Core.Path.{_≡_, sym, ap, _∙_}
 use lib.ListN.{length}
 use Rattle.pciv_format.specs.Refusals.{done, refused, fileAnswer}

@@ -1,4 +1,4 @@
--- Proves pciv_shift::which_way.
+-- Proves pciv_arith::which_way.
 use mathlib.Core.Path.{_≡_, sym, ap, _∙_}
 use native.Mathlib.Omega.{arith}
 use mathlib.Core.Bool.{true, false}

@@ -1,4 +1,4 @@
--- Proves pciv_addition::added_into: either a slot is too large, or the parts are written one after another, which is
+-- Proves pciv_arith_add::added_into: either a slot is too large, or the parts are written one after another, which is
 -- the file (the laws of pciv_build).
 use mathlib.Core.Path.{_≡_, sym, ap, _∙_}
 use Prim.Native.Nat.{ℕ, _≤_}

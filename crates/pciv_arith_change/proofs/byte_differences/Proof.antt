@@ -1,4 +1,4 @@
--- Proves pciv_change::byte_differences. Invariant: writing all differences from 0 on is writing the rest from i on.
+-- Proves pciv_arith_change::byte_differences. Invariant: writing all differences from 0 on is writing the rest from i on.
 -- Falls: length a - i.
 use mathlib.Core.Path.{_≡_, refl, sym, ap, _∙_}
 use Prim.Native.Nat.{_+_, _-_, _≤_}
@@ -7,7 +7,7 @@ use native.Mathlib.Omega.{arith}
 use lib.ListN.{length}
 use lib.Seq.{sets, length-sets}
 use Rattle.pciv_bytes.specs.Ranges.{table}
-use Rattle.pciv_bytes.specs.Counts.{byteAt}
+use Rattle.pciv_bytes.specs.ByteAt.{byteAt}
 use Rattle.pciv_bytes.proofs.RangesLaws.{table-done}
 use Rattle.pciv_arith_change.specs.Differences.{differenceAt}
 use Rattle.pciv_arith_change.proofs.DifferencesLaws.{bytes-more}

@@ -1,4 +1,4 @@
--- Proves pciv_change::lower. Invariant: writing all differences from `at` on is writing the rest from at + i on.
+-- Proves pciv_arith_change::lower. Invariant: writing all differences from `at` on is writing the rest from at + i on.
 -- Falls: count - i.
 use mathlib.Core.Path.{_≡_, refl, sym, _∙_}
 use Prim.Native.Nat.{_+_, _-_, _≤_}

@@ -1,4 +1,4 @@
--- Proves pciv_change::lowered: the raised difference is small, and so is the difference.
+-- Proves pciv_arith_change::lowered: the raised difference is small, and so is the difference.
 use native.Mathlib.Omega.{arith}
 use lib.IntN.{pos, _-ℤ_}
 use mir.Syntax.{w64}

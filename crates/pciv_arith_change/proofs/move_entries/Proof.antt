@@ -1,4 +1,4 @@
--- Proves pciv_change::move_entries. Invariant: putting all entries right at the start is putting right those from
+-- Proves pciv_arith_change::move_entries. Invariant: putting all entries right at the start is putting right those from
 -- entry j on now; numbers from the least slot that entry j may have on are small. Falls: k - j.
 use mathlib.Core.Path.{_≡_, refl, sym, _∙_}
 use Prim.Native.Nat.{ℕ, _+_, _-_, _^_, _≤_, _<_}

@@ -1,4 +1,4 @@
--- Proves pciv_change::moved: z and the excess are small, and so is their sum or difference.
+-- Proves pciv_arith_change::moved: z and the excess are small, and so is their sum or difference.
 use mathlib.Core.Path.{_≡_, _∙_}
 use Prim.Native.Nat.{_^_}
 use native.Mathlib.Omega.{arith}

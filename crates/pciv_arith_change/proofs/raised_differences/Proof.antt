@@ -1,4 +1,4 @@
--- Proves pciv_change::raised_differences. Invariant: writing all raised differences from 0 on is writing the rest
+-- Proves pciv_arith_change::raised_differences. Invariant: writing all raised differences from 0 on is writing the rest
 -- from i on. Falls: count - i.
 use mathlib.Core.Path.{_≡_, refl, sym, ap, _∙_}
 use Prim.Native.Nat.{_+_, _-_, _≤_}
@@ -7,7 +7,7 @@ use native.Mathlib.Omega.{arith}
 use lib.ListN.{length, length-set}
 use lib.Seq.{sets}
 use Rattle.pciv_bytes.specs.Ranges.{table}
-use Rattle.pciv_bytes.specs.Counts.{byteAt}
+use Rattle.pciv_bytes.specs.ByteAt.{byteAt}
 use Rattle.pciv_bytes.proofs.RangesLaws.{table-rest, table-done}
 use Rattle.pciv_bytes.proofs.WriteLaws.{sets-cons}
 use Rattle.pciv_arith_change.specs.Differences.{raisedAt}

@@ -1,4 +1,4 @@
--- Proves lowered::count_lowered. Invariant: count is that of the slots below the least that entry j may have.
+-- Proves pciv_arith_lower::count_lowered. Invariant: count is that of the slots below the least that entry j may have.
 -- Falls: k - j.
 use mathlib.Core.Path.{_≡_, ap, _∙_}
 use Prim.Native.Nat.{ℕ, _+_, _-_, _≤_, _<_}

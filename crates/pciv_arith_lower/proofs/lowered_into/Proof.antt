@@ -1,4 +1,4 @@
--- Proves lowered::lowered_into: the parts are written one after another, which is the file (the laws of pciv_build).
+-- Proves pciv_arith_lower::lowered_into: the parts are written one after another, which is the file (the laws of pciv_build).
 use mathlib.Core.Path.{_≡_, sym, ap, _∙_}
 use Prim.Native.Nat.{ℕ, _≤_, _<_}
 use native.Mathlib.Omega.{arith}

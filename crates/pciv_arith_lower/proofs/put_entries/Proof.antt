@@ -1,4 +1,4 @@
--- Proves lowered::put_entries. Invariant: the entries of slots from the least that entry j may have on are left.
+-- Proves pciv_arith_lower::put_entries. Invariant: the entries of slots from the least that entry j may have on are left.
 -- Falls: k - j.
 use mathlib.Core.Path.{_≡_, refl, ap, _∙_}
 use Prim.Native.Nat.{ℕ, _+_, _-_, _≤_, _<_}

@@ -1,4 +1,4 @@
--- Proves lowered::put_primary. Invariant: out has the bytes that the primary bytes lead to, put right at the slots of
+-- Proves pciv_arith_lower::put_primary. Invariant: out has the bytes that the primary bytes lead to, put right at the slots of
 -- the first j entries. Falls: k - j.
 use mathlib.Core.Path.{_≡_, refl, sym, ap, _∙_}
 use Prim.Native.Nat.{ℕ, _+_, _-_, _≤_, _<_}

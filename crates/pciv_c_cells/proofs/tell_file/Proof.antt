@@ -1,4 +1,4 @@
--- Proves pciv_c::tell_file.
+-- Proves pciv_c_cells::tell_file.
 use mathlib.Core.Path.{_≡_, refl}
 use borrow.Author.Needs.{needs}
 use Rattle.pciv_c_cells.proofs.tell_file.Statement.{statement}

@@ -1,4 +1,4 @@
--- Proves pciv_check::bad_entry: the four tests in turn.
+-- Proves pciv_check_parts::bad_entry: the four tests in turn.
 use mathlib.Core.Path.{_≡_, refl, sym, ap, _∙_}
 use Prim.Native.Nat.{ℕ, _+_, _*_, _≤_, _<_}
 use native.Mathlib.Omega.{arith}

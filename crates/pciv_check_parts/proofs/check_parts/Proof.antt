@@ -1,4 +1,4 @@
--- Proves pciv_check::check_parts: refusals 6, 7 and 8 in turn.
+-- Proves pciv_check_parts::check_parts: refusals 6, 7 and 8 in turn.
 use mathlib.Core.Path.{_≡_, refl, sym, ap, _∙_}
 use mathlib.Core.Bool.{Bool, false}
 use Prim.Native.Nat.{ℕ, _≤_, _<_}

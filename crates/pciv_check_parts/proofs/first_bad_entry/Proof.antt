@@ -1,4 +1,4 @@
--- Proves pciv_check::first_bad_entry. Invariant: the entries below j are right, and `lowest` is the least slot
+-- Proves pciv_check_parts::first_bad_entry. Invariant: the entries below j are right, and `lowest` is the least slot
 -- that entry j may have. Falls: k - j.
 use mathlib.Core.Path.{_≡_, refl, sym, ap, _∙_}
 use mathlib.Core.Bool.{Bool, true, false}

@@ -1,4 +1,4 @@
--- Proves pciv_check::first_bad_index_entry. Invariant: the index entries below i are right. Falls: m - i.
+-- Proves pciv_check_parts::first_bad_index_entry. Invariant: the index entries below i are right. Falls: m - i.
 use mathlib.Core.Path.{_≡_, refl, sym, ap, _∙_}
 use mathlib.Core.Bool.{Bool, false}
 use Prim.Native.Nat.{ℕ, _+_, _-_, _*_, _≤_, _<_}

@@ -1,4 +1,4 @@
--- Proves pciv_check::first_bad_slot: a count of the bytes 255 that equals k leaves no slot without its entry.
+-- Proves pciv_check_parts::first_bad_slot: a count of the bytes 255 that equals k leaves no slot without its entry.
 use mathlib.Core.Path.{_≡_, refl, sym, ap, _∙_}
 use mathlib.Core.List.{List}
 use Prim.Native.Nat.{ℕ, _+_, _-_, _*_, _≤_, _<_}
@@ -7,7 +7,7 @@ use lib.ListN.{length, take, drop, length-drop}
 use lib.Seq.{length-take-le, getD-take, getD-drop}
 use lib.Dec.{eqb}
 use Rattle.pciv_bytes.specs.Ranges.{flag, sumFrom}
-use Rattle.pciv_bytes.specs.Counts.{byteIs}
+use Rattle.pciv_bytes.specs.ByteAt.{byteIs}
 use Rattle.pciv_bytes.proofs.RangesLaws.{firstBelow-none}
 use Rattle.pciv_bytes.proofs.SumLaws.{sumFrom-cong}
 use Rattle.pciv_format.specs.Parts.{badSlot}

@@ -1,4 +1,4 @@
--- Proves pciv_check::walk_slots. Invariant: no slot below i lacks its entry, and entry j is the next one.
+-- Proves pciv_check_parts::walk_slots. Invariant: no slot below i lacks its entry, and entry j is the next one.
 -- Falls: n - i.
 use mathlib.Core.Path.{_≡_, refl, sym, ap, _∙_}
 use mathlib.Core.Logic.{⊎-elim}

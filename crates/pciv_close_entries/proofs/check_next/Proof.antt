@@ -1,4 +1,4 @@
--- Proves pciv_close::entries::check_next: the test of the entry decides.
+-- Proves pciv_close_entries::check_next: the test of the entry decides.
 use mathlib.Core.Path.{_≡_, refl, sym, ap, _∙_}
 use Prim.Native.Nat.{_+_, _≤_}
 use native.Mathlib.Omega.{arith}

@@ -1,4 +1,4 @@
--- Proves pciv_close::entries::checked: a count of the bytes 255 that equals k leaves no slot without its entry.
+-- Proves pciv_close_entries::checked: a count of the bytes 255 that equals k leaves no slot without its entry.
 use mathlib.Core.Path.{_≡_, refl, sym, _∙_}
 use native.Mathlib.Omega.{arith}
 use Rattle.pciv_close_entries.proofs.PassesLaws.{right-sound, right-search}

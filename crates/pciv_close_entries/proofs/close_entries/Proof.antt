@@ -1,4 +1,4 @@
--- Proves pciv_close::entries::close_entries: a walk of its MIR, by hand. `start` and `step` are called with `out` lent
+-- Proves pciv_close_entries::close_entries: a walk of its MIR, by hand. `start` and `step` are called with `out` lent
 -- again for the call, and with a copy of `primary`; all that is known of them is their contracts. A turn looks into
 -- the slice of entries, reads the next entry, and shuts the slice.
 -- The loop's variant is where the call stands (`Doing`); what is left to do falls (`left`).

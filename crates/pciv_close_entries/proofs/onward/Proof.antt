@@ -1,4 +1,4 @@
--- Proves pciv_close::entries::onward.
+-- Proves pciv_close_entries::onward.
 use mathlib.Core.Path.{ap}
 use Prim.Native.Nat.{ℕ, _+_}
 use borrow.Author.Needs.{needs}

@@ -1,4 +1,4 @@
--- Proves pciv_close::entries::open: what `begin` says decides.
+-- Proves pciv_close_entries::open: what `begin` says decides.
 use mathlib.Core.Path.{_≡_, refl, sym, _∙_}
 use native.Mathlib.Omega.{arith}
 use lib.ListN.{length}

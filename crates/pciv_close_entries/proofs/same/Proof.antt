@@ -1,4 +1,4 @@
--- Proves pciv_close::entries::same.
+-- Proves pciv_close_entries::same.
 use mathlib.Core.Path.{sym}
 use borrow.Author.Needs.{needs}
 use Rattle.pciv_close_entries.proofs.same.Statement.{statement}

@@ -1,4 +1,4 @@
--- Proves pciv_close::entries::search_next: the first byte 255 that is found decides.
+-- Proves pciv_close_entries::search_next: the first byte 255 that is found decides.
 use mathlib.Core.Path.{_≡_, refl, sym, ap, _∙_}
 use Prim.Native.Nat.{_+_, _≤_, _<_}
 use native.Mathlib.Omega.{arith}

@@ -1,4 +1,4 @@
--- Proves pciv_close::entries::start: refusal 3, a call without entries, or the pass Check.
+-- Proves pciv_close_entries::start: refusal 3, a call without entries, or the pass Check.
 use mathlib.Core.Path.{_≡_, refl, ap, _∙_}
 use native.Mathlib.Omega.{arith}
 use Rattle.pciv_close_entries.specs.Passes.{endedJob}

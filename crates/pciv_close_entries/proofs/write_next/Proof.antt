@@ -1,4 +1,4 @@
--- Proves pciv_close::entries::write_next: one more entry is written, and the index after the last.
+-- Proves pciv_close_entries::write_next: one more entry is written, and the index after the last.
 use mathlib.Core.Path.{_≡_, refl, sym, ap, _∙_}
 use Prim.Native.Nat.{_+_, _*_, _≤_}
 use native.Mathlib.Omega.{arith}

@@ -1,4 +1,4 @@
--- Proves pciv_counts::file_len. The sums fit, since the index is no longer than twice k.
+-- Proves pciv_layout::file_len. The sums fit, since the index is no longer than twice k.
 use Prim.Native.Nat.{_*_, _≤_}
 use native.Mathlib.Omega.{arith}
 use borrow.Author.Needs.{needs}

@@ -1,4 +1,4 @@
--- Proves pciv_build::primary_byte: one law for each case.
+-- Proves pciv_layout::primary_byte: one law for each case.
 use mathlib.Core.Path.{sym}
 use Rattle.pciv_format.proofs.PartsLaws.{primaryByte-inline, primaryByte-overflow}
 use borrow.Author.Needs.{needs}

@@ -1,4 +1,4 @@
--- Proves pciv_build::counts.
+-- Proves pciv_layout::summary_of.
 use Rattle.pciv_format.specs.Layout.{countsOf}
 use borrow.Author.Needs.{needs}
 use Rattle.pciv_layout.proofs.summary_of.Statement.{statement}

@@ -1,4 +1,4 @@
--- Proves pciv_map::lookup::block_end: one law for each case.
+-- Proves pciv_map_lookup::block_end: one law for each case.
 use mathlib.Core.Path.{_≡_, sym}
 use Prim.Native.Nat.{_*_}
 use native.Mathlib.Omega.{arith}

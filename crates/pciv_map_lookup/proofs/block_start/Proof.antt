@@ -1,4 +1,4 @@
--- Proves pciv_map::lookup::block_start: before the first index entry the block starts at 0.
+-- Proves pciv_map_lookup::block_start: before the first index entry the block starts at 0.
 use mathlib.Core.Path.{_≡_, sym}
 use Prim.Native.Nat.{_-_}
 use native.Mathlib.Nat.{zero-mul}

@@ -1,4 +1,4 @@
--- Proves pciv_map::lookup::distance_at: a byte below 255 is the distance, and else the slot's entry has it.
+-- Proves pciv_map_lookup::distance_at: a byte below 255 is the distance, and else the slot's entry has it.
 use mathlib.Core.Path.{_≡_, sym, _∙_}
 use Prim.Native.Nat.{_+_, _<_}
 use native.Mathlib.Omega.{arith}

@@ -1,4 +1,4 @@
--- Proves pciv_map::lookup::entry_of. The search in the index gives the block that the entry stands in,
+-- Proves pciv_map_lookup::entry_of. The search in the index gives the block that the entry stands in,
 -- and the search in the block gives the entry. The reasoning is in LookupLaws.antt.
 use mathlib.Core.Path.{_≡_, sym, ap, _∙_}
 use Prim.Native.Nat.{ℕ, _+_, _*_, _^_, _≤_, _<_}

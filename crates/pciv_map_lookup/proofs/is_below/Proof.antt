@@ -1,4 +1,4 @@
--- Proves pciv_map::lookup::is_below: the quotient is 1 where x is below y, else 0.
+-- Proves pciv_map_lookup::is_below: the quotient is 1 where x is below y, else 0.
 use borrow.Author.Needs.{needs}
 use Rattle.pciv_map_lookup.proofs.SearchLaws.{flag-ltb}
 use Rattle.pciv_map_lookup.proofs.is_below.Statement.{statement}

@@ -1,4 +1,4 @@
--- Proves pciv_map::lookup::lower_bound. Invariant: keys before lo are below the key that is looked for, and
+-- Proves pciv_map_lookup::lower_bound. Invariant: keys before lo are below the key that is looked for, and
 -- keys from lo + len on are not. Falls: len. The reasoning on sorted numbers is in SearchLaws.antt.
 use Prim.Native.Nat.{ℕ, _+_, _-_, _*_, _/_, _≤_, _<_}
 use native.Mathlib.Omega.{arith}

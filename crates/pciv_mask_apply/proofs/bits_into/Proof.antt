@@ -1,4 +1,4 @@
--- Proves bits_into: the header and the primary bytes are the file, as the map has no overflow entry.
+-- Proves pciv_mask_apply::bits_into: the header and the primary bytes are the file, as the map has no overflow entry.
 use mathlib.Core.Path.{_≡_, sym, ap, _∙_}
 use Prim.Native.Nat.{ℕ, _+_, _*_, _<_}
 use native.Mathlib.Omega.{arith}

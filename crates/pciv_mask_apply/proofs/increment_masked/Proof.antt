@@ -1,4 +1,4 @@
--- Proves increment_masked.
+-- Proves pciv_mask_apply::increment_masked.
 use Rattle.pciv_format.specs.Mask.{incrementMaskedOutcome, incrementMaskedBuffer}
 use borrow.Author.Needs.{needs}
 use Rattle.pciv_mask_apply.proofs.increment_masked.Statement.{statement}

@@ -1,4 +1,4 @@
--- Proves keep_masked.
+-- Proves pciv_mask_apply::keep_masked.
 use Rattle.pciv_format.specs.Mask.{keepMaskedOutcome, keepMaskedBuffer}
 use borrow.Author.Needs.{needs}
 use Rattle.pciv_mask_apply.proofs.keep_masked.Statement.{statement}

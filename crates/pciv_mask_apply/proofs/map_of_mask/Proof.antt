@@ -1,4 +1,4 @@
--- Proves map_of_mask.
+-- Proves pciv_mask_apply::map_of_mask.
 use mathlib.Core.Path.{_≡_, sym, ap, _∙_}
 use mathlib.Core.Bool.{true, false}
 use lib.ListN.{length}

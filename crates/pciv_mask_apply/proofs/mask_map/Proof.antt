@@ -1,4 +1,4 @@
--- Proves mask_map.
+-- Proves pciv_mask_apply::mask_map.
 use mathlib.Core.Path.{_≡_, sym, ap, _∙_}
 use mathlib.Core.Bool.{true, false}
 use lib.ListN.{length}

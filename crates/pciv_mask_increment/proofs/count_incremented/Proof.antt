@@ -1,4 +1,4 @@
--- Proves raised::count_incremented.
+-- Proves pciv_mask_increment::count_incremented.
 use mathlib.Core.Path.{_≡_, ap, _∙_}
 use Prim.Native.Nat.{ℕ, _+_, _*_}
 use native.Mathlib.Nat.{add-sub-cancel-left}

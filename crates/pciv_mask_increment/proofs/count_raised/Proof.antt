@@ -1,4 +1,4 @@
--- Proves raised::count_raised. Invariant: count and the set slots with byte 254 in the words from w on make the whole. Falls:
+-- Proves pciv_mask_increment::count_raised. Invariant: count and the set slots with byte 254 in the words from w on make the whole. Falls:
 -- the number of words that are left.
 use mathlib.Core.Path.{_≡_, sym, ap, _∙_}
 use Prim.Native.Nat.{ℕ, _+_, _-_, _*_, _≤_}

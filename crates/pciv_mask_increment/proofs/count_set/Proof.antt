@@ -1,4 +1,4 @@
--- Proves raised::count_set. Invariant: count and what the set bits that are left pick make the whole. Falls: the bits that
+-- Proves pciv_mask_increment::count_set. Invariant: count and what the set bits that are left pick make the whole. Falls: the bits that
 -- are left, as a number.
 use mathlib.Core.Path.{_≡_, ap, _∙_}
 use Prim.Native.Nat.{_+_, _-_, _^_, _≤_, _<_}
@@ -10,7 +10,7 @@ use lib.ListN.{length}
 use lib.Dec.{eqb}
 use mir.Val.{boolByte}
 use Rattle.pciv_bytes.specs.Ranges.{flag}
-use Rattle.pciv_bytes.specs.Counts.{byteAt, byteIs}
+use Rattle.pciv_bytes.specs.ByteAt.{byteAt, byteIs}
 use Rattle.pciv_bytes.proofs.SumLaws.{flag-le, boolByte-flag}
 use Rattle.pciv_mask_bytes.specs.Masked.{picked, SetBelow}
 use Rattle.pciv_mask_bytes.proofs.SetBitLaws.{trailing-bit, picked-lowest, picked-none, picked-le, below-less}

@@ -1,4 +1,4 @@
--- Proves raised::count_word.
+-- Proves pciv_mask_increment::count_word.
 use mathlib.Core.Path.{sym, ap, _∙_}
 use Prim.Native.Nat.{ℕ, _+_, _-_}
 use native.Mathlib.Omega.{arith}
@@ -6,7 +6,7 @@ use lib.ListN.{getD}
 use lib.Dec.{eqb}
 use borrow.Author.Tests.{not-true}
 use Rattle.pciv_bytes.specs.Ranges.{flag}
-use Rattle.pciv_bytes.specs.Counts.{byteIs}
+use Rattle.pciv_bytes.specs.ByteAt.{byteIs}
 use Rattle.pciv_bytes.proofs.AnyLaws.{anyFrom-none}
 use Rattle.pciv_mask_bytes.proofs.SetBitLaws.{picked-zero}
 use borrow.Author.Needs.{needs}

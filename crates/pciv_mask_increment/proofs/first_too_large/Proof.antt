@@ -1,4 +1,4 @@
--- Proves raised::first_too_large. Invariant: no slot below the least that entry j may have is too large. Falls: k - j.
+-- Proves pciv_mask_increment::first_too_large. Invariant: no slot below the least that entry j may have is too large. Falls: k - j.
 use mathlib.Core.Path.{_≡_, ap, _∙_}
 use Prim.Native.Nat.{_+_, _-_, _*_, _^_, _≤_, _<_}
 use native.Mathlib.Omega.{arith}

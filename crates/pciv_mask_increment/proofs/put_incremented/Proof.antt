@@ -1,4 +1,4 @@
--- Proves raised::put_incremented. Invariant: `Raising`. Falls: end - at.
+-- Proves pciv_mask_increment::put_incremented. Invariant: `Raising`. Falls: end - at.
 use mathlib.Core.Path.{_≡_, refl, _∙_}
 use Prim.Native.Nat.{ℕ, _+_, _-_, _*_, _≤_, _<_}
 use native.Mathlib.Omega.{arith}

@@ -1,4 +1,4 @@
--- Proves bit_op: in each case the result is that of the case.
+-- Proves pciv_mask_logic::bit_op: in each case the result is that of the case.
 use Prim.Native.Nat.{ℕ}
 use mathlib.Core.Path.{_≡_, refl}
 use borrow.Author.Needs.{needs}

@@ -1,4 +1,4 @@
--- Proves combine: refused, or both are masks and the words fit.
+-- Proves pciv_mask_logic::combine: refused, or both are masks and the words fit.
 use mathlib.Core.Path.{_≡_, sym, ap, ap₂, _∙_}
 use mathlib.Core.Bool.{Bool, not, _&&_}
 use lib.ListN.{length}

@@ -1,4 +1,4 @@
--- Proves complement: refused, or it is a mask and the words fit.
+-- Proves pciv_mask_logic::complement: refused, or it is a mask and the words fit.
 use mathlib.Core.Path.{_≡_, sym, ap, _∙_}
 use mathlib.Core.Bool.{Bool, not}
 use lib.ListN.{length}

@@ -1,4 +1,4 @@
--- Proves count_word: a word has no more than 64 ones.
+-- Proves pciv_mask_logic::count_word: a word has no more than 64 ones.
 use Prim.Native.Nat.{_≤_}
 use mathlib.Core.Path.{refl}
 use native.Mathlib.Omega.{arith}

@@ -1,4 +1,4 @@
--- Proves flip_words. Invariant: `Left`, what remains to be written. Falls: full - i.
+-- Proves pciv_mask_logic::flip_words. Invariant: `Left`, what remains to be written. Falls: full - i.
 use Prim.Native.Nat.{_-_, _/_, _≤_}
 use mathlib.Core.Path.{_≡_, refl}
 use native.Mathlib.Omega.{arith}

@@ -1,4 +1,4 @@
--- Proves mask_into: too many slots, a mask at fault, too few words; or none of them.
+-- Proves pciv_mask_logic::mask_into: too many slots, a mask at fault, too few words; or none of them.
 use mathlib.Core.Path.{sym, ap, _∙_}
 use mathlib.Core.Bool.{not}
 use borrow.Author.Needs.{needs}

@@ -1,4 +1,4 @@
--- Proves set_bits: too many slots, no mask of n slots, or all bits counted.
+-- Proves pciv_mask_logic::set_bits: too many slots, no mask of n slots, or all bits counted.
 use mathlib.Core.Path.{_≡_, sym, ap, _∙_}
 use native.Mathlib.Omega.{arith}
 use mathlib.Core.Bool.{true}

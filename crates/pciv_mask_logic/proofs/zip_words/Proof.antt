@@ -1,4 +1,4 @@
--- Proves zip_words. Invariant: `Left`, what remains to be written. Falls: length a - i.
+-- Proves pciv_mask_logic::zip_words. Invariant: `Left`, what remains to be written. Falls: length a - i.
 use Prim.Native.Nat.{_-_}
 use lib.ListN.{length}
 use borrow.Author.Needs.{needs}

@@ -1,3 +1,4 @@
+-- Proves pciv_mask_threshold::limit_of.
 use borrow.Author.Needs.{needs}
 use Rattle.pciv_mask_threshold.proofs.limit_of.Statement.{statement}
 use Rattle.pciv_mask_threshold.proofs.limit_of.Tie as tie

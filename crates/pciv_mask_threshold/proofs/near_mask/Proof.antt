@@ -1,4 +1,4 @@
--- Proves pciv_select::near_mask.
+-- Proves pciv_mask_threshold::near_mask.
 use Rattle.pciv_format.specs.Mask.{thresholdOutcome, thresholdWords, nearMaskOutcome, nearMaskWords}
 use borrow.Author.Needs.{needs}
 use Rattle.pciv_mask_threshold.proofs.near_mask.Statement.{statement}

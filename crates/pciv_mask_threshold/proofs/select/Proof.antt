@@ -1,4 +1,4 @@
--- Proves pciv_select::select.
+-- Proves pciv_mask_threshold::select.
 use mathlib.Core.Path.{_≡_, sym, ap, _∙_}
 use native.Mathlib.Omega.{arith}
 use lib.ListN.{length}

@@ -1,4 +1,4 @@
--- Proves pciv_select::select_into.
+-- Proves pciv_mask_threshold::select_into.
 use mathlib.Core.Path.{ap, _∙_}
 use native.Mathlib.Nat.{add-sub-cancel-left}
 use native.Mathlib.Omega.{arith}

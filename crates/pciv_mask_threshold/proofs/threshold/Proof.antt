@@ -1,4 +1,4 @@
--- Proves pciv_select::threshold.
+-- Proves pciv_mask_threshold::threshold.
 use mathlib.Core.Path.{_∙_}
 use Prim.Native.Nat.{ℕ}
 use mathlib.Core.Bool.{Bool}

@@ -1,4 +1,4 @@
--- Proves pciv_edit::checked::cross. The reasoning on lists is in CrossLaws.antt.
+-- Proves pciv_slot::cross. The reasoning on lists is in CrossLaws.antt.
 use mathlib.Core.Path.{_≡_, sym, ap, _∙_}
 use Prim.Native.Nat.{_≤_, _<_}
 use native.Mathlib.Omega.{arith}

@@ -1,4 +1,4 @@
--- Proves pciv_edit::checked::edit_checked: which of the four cases it is.
+-- Proves pciv_slot::edit_checked: which of the four cases it is.
 use mathlib.Core.Path.{_≡_, sym, ap, _∙_}
 use Prim.Native.Nat.{ℕ, _+_, _≤_, _<_}
 use native.Mathlib.Omega.{arith}

@@ -1,4 +1,4 @@
--- Proves pciv_edit::checked::stay_in_overflow.
+-- Proves pciv_slot::stay_in_overflow.
 use mathlib.Core.Path.{sym, ap, _∙_}
 use Prim.Native.Nat.{_+_, _*_, _≤_}
 use native.Mathlib.Omega.{arith}

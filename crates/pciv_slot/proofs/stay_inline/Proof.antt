@@ -1,4 +1,4 @@
--- Proves pciv_edit::checked::stay_inline.
+-- Proves pciv_slot::stay_inline.
 use mathlib.Core.Path.{sym, ap, _∙_}
 use native.Mathlib.Omega.{arith}
 use Rattle.pciv_format.specs.Refusals.{done, fileAnswer}

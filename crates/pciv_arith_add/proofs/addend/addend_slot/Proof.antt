@@ -1,4 +1,4 @@
--- Proves addend::addend_slot.
+-- Proves pciv_arith_add::addend::addend_slot.
 use borrow.Author.Needs.{needs}
 use Rattle.pciv_arith_add.proofs.addend.addend_slot.Statement.{statement}
 use Rattle.pciv_arith_add.proofs.addend.addend_slot.Tie as tie

@@ -1,4 +1,4 @@
--- Proves addend::take_addend.
+-- Proves pciv_arith_add::addend::take_addend.
 use mathlib.Core.Path.{refl}
 use borrow.Author.Needs.{needs}
 use Rattle.pciv_arith_add.proofs.addend.take_addend.Statement.{statement}

@@ -1,4 +1,4 @@
--- Proves large::first_too_large: the largest of both come to a distance, or the walk finds the slot.
+-- Proves pciv_arith_add::large::first_too_large: the largest of both come to a distance, or the walk finds the slot.
 use native.Mathlib.Omega.{arith}
 use Rattle.pciv_format.specs.Check.{fileParts}
 use Rattle.pciv_arith_add.proofs.LargeLaws.{none-large}

@@ -1,4 +1,4 @@
--- Proves large::most_added.
+-- Proves pciv_arith_add::large::most_added.
 use native.Mathlib.Nat.{le-refl}
 use borrow.Author.Needs.{needs}
 use Rattle.pciv_arith_add.proofs.large.most_added.Statement.{statement}

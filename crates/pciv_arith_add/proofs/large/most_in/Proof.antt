@@ -1,4 +1,4 @@
--- Proves large::most_in. Invariant: `MostOf`. Falls: k - j.
+-- Proves pciv_arith_add::large::most_in. Invariant: `MostOf`. Falls: k - j.
 use mathlib.Core.Path.{ap, _∙_}
 use Prim.Native.Nat.{_+_, _-_, max}
 use native.Mathlib.Omega.{arith}

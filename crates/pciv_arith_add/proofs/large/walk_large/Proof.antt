@@ -1,4 +1,4 @@
--- Proves large::walk_large. Invariant: `Walked`. Falls: n - slot.
+-- Proves pciv_arith_add::large::walk_large. Invariant: `Walked`. Falls: n - slot.
 use Prim.Native.Nat.{_+_, _-_, _≤_}
 use native.Mathlib.Omega.{arith}
 use Rattle.pciv_format.specs.Check.{fileParts}

@@ -1,4 +1,4 @@
--- Proves put::count_added: in each case the results 255 are counted.
+-- Proves pciv_arith_add::put::count_added: in each case the results 255 are counted.
 use mathlib.Core.Path.{_≡_, refl, sym, _∙_}
 use Prim.Native.Nat.{_-_}
 use native.Mathlib.Nat.{add-sub-cancel-left}

@@ -1,4 +1,4 @@
--- Proves put::put_entries. Invariant: `Putting`. Falls: end - at.
+-- Proves pciv_arith_add::put::put_entries. Invariant: `Putting`. Falls: end - at.
 use mathlib.Core.Path.{_≡_, refl, _∙_}
 use Prim.Native.Nat.{ℕ, _+_, _-_, _*_, _≤_}
 use native.Mathlib.Omega.{arith}

@@ -1,4 +1,4 @@
--- Proves put::put_primary: in each case the results are the primary bytes.
+-- Proves pciv_arith_add::put::put_primary: in each case the results are the primary bytes.
 use mathlib.Core.Path.{_≡_, refl, sym, ap, _∙_}
 use Prim.Native.Nat.{_≤_}
 use native.Mathlib.Nat.{add-sub-cancel-left}

@@ -1,8 +1,8 @@
--- Proves both::count_both: either way the count is that of the minimum.
+-- Proves pciv_arith_merge::both::count_both: either way the count is that of the minimum.
 use mathlib.Core.Path.{refl, _∙_}
 use Prim.Native.Nat.{ℕ, _+_}
 use borrow.Author.Needs.{needs}
-use Rattle.pciv_bytes.specs.declared.pairs.ByteOp.the-variants.{Min}
+use Rattle.pciv_passes.specs.declared.pairs.ByteOp.the-variants.{Min}
 use Rattle.pciv_format.specs.Check.{fileParts}
 use Rattle.pciv_format.specs.declared.SlotOp.the-variants.{Minimum}
 use Rattle.pciv_arith_merge.proofs.CombineLaws.{same-minimum, combined-count}

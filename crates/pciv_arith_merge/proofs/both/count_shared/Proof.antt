@@ -1,4 +1,4 @@
--- Proves both::count_shared. Invariant: of the slots below the least one that entry j of the first map may have,
+-- Proves pciv_arith_merge::both::count_shared. Invariant: of the slots below the least one that entry j of the first map may have,
 -- those in overflow in both are counted. Falls: ka - j.
 use mathlib.Core.Path.{refl}
 use Prim.Native.Nat.{ℕ, _+_, _-_, _≤_, _<_}

@@ -1,4 +1,4 @@
--- Proves combine::combine_into: the parts of the file, one after another.
+-- Proves pciv_arith_merge::combine::combine_into: the parts of the file, one after another.
 use mathlib.Core.Path.{_≡_, refl, sym, ap, _∙_}
 use Prim.Native.Nat.{ℕ, _+_, _*_, _≤_, _<_}
 use native.Mathlib.Omega.{arith}

@@ -1,4 +1,4 @@
--- Proves combine::count_overflow: in each case the count is that of the case.
+-- Proves pciv_arith_merge::combine::count_overflow: in each case the count is that of the case.
 use mathlib.Core.Path.{_≡_, refl}
 use mathlib.Core.List.{List}
 use Prim.Native.Nat.{ℕ, _+_, _-_, _≤_}

@@ -1,11 +1,11 @@
--- Proves combine::put_parts: in each case the primary array and the entries are those of the case.
+-- Proves pciv_arith_merge::combine::put_parts: in each case the primary array and the entries are those of the case.
 use mathlib.Core.Path.{_≡_, refl}
 use mathlib.Core.List.{List}
 use Prim.Native.Nat.{ℕ, _+_, _*_, _≤_}
 use native.Mathlib.Omega.{arith}
 use lib.ListN.{length}
 use borrow.Author.Needs.{needs}
-use Rattle.pciv_bytes.specs.declared.pairs.ByteOp.the-variants.{Min, Max, Sub}
+use Rattle.pciv_passes.specs.declared.pairs.ByteOp.the-variants.{Min, Max, Sub}
 use Rattle.pciv_format.specs.Layout.{overflowCount}
 use Rattle.pciv_format.specs.Parts.{Parts}
 use Rattle.pciv_format.specs.Check.{fileParts}

@@ -1,4 +1,4 @@
--- Proves joint::meet: the value is put together as its definition says.
+-- Proves pciv_arith_merge::joint::meet: the value is put together as its definition says.
 use Prim.Native.Nat.{ℕ, _+_, _≤_}
 use native.Mathlib.Omega.{arith}
 use borrow.Author.Needs.{needs}

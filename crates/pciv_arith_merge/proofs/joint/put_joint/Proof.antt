@@ -1,4 +1,4 @@
--- Proves joint::put_joint. Invariant: the entries of the slots that the first j entries of the one map and the
+-- Proves pciv_arith_merge::joint::put_joint. Invariant: the entries of the slots that the first j entries of the one map and the
 -- first t of the other do not reach are left to write, and p and q are the places of the next two. Falls: how far these
 -- are from the ends.
 use mathlib.Core.Path.{_≡_, refl}

@@ -1,4 +1,4 @@
--- Proves joint::read_head.
+-- Proves pciv_arith_merge::joint::read_head.
 use mathlib.Core.Path.{sym, ap, ap₂, _∙_}
 use mathlib.Core.List.{List}
 use Prim.Native.Nat.{ℕ, _+_, _*_, _≤_}

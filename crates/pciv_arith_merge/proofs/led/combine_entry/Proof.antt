@@ -1,4 +1,4 @@
--- Proves led::combine_entry.
+-- Proves pciv_arith_merge::led::combine_entry.
 use mathlib.Core.Path.{_≡_, sym, ap, ap₂, _∙_}
 use Prim.Native.Nat.{ℕ, _+_, _≤_, _<_}
 use native.Mathlib.Omega.{arith}

@@ -1,4 +1,4 @@
--- Proves led::count_led. Invariant: the slots in overflow below the least one that entry j of the first map may
+-- Proves pciv_arith_merge::led::count_led. Invariant: the slots in overflow below the least one that entry j of the first map may
 -- have are counted. Falls: ka - j.
 use Prim.Native.Nat.{ℕ, _+_, _-_, _≤_, _<_}
 use native.Mathlib.Omega.{arith}

@@ -1,4 +1,4 @@
--- Proves led::find_from.
+-- Proves pciv_arith_merge::led::find_from.
 use mathlib.Core.Path.{_≡_, sym, ap, _∙_}
 use Prim.Native.Nat.{ℕ, _+_, _≤_, _<_}
 use native.Mathlib.Omega.{arith}

@@ -1,4 +1,4 @@
--- Proves led::put_led. Invariant: the entries of the slots from the least one that entry j of the first map may
+-- Proves pciv_arith_merge::led::put_led. Invariant: the entries of the slots from the least one that entry j of the first map may
 -- have are left to write. Falls: ka - j.
 use mathlib.Core.Path.{_≡_, _∙_}
 use Prim.Native.Nat.{ℕ, _+_, _-_, _≤_, _<_}

@@ -1,4 +1,4 @@
--- Proves led::seek. Invariant: the slot's entry is j or a later one. Falls: the number of entries up to it.
+-- Proves pciv_arith_merge::led::seek. Invariant: the slot's entry is j or a later one. Falls: the number of entries up to it.
 use Prim.Native.Nat.{ℕ, _+_, _-_, _≤_, _<_}
 use native.Mathlib.Omega.{arith}
 use borrow.Author.Needs.{needs}

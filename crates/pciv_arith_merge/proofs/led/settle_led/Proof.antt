@@ -1,4 +1,4 @@
--- Proves led::settle_led. Invariant: the primary bytes are right where the first map is stored inline, and at the
+-- Proves pciv_arith_merge::led::settle_led. Invariant: the primary bytes are right where the first map is stored inline, and at the
 -- slots of its first j entries; the overflow entries of later slots are left to write. Falls: ka - j.
 use mathlib.Core.Path.{ap, _∙_}
 use Prim.Native.Nat.{ℕ, _+_, _-_, _≤_, _<_}

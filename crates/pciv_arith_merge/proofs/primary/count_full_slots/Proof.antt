@@ -1,4 +1,4 @@
--- Proves primary::count_full_slots: the parts that are lent are the primary arrays.
+-- Proves pciv_arith_merge::primary::count_full_slots: the parts that are lent are the primary arrays.
 use mathlib.Core.Path.{sym, _∙_}
 use Prim.Native.Nat.{ℕ, _+_, _-_, _≤_, _<_}
 use native.Mathlib.Nat.{add-sub-cancel-left}

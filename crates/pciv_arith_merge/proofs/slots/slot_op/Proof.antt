@@ -1,4 +1,4 @@
--- Proves slots::slot_op: in each case the result is that of the case.
+-- Proves pciv_arith_merge::slots::slot_op: in each case the result is that of the case.
 use Prim.Native.Nat.{ℕ, _+_, _≤_}
 use native.Mathlib.Omega.{arith}
 use mathlib.Core.Path.{_≡_}

@@ -1,4 +1,4 @@
--- Proves pciv_flags::fill. Invariant: the words from w on are left to write.
+-- Proves pciv_bits::flags::fill. Invariant: the words from w on are left to write.
 -- Falls: n / 64 - w.
 use mathlib.Core.Path.{refl, _∙_}
 use Prim.Native.Nat.{ℕ, _+_, _-_, _*_, _/_, _%_, _≤_}

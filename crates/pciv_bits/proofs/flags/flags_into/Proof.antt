@@ -1,4 +1,4 @@
--- Proves pciv_flags::flags_into. Invariant of both loops: the words from w on are left to write. Fall: full - w, and how many
+-- Proves pciv_bits::flags::flags_into. Invariant of both loops: the words from w on are left to write. Fall: full - w, and how many
 -- are left.
 use mathlib.Core.Path.{_≡_, refl, _∙_}
 use Prim.Native.Nat.{ℕ, _+_, _-_, _*_, _/_, _≤_}

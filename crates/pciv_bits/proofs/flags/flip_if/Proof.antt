@@ -1,4 +1,4 @@
--- Proves pciv_flags::flip_if.
+-- Proves pciv_bits::flags::flip_if.
 use borrow.Author.Needs.{needs}
 use Rattle.pciv_bits.proofs.flags.flip_if.Statement.{statement}
 use Rattle.pciv_bits.proofs.flags.flip_if.Tie as tie

@@ -1,4 +1,4 @@
--- Proves pciv_flags::full_words.
+-- Proves pciv_bits::flags::full_words.
 use mathlib.Core.Path.{_≡_, _∙_}
 use Prim.Native.Nat.{ℕ, _+_}
 use mathlib.Core.Bool.{Bool}

@@ -1,4 +1,4 @@
--- Proves pciv_flags::ones.
+-- Proves pciv_bits::flags::ones.
 use native.Mathlib.Omega.{arith}
 use Rattle.pciv_bits.proofs.WordLaws.{ones-shr}
 use borrow.Author.Needs.{needs}

@@ -1,4 +1,4 @@
--- Proves pciv_flags::part_word. Invariant: x is the word of the bytes from j up to `to`. Falls: j.
+-- Proves pciv_bits::flags::part_word. Invariant: x is the word of the bytes from j up to `to`. Falls: j.
 use mathlib.Core.Path.{_≡_, sym, _∙_}
 use Prim.Native.Nat.{ℕ, _-_, _^_, _≤_, _<_}
 use native.Mathlib.Omega.{arith}

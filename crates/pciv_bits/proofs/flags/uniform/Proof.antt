@@ -1,4 +1,4 @@
--- Proves pciv_flags::uniform.
+-- Proves pciv_bits::flags::uniform.
 use borrow.Author.Needs.{needs}
 use Rattle.pciv_bits.proofs.flags.uniform.Statement.{statement}
 use Rattle.pciv_bits.proofs.flags.uniform.Tie as tie

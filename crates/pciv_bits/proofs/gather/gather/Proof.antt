@@ -1,4 +1,4 @@
--- Proves gather::gather. Invariant: the first j lanes of each word are there. Falls: 16 - j.
+-- Proves pciv_bits::gather::gather. Invariant: the first j lanes of each word are there. Falls: 16 - j.
 use mathlib.Core.Path.{_≡_, refl}
 use Prim.Native.Nat.{ℕ, _+_, _-_, _≤_, _<_}
 use native.Mathlib.Omega.{arith}

@@ -1,4 +1,4 @@
--- Proves gather::weigh.
+-- Proves pciv_bits::gather::weigh.
 use native.Mathlib.Omega.{arith}
 use borrow.Author.Tests.{lt-ltb, le-ltb}
 use Rattle.pciv_bits.proofs.gather.weigh.Statement.{statement}

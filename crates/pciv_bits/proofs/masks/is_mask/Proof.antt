@@ -1,4 +1,4 @@
--- Proves is_mask: the slots fill the words; another number of words; the last word's bits past n.
+-- Proves pciv_bits::masks::is_mask: the slots fill the words; another number of words; the last word's bits past n.
 use mathlib.Core.Path.{sym, ap, _∙_}
 use native.Mathlib.Omega.{arith}
 use mathlib.Core.Bool.{not}

@@ -1,4 +1,4 @@
--- Proves transpose::transpose.
+-- Proves pciv_bits::transpose::transpose.
 use Rattle.pciv_bits.proofs.TransposeLaws.{transpose-bit}
 use Rattle.pciv_bits.proofs.transpose.transpose.Statement.{statement}
 use Rattle.pciv_bits.proofs.transpose.transpose.Tie as tie

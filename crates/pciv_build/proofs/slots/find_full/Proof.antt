@@ -1,4 +1,4 @@
--- Proves slots::find_full: of the bytes, 255 alone is not below 255.
+-- Proves pciv_build::slots::find_full: of the bytes, 255 alone is not below 255.
 use Rattle.pciv_bytes.specs.LittleEndian.{Bytes}
 use Rattle.pciv_build.proofs.FullWordLaws.{tell-full}
 use borrow.Author.Needs.{needs}

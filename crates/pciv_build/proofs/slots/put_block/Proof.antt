@@ -1,4 +1,4 @@
--- Proves slots::put_block: what the words tell is what is written.
+-- Proves pciv_build::slots::put_block: what the words tell is what is written.
 use native.Mathlib.Omega.{arith}
 use borrow.Author.Needs.{needs}
 use Rattle.pciv_build.proofs.slots.put_block.Statement.{statement}

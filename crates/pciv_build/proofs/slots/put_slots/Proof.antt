@@ -1,4 +1,4 @@
--- Proves slots::put_slots. Invariant: the entries of the slots from i on are left. Falls: n - i.
+-- Proves pciv_build::slots::put_slots. Invariant: the entries of the slots from i on are left. Falls: n - i.
 use mathlib.Core.Path.{_≡_}
 use Prim.Native.Nat.{ℕ, _+_, _-_, _*_, _≤_}
 use native.Mathlib.Nat.{sub-zero}

@@ -1,4 +1,4 @@
--- Proves slots::put_word. Invariant: bits are those of the slots from `slot` on, and their entries are left.
+-- Proves pciv_build::slots::put_word. Invariant: bits are those of the slots from `slot` on, and their entries are left.
 -- Falls: end - slot, where `end` is behind the slots of the word.
 use mathlib.Core.Path.{_≡_, sym, ap, _∙_}
 use Prim.Native.Nat.{ℕ, _+_, _-_, _≤_, min}

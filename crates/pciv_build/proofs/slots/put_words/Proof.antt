@@ -1,11 +1,11 @@
--- Proves slots::put_words. Invariant: the entries of the slots from `slot` on are left, the first of which word w tells.
+-- Proves pciv_build::slots::put_words. Invariant: the entries of the slots from `slot` on are left, the first of which word w tells.
 -- Falls: to - slot.
 use mathlib.Core.Path.{_≡_, sym, _∙_}
 use Prim.Native.Nat.{ℕ, _+_, _-_, _*_, _≤_, _<_, min}
 use native.Mathlib.Omega.{arith}
 use mathlib.Core.List.{List, _++_}
 use lib.ListN.{getD}
-use Rattle.pciv_bytes.specs.Counts.{byteAt}
+use Rattle.pciv_bytes.specs.ByteAt.{byteAt}
 use Rattle.pciv_format.specs.Mask.{word}
 use Rattle.pciv_build.specs.Slots.{isFull, fullSlots}
 use Rattle.pciv_build.proofs.SlotsLaws.{BlanksLeft, blanks-start, blanks-space, blanks-before, blanks-part, blanks-end, word-same, slots-word, slots-end}

@@ -1,4 +1,4 @@
--- Proves pciv_move::move_down. Invariant: what goes to i .. `to` is left to move, and nothing from i on has changed.
+-- Proves pciv_bytes::moves::move_down. Invariant: what goes to i .. `to` is left to move, and nothing from i on has changed.
 -- Falls: to - i.
 use Prim.Native.Nat.{_-_}
 use native.Mathlib.Omega.{arith}

@@ -1,4 +1,4 @@
--- Proves pciv_move::move_up. Invariant: what stood from i up to `to` is moved. Falls: i.
+-- Proves pciv_bytes::moves::move_up. Invariant: what stood from i up to `to` is moved. Falls: i.
 use native.Mathlib.Omega.{arith}
 use Rattle.pciv_bytes.proofs.MoveLaws.{MovedUp, up-start, up-more, up-end}
 use borrow.Author.Needs.{needs}

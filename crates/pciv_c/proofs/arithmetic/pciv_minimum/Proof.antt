@@ -1,4 +1,4 @@
--- Proves pciv_c::pciv_minimum.
+-- Proves pciv_c::arithmetic::pciv_minimum.
 use Rattle.pciv_c_cells.proofs.CellsLaws.{told-file}
 use borrow.Author.Needs.{needs}
 use Rattle.pciv_c.proofs.arithmetic.pciv_minimum.Statement.{statement}

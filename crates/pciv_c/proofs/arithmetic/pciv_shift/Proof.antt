@@ -1,4 +1,4 @@
--- Proves pciv_c::pciv_shift.
+-- Proves pciv_c::arithmetic::pciv_shift.
 use mir.Syntax.{w32}
 use mir.Facts.{toZ-ofZ}
 use Rattle.pciv_c_cells.proofs.CellsLaws.{told-file}

@@ -1,4 +1,4 @@
--- Proves pciv_c::pciv_sum_maps.
+-- Proves pciv_c::arithmetic::pciv_sum_maps.
 use Rattle.pciv_c_cells.proofs.CellsLaws.{told-file}
 use borrow.Author.Needs.{needs}
 use Rattle.pciv_c.proofs.arithmetic.pciv_sum_maps.Statement.{statement}

@@ -1,4 +1,4 @@
--- Proves pciv_c::pciv_primary_span.
+-- Proves pciv_c::check::pciv_primary_span.
 use mathlib.Core.Path.{_≡_, refl, sym, _∙_}
 use Rattle.pciv_format.specs.Check.{checkFile}
 use Rattle.pciv_format.proofs.RefusalsLaws.{fileAnswer-done, fileAnswer-refused}

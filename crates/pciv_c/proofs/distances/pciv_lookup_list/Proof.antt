@@ -1,4 +1,4 @@
--- Proves pciv_c::pciv_lookup_list.
+-- Proves pciv_c::distances::pciv_lookup_list.
 use mathlib.Core.Path.{_≡_}
 use Rattle.pciv_c_cells.proofs.CellsLaws.{told-number}
 use borrow.Author.Needs.{needs}

@@ -1,4 +1,4 @@
--- Proves pciv_c::pciv_edit.
+-- Proves pciv_c::editing::pciv_edit.
 use mathlib.Core.Path.{ap}
 use Rattle.pciv_format.specs.declared.EditAnswer.{EditAnswer}
 use Rattle.pciv_c_cells.proofs.CellsLaws.{told-file}

@@ -1,4 +1,4 @@
--- Proves pciv_c::pciv_edit_list.
+-- Proves pciv_c::editing::pciv_edit_list.
 use Rattle.pciv_c_cells.proofs.CellsLaws.{told-number}
 use borrow.Author.Needs.{needs}
 use Rattle.pciv_c.proofs.editing.pciv_edit_list.Statement.{statement}

@@ -1,4 +1,4 @@
--- Proves pciv_c::pciv_bray_curtis.
+-- Proves pciv_c::figures::pciv_bray_curtis.
 use Rattle.pciv_c_cells.proofs.CellsLaws.{told-figure}
 use borrow.Author.Needs.{needs}
 use Rattle.pciv_c.proofs.figures.pciv_bray_curtis.Statement.{statement}

@@ -1,4 +1,4 @@
--- Proves pciv_c::pciv_jaccard.
+-- Proves pciv_c::figures::pciv_jaccard.
 use Rattle.pciv_c_cells.proofs.CellsLaws.{told-figure}
 use borrow.Author.Needs.{needs}
 use Rattle.pciv_c.proofs.figures.pciv_jaccard.Statement.{statement}

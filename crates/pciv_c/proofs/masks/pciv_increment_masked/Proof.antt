@@ -1,4 +1,4 @@
--- Proves pciv_c::pciv_increment_masked.
+-- Proves pciv_c::masks::pciv_increment_masked.
 use Rattle.pciv_c_cells.proofs.CellsLaws.{told-file}
 use borrow.Author.Needs.{needs}
 use Rattle.pciv_c.proofs.masks.pciv_increment_masked.Statement.{statement}

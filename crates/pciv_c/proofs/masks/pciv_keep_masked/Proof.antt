@@ -1,4 +1,4 @@
--- Proves pciv_c::pciv_keep_masked.
+-- Proves pciv_c::masks::pciv_keep_masked.
 use Rattle.pciv_c_cells.proofs.CellsLaws.{told-file}
 use borrow.Author.Needs.{needs}
 use Rattle.pciv_c.proofs.masks.pciv_keep_masked.Statement.{statement}

@@ -1,4 +1,4 @@
--- Proves pciv_c::pciv_map_of_mask.
+-- Proves pciv_c::masks::pciv_map_of_mask.
 use Rattle.pciv_c_cells.proofs.CellsLaws.{told-file}
 use borrow.Author.Needs.{needs}
 use Rattle.pciv_c.proofs.masks.pciv_map_of_mask.Statement.{statement}

@@ -1,4 +1,4 @@
--- Proves pciv_c::pciv_close_entries: a walk of its MIR, by hand. `close_entries` is given `primary`, `entries` and `out`
+-- Proves pciv_c::writing::pciv_close_entries: a walk of its MIR, by hand. `close_entries` is given `primary`, `entries` and `out`
 -- for good, and `tell_file` the answer, `summary` and `refusal`: each at its own lifetime, share and ghost name. All that is
 -- left of a `&mut` at the exit is what its callee says of its last value.
 use mathlib.Core.Path.{_≡_, refl, subst}

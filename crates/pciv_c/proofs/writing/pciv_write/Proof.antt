@@ -1,4 +1,4 @@
--- Proves pciv_c::pciv_write.
+-- Proves pciv_c::writing::pciv_write.
 use Rattle.pciv_c_cells.proofs.CellsLaws.{told-file}
 use borrow.Author.Needs.{needs}
 use Rattle.pciv_c.proofs.writing.pciv_write.Statement.{statement}

@@ -1,4 +1,4 @@
--- Proves weigh::beyond: in each case it is that of the case.
+-- Proves pciv_compare::weigh::beyond: in each case it is that of the case.
 use mathlib.Core.Path.{_≡_}
 use Prim.Native.Nat.{ℕ}
 use native.Mathlib.Omega.{arith}

@@ -1,9 +1,9 @@
--- Proves weigh::weigh: in each case the bytes, the entries or both tell what the distances weigh.
+-- Proves pciv_compare::weigh::weigh: in each case the bytes, the entries or both tell what the distances weigh.
 use mathlib.Core.Path.{_≡_, refl}
 use Prim.Native.Nat.{ℕ, _+_, _^_, _≤_}
 use native.Mathlib.Omega.{arith}
 use borrow.Author.Needs.{needs}
-use Rattle.pciv_bytes.specs.declared.extremes.Extremes.{Extremes}
+use Rattle.pciv_passes.specs.declared.extremes.Extremes.{Extremes}
 use Rattle.pciv_format.specs.Parts.{Parts, valueOf}
 use Rattle.pciv_format.specs.Check.{fileParts}
 use Rattle.pciv_compare.specs.Weigh.{weightOf, Weighed}

@@ -1,4 +1,4 @@
--- Proves weigh::weigh_bytes: the parts that are lent are the primary arrays.
+-- Proves pciv_compare::weigh::weigh_bytes: the parts that are lent are the primary arrays.
 use mathlib.Core.Path.{sym, _∙_}
 use native.Mathlib.Nat.{add-sub-cancel-left}
 use native.Mathlib.Omega.{arith}

@@ -1,4 +1,4 @@
--- Proves weigh::weigh_entries. Invariant: sum is that of the first j entries. Falls: k - j.
+-- Proves pciv_compare::weigh::weigh_entries. Invariant: sum is that of the first j entries. Falls: k - j.
 use mathlib.Core.Path.{ap, _∙_}
 use Prim.Native.Nat.{ℕ, _-_}
 use native.Mathlib.Nat.{sub-zero}

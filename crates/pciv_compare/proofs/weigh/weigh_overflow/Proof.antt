@@ -1,4 +1,4 @@
--- Proves weigh::weigh_overflow.
+-- Proves pciv_compare::weigh::weigh_overflow.
 use mathlib.Core.Path.{refl}
 use Prim.Native.Nat.{_+_, _-_, _≤_}
 use native.Mathlib.Omega.{arith}

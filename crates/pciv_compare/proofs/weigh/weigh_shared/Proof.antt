@@ -1,4 +1,4 @@
--- Proves weigh::weigh_shared. Invariant: sum is that of the first j entries of the first map, and the entries of the
+-- Proves pciv_compare::weigh::weigh_shared. Invariant: sum is that of the first j entries of the first map, and the entries of the
 -- second before t are passed. Falls: ka - j.
 use mathlib.Core.Path.{ap, _∙_}
 use Prim.Native.Nat.{ℕ, _-_}

@@ -1,4 +1,4 @@
--- Proves cursor::next_slot.
+-- Proves pciv_map::cursor::next_slot.
 use mathlib.Core.Path.{sym, _∙_}
 use native.Mathlib.Omega.{arith}
 use Rattle.pciv_format.specs.Check.{fileParts}

@@ -1,4 +1,4 @@
--- Proves cursor::take_at: the slot is inline, or the cursor is at its entry.
+-- Proves pciv_map::cursor::take_at: the slot is inline, or the cursor is at its entry.
 use mathlib.Core.Path.{sym, _∙_}
 use Prim.Native.Nat.{ℕ, _+_, _<_}
 use native.Mathlib.Omega.{arith}

@@ -1,4 +1,4 @@
--- Proves scan::scan_into. Invariant: out has at its front the primary bytes, with the distances of the first j
+-- Proves pciv_map::scan::scan_into. Invariant: out has at its front the primary bytes, with the distances of the first j
 -- entries at their slots. Falls: k - j. The list reasoning is in PatchLaws.antt.
 use mathlib.Core.Path.{_≡_, refl, sym, ap, ap₂, _∙_}
 use Prim.Native.Nat.{_+_, _-_, _≤_}

@@ -1,4 +1,4 @@
--- Proves totals::excess_of. Invariant: sum is that of the first j entries. Falls: k - j.
+-- Proves pciv_map::totals::excess_of. Invariant: sum is that of the first j entries. Falls: k - j.
 -- No addition overflows, since each gives at most the sum of all, which is below 2 ^ 52.
 use Prim.Native.Nat.{_-_}
 use native.Mathlib.Nat.{sub-zero}

@@ -1,4 +1,4 @@
--- Proves totals::readings_of: the bytes that are 0 and those that are not are all bytes.
+-- Proves pciv_map::totals::readings_of: the bytes that are 0 and those that are not are all bytes.
 use native.Mathlib.Omega.{arith}
 use borrow.Author.Needs.{needs}
 use Rattle.pciv_format.proofs.EntryLaws.{readings-rest}

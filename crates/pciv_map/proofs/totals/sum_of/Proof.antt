@@ -1,4 +1,4 @@
--- Proves totals::sum_of: what the two passes add up to is the sum of all distances, which fits.
+-- Proves pciv_map::totals::sum_of: what the two passes add up to is the sum of all distances, which fits.
 use mathlib.Core.Path.{ap₂, _∙_}
 use Prim.Native.Nat.{ℕ, _+_}
 use native.Mathlib.Nat.{add-sub-cancel-left}

@@ -1,4 +1,4 @@
--- Proves pciv_map::eight::distances8. Invariant: filling all places is filling those from q on. Falls: 8 - q.
+-- Proves pciv_map_lookup::eight::distances8. Invariant: filling all places is filling those from q on. Falls: 8 - q.
 use mathlib.Core.Path.{_≡_, refl, sym, _∙_}
 use mathlib.Core.List.{List}
 use Prim.Native.Nat.{ℕ, _-_, _≤_, _<_}

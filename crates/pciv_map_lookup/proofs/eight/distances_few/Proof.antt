@@ -1,4 +1,4 @@
--- Proves pciv_map::eight::distances_few. Invariant: filling all places is filling those from q on. Falls: count - q.
+-- Proves pciv_map_lookup::eight::distances_few. Invariant: filling all places is filling those from q on. Falls: count - q.
 use mathlib.Core.Path.{_≡_, refl, sym, _∙_}
 use mathlib.Core.List.{List}
 use Prim.Native.Nat.{ℕ, _-_, _≤_}

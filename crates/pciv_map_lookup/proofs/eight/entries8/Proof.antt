@@ -1,4 +1,4 @@
--- Proves pciv_map::eight::entries8. Invariant: each of the eight entries is among the len that are left to its
+-- Proves pciv_map_lookup::eight::entries8. Invariant: each of the eight entries is among the len that are left to its
 -- search. Falls: len.
 use mathlib.Core.Path.{_≡_}
 use Prim.Native.Nat.{_<_}

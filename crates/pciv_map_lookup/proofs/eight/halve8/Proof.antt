@@ -1,4 +1,4 @@
--- Proves pciv_map::eight::halve8. Invariant: the first q searches have had their turn, and the others wait for it.
+-- Proves pciv_map_lookup::eight::halve8. Invariant: the first q searches have had their turn, and the others wait for it.
 -- Falls: 8 - q. The reasoning on a turn is in EightLaws.antt.
 use mathlib.Core.Path.{_≡_}
 use Prim.Native.Nat.{ℕ, _+_, _-_, _*_, _/_, _≤_, _<_}

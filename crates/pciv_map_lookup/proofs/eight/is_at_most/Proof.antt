@@ -1,4 +1,4 @@
--- Proves pciv_map::eight::is_at_most: the quotient is 1 where x is at most y, else 0.
+-- Proves pciv_map_lookup::eight::is_at_most: the quotient is 1 where x is at most y, else 0.
 use borrow.Author.Needs.{needs}
 use Rattle.pciv_map_lookup.proofs.EightLaws.{flag-leb}
 use Rattle.pciv_map_lookup.proofs.eight.is_at_most.Statement.{statement}

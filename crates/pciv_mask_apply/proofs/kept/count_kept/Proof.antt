@@ -1,4 +1,4 @@
--- Proves kept::count_kept. Invariant: count is that of the slots below the least that entry j may have. Falls: k - j.
+-- Proves pciv_mask_apply::kept::count_kept. Invariant: count is that of the slots below the least that entry j may have. Falls: k - j.
 use mathlib.Core.Path.{_≡_, ap, _∙_}
 use Prim.Native.Nat.{ℕ, _+_, _-_, _≤_, _<_}
 use native.Mathlib.Omega.{arith}

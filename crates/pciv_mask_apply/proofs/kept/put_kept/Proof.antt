@@ -1,4 +1,4 @@
--- Proves kept::put_kept. Invariant: the entries of the slots behind entry j - 1 are left. Falls: k - j.
+-- Proves pciv_mask_apply::kept::put_kept. Invariant: the entries of the slots behind entry j - 1 are left. Falls: k - j.
 use Prim.Native.Nat.{ℕ, _+_, _-_, _*_, _≤_, _<_}
 use native.Mathlib.Omega.{arith}
 use lib.ListN.{length}

@@ -1,4 +1,4 @@
--- Proves masked::count_overflow: in each case the count is that of the case.
+-- Proves pciv_mask_apply::masked::count_overflow: in each case the count is that of the case.
 use mathlib.Core.Path.{_≡_}
 use Prim.Native.Nat.{ℕ}
 use mathlib.Core.List.{List}

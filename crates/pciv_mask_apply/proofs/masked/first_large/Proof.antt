@@ -1,4 +1,4 @@
--- Proves masked::first_large: in each case the slot is that of the case.
+-- Proves pciv_mask_apply::masked::first_large: in each case the slot is that of the case.
 use mathlib.Core.Path.{_≡_}
 use Prim.Native.Nat.{ℕ}
 use mathlib.Core.List.{List}

@@ -1,4 +1,4 @@
--- Proves masked::masked_into: the parts are written one after another, which is the file (the laws of pciv_build).
+-- Proves pciv_mask_apply::masked::masked_into: the parts are written one after another, which is the file (the laws of pciv_build).
 use mathlib.Core.Path.{_≡_, sym, ap, _∙_}
 use Prim.Native.Nat.{ℕ, _≤_}
 use native.Mathlib.Omega.{arith}

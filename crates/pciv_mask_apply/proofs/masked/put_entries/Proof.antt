@@ -1,4 +1,4 @@
--- Proves masked::put_entries: in each case the entries are those of the case.
+-- Proves pciv_mask_apply::masked::put_entries: in each case the entries are those of the case.
 use mathlib.Core.Path.{_≡_}
 use mathlib.Core.List.{List}
 use Prim.Native.Nat.{ℕ, _+_}

@@ -1,4 +1,4 @@
--- Proves bits::bit_of.
+-- Proves pciv_mask_bytes::bits::bit_of.
 use Rattle.pciv_mask_bytes.proofs.RowLaws.{bit-of-word}
 use borrow.Author.Needs.{needs}
 use Rattle.pciv_mask_bytes.proofs.bits.bit_of.Statement.{statement}

@@ -1,4 +1,4 @@
--- Proves bits::last_bits.
+-- Proves pciv_mask_bytes::bits::last_bits.
 use mathlib.Core.Path.{_∙_}
 use Prim.Native.Nat.{_/_}
 use Rattle.pciv_bytes.proofs.RangesLaws.{length-table}

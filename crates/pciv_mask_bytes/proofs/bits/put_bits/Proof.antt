@@ -1,4 +1,4 @@
--- Proves bits::put_bits. Invariant of both loops: what is left to write are the bits of the slots from i on; in the first
+-- Proves pciv_mask_bytes::bits::put_bits. Invariant of both loops: what is left to write are the bits of the slots from i on; in the first
 -- i is a multiple of 64, in the second the slots from i on are those of the last word. Falls: n - i.
 use mathlib.Core.Path.{_≡_, refl, sym, ap, _∙_}
 use Prim.Native.Nat.{ℕ, _+_, _-_, _*_, _/_, _%_, _≤_}

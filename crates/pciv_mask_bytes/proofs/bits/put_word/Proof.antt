@@ -1,4 +1,4 @@
--- Proves bits::put_word. Invariant: what is left to write are the bits from j on, a multiple of eight. Falls: 64 - j.
+-- Proves pciv_mask_bytes::bits::put_word. Invariant: what is left to write are the bits from j on, a multiple of eight. Falls: 64 - j.
 use mathlib.Core.Path.{_≡_, refl, sym, ap, _∙_}
 use Prim.Native.Nat.{ℕ, _+_, _-_, _%_, _≤_}
 use native.Mathlib.Omega.{arith}

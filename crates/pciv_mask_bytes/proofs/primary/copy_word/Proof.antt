@@ -1,4 +1,4 @@
--- Proves bytes::copy_word.
+-- Proves pciv_mask_bytes::primary::copy_word.
 use mathlib.Core.Path.{ap, _∙_}
 use Prim.Native.Nat.{ℕ}
 use native.Mathlib.Nat.{add-sub-cancel-left}

@@ -1,4 +1,4 @@
--- Proves bytes::increment_few.
+-- Proves pciv_mask_bytes::primary::increment_few.
 use mathlib.Core.Path.{_∙_}
 use Rattle.pciv_mask_bytes.proofs.ByteLaws.{raised-copied}
 use borrow.Author.Needs.{needs}

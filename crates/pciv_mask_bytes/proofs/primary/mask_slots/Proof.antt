@@ -1,4 +1,4 @@
--- Proves bytes::mask_slots: in each case what is written is what the case asks for.
+-- Proves pciv_mask_bytes::primary::mask_slots: in each case what is written is what the case asks for.
 use mathlib.Core.Path.{_≡_}
 use Prim.Native.Nat.{ℕ, _+_}
 use mathlib.Core.List.{List}

@@ -1,11 +1,11 @@
--- Proves bytes::mask_word. Invariant: what is left to write are the bytes from j on. Falls: 64 - j.
+-- Proves pciv_mask_bytes::primary::mask_word. Invariant: what is left to write are the bytes from j on. Falls: 64 - j.
 use mathlib.Core.Path.{_≡_, refl, sym, ap, _∙_}
 use Prim.Native.Nat.{ℕ, _+_, _-_, _≤_}
 use native.Mathlib.Omega.{arith}
 use lib.ListN.{length, length-set}
 use lib.Seq.{sets}
 use Rattle.pciv_bytes.specs.Ranges.{table}
-use Rattle.pciv_bytes.specs.Counts.{byteAt}
+use Rattle.pciv_bytes.specs.ByteAt.{byteAt}
 use Rattle.pciv_bytes.proofs.WriteLaws.{sets-table-start, sets-table-more, sets-table-end}
 use Rattle.pciv_mask_bytes.specs.Masked.{maskedByte, maskedWord}
 use Rattle.pciv_mask_bytes.proofs.RowLaws.{word-bit}

@@ -1,4 +1,4 @@
--- Proves bytes::masked_byte: in each case the result is that of the case.
+-- Proves pciv_mask_bytes::primary::masked_byte: in each case the result is that of the case.
 use mathlib.Core.Path.{_≡_}
 use Prim.Native.Nat.{ℕ}
 use native.Mathlib.Omega.{arith}

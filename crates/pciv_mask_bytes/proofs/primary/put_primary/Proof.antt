@@ -1,4 +1,4 @@
--- Proves bytes::put_primary. Invariant of both loops: what is left to write are the bytes of the slots from i on; in the
+-- Proves pciv_mask_bytes::primary::put_primary. Invariant of both loops: what is left to write are the bytes of the slots from i on; in the
 -- first i is a multiple of 64, in the second the slots from i on are those of the last word. Falls: n - i.
 use mathlib.Core.Path.{_≡_, refl, sym, ap, _∙_}
 use Prim.Native.Nat.{ℕ, _+_, _-_, _*_, _/_, _%_, _≤_}
@@ -7,7 +7,7 @@ use mathlib.Core.List.{List}
 use lib.ListN.{length, length-set}
 use lib.Seq.{sets, length-sets}
 use Rattle.pciv_bytes.specs.Ranges.{table}
-use Rattle.pciv_bytes.specs.Counts.{byteAt}
+use Rattle.pciv_bytes.specs.ByteAt.{byteAt}
 use Rattle.pciv_bytes.proofs.WriteLaws.{sets-table-start, sets-table-more, sets-table-end, sets-table-part}
 use Rattle.pciv_format.proofs.MapLaws.{primary-inside}
 use Rattle.pciv_mask_bytes.specs.Masked.{maskedByte}

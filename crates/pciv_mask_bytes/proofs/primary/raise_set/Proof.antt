@@ -1,4 +1,4 @@
--- Proves bytes::raise_set. Invariant: raising the bytes of all set bits from the start is raising those of the bits that are
+-- Proves pciv_mask_bytes::primary::raise_set. Invariant: raising the bytes of all set bits from the start is raising those of the bits that are
 -- left from here. Falls: the bits that are left, as a number.
 use mathlib.Core.Path.{_≡_, refl, sym, ap, _∙_}
 use Prim.Native.Nat.{ℕ, _+_, _-_, _^_, _<_}

@@ -1,4 +1,4 @@
--- Proves rows::bit_rows: the rule of the table, by one test that is computed over all of it.
+-- Proves pciv_mask_bytes::rows::bit_rows: the rule of the table, by one test that is computed over all of it.
 use mathlib.Core.Path.{refl}
 use Rattle.pciv_bytes.specs.Ranges.{table}
 use Rattle.pciv_format.specs.Mask.{bitAt}

@@ -1,4 +1,4 @@
--- Proves rows::put_row. Invariant: what is left to write is the row from place j on. Falls: 8 - j.
+-- Proves pciv_mask_bytes::rows::put_row. Invariant: what is left to write is the row from place j on. Falls: 8 - j.
 use mathlib.Core.Path.{_≡_, refl, sym, ap, _∙_}
 use Prim.Native.Nat.{ℕ, _+_, _-_, _*_, _≤_}
 use native.Mathlib.Omega.{arith}

@@ -1,4 +1,4 @@
--- Proves pciv_edit::change::change_entries: by the distance.
+-- Proves pciv_slot::change::change_entries: by the distance.
 use native.Mathlib.Omega.{arith}
 use borrow.Author.Tests.{lt-ltb, le-ltb}
 use Rattle.pciv_slot.specs.Change.{changed}

@@ -1,4 +1,4 @@
--- Proves pciv_edit::change::clear_freed.
+-- Proves pciv_slot::change::clear_freed.
 use mathlib.Core.Path.{sym}
 use Rattle.pciv_bytes.proofs.WriteLaws.{sets-same-end}
 use borrow.Author.Needs.{needs}

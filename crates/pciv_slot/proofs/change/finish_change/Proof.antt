@@ -1,4 +1,4 @@
--- Proves pciv_edit::change::finish_change.
+-- Proves pciv_slot::change::finish_change.
 use mathlib.Core.Path.{_∙_}
 use borrow.Author.Needs.{needs}
 use Rattle.pciv_slot.proofs.change.finish_change.Statement.{statement}

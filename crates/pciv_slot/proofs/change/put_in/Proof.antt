@@ -1,4 +1,4 @@
--- Proves pciv_edit::change::put_in: the entries behind are moved first.
+-- Proves pciv_slot::change::put_in: the entries behind are moved first.
 use mathlib.Core.Path.{_∙_}
 use native.Mathlib.Omega.{arith}
 use lib.ListN.{length-set}

@@ -1,4 +1,4 @@
--- Proves pciv_edit::change::take_out.
+-- Proves pciv_slot::change::take_out.
 use mathlib.Core.Path.{_∙_}
 use native.Mathlib.Omega.{arith}
 use lib.ListN.{length-set}
