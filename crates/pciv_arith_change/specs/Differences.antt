@@ -4,7 +4,7 @@
 --   movedBy side z e      the difference z, where the distance of one side is e more
 --   movedFrom side P j c out   out after c entries of P, from entry j on, each at its slot
 --   SmallFrom i n out     from slot i up to n, every number of out is small
--- Laws are in proofs/ChangeLaws.antt. Axioms: none.
+-- Laws are in proofs/DifferencesLaws.antt. Axioms: none.
 use Prim.Native.Nat.{ℕ, zero, suc, _+_, _-_, _^_, _≤_, _<_}
 use mathlib.Core.List.{List}
 use lib.ListN.{getD, set}

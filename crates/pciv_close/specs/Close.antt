@@ -10,7 +10,7 @@
 --   EntriesLeft          a loop that writes k entries: d₀ had them all left, from `start` on; d has those from j on left
 --   partsOutcome P capacity, partsBuffer P out
 --                        writing the file of sound parts: the answer, and the buffer
--- Laws are in proofs/CloseLaws.antt, SearchLaws.antt and SoundLaws.antt. Axioms: none.
+-- Laws are in proofs/CloseLaws.antt, FullSearchLaws.antt and SoundLaws.antt. Axioms: none.
 use mathlib.Core.Path.{_≡_}
 use Prim.Native.Nat.{ℕ, _+_, _-_, _*_, _<_}
 use mathlib.Core.Bool.{Bool, false, not, _&&_, _||_}

@@ -10,7 +10,7 @@
 --   Ready, Advances              what a step asks of the next entry e, and what it does: whatever the call is
 --   Right, Sound                 every entry was found right, and every byte 255 has one
 --   OpensRight, OpensSound       what the first step of the next pass does then
--- Laws are in proofs/EntriesLaws.antt. Axioms: none.
+-- Laws are in proofs/PassesLaws.antt. Axioms: none.
 use mathlib.Core.Path.{_≡_}
 use Prim.Native.Nat.{ℕ, _+_, _-_, _*_, _≤_, _<_}
 use mathlib.Core.Bool.{false}

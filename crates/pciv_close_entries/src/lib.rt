@@ -1,7 +1,7 @@
 // Close over a slice of entry structs (docs/FORMAT.md, "Writing"). A call goes over the entries in passes: it checks
 // them, searches between them if the bytes 255 are not as many, and writes them. `close_entries` hands one entry
 // after another to `step`, which is all that is done with a slice of structs; a `Job` is where the call stands
-// (specs/Entries.antt).
+// (specs/Passes.antt).
 ghost use mathlib.Core.Path.{_≡_};
 ghost use Prim.Native.Nat.{_<_};
 ghost use lib.ListN.{length};

@@ -1,4 +1,4 @@
--- A map kept where a mask is 1, along its overflow entries (the walk's laws are in pciv_merge, proofs/LedLaws.antt).
+-- A map kept where a mask is 1, along its overflow entries (the walk's laws are in pciv_arith_merge, proofs/LedLaws.antt).
 --   kept-counted, -all     one entry on, in a walk that counts those that are kept; after the last
 --   kept-small             no distance of the result is too large
 --   kept-space, -here, -more, -written

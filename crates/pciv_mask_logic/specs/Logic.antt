@@ -3,7 +3,7 @@
 --   opAt op xs ys w   the operation on words w
 --   lowBits c         a word with its c lowest bits set
 --   flipAt n ws w     word w with the bits of slots below n turned round
--- Laws are in proofs/CombineLaws.antt. Axioms: none.
+-- Laws are in proofs/LogicLaws.antt. Axioms: none.
 use Prim.Native.Nat.{ℕ, _-_, _*_, _^_, min}
 use mathlib.Core.List.{List}
 use lib.ListN.{getD}

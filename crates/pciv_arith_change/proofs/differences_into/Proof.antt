@@ -1,4 +1,4 @@
--- Proves pciv_arith_change::differences_into: each pass leaves what ChangeLaws.antt says.
+-- Proves pciv_arith_change::differences_into: each pass leaves what DifferencesLaws.antt says.
 use mathlib.Core.Path.{_≡_, refl, sym, ap, _∙_}
 use Prim.Native.Nat.{_≤_}
 use native.Mathlib.Nat.{add-sub-cancel-left}

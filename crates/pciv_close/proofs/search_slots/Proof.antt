@@ -1,5 +1,5 @@
 -- Proves pciv_close::search_slots. Invariant: no slot below `from` lacks its entry, and `from` is the least slot
--- that entry j may have. Falls: k - j. The reasoning on slots is in SearchLaws.antt.
+-- that entry j may have. Falls: k - j. The reasoning on slots is in FullSearchLaws.antt.
 use mathlib.Core.Path.{_≡_, refl, sym}
 use Prim.Native.Nat.{_-_, _≤_, _<_}
 use native.Mathlib.Numerals.{add-one}

@@ -1,5 +1,5 @@
 -- Proves pciv_mask_threshold::entries::select_entries. Invariant: out has at its front the mask that the first j entries make. Falls: k - j.
--- The reasoning on masks is in EntriesLaws.antt.
+-- The reasoning on masks is in EntryBitsLaws.antt.
 use mathlib.Core.Path.{_≡_, refl, ap, _∙_}
 use Prim.Native.Nat.{ℕ, _+_, _-_, _≤_, _<_}
 use native.Mathlib.Omega.{arith}
