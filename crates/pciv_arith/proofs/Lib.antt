@@ -1,4 +1,3 @@
 pub mod ArithLaws
 pub mod SignedDifferenceLaws
 pub mod ShiftLaws
-pub mod SumMapsLaws

@@ -1,33 +1,39 @@
 -- What `shift` answers and leaves, case by case: a refused file, or a map with counts s that is shifted down or up.
---   down-fits, up-fits, ..    the signed arithmetic of `which_way`
---   lower-is, raise-is        a distance shifted down and up
---   shift-refused, shift-outcome, shift-buffer
+--   Opposite, opposite        the signed arithmetic of `which_way` on a negative number
+--   Itself, itself            and on another
+--   checked                   what the check has shown
+--   up-small                  a shift up is by less than 2^31
+--   up-is, down-is            the distances raised or lowered by m are the shifted ones
+--   shift-refused             the file is refused, and the buffer stays
+--   shift-written             else the file of the shifted map is written
 -- Axioms: none.
 use mathlib.Core.Path.{_≡_, refl, sym, ap, _∙_}
-use Prim.Native.Nat.{ℕ, suc, _+_, _-_, _^_, _≤_, _<_}
+use Prim.Native.Nat.{ℕ, suc, _+_, _-_, _^_, _<_}
 use native.Mathlib.Omega.{arith}
 use native.Mathlib.Decide.{decLe}
 use mathlib.Core.Bool.{true, false}
 use mathlib.Core.List.{List}
 use lib.ListN.{length}
 use lib.IntN.{ℤ, pos, negsuc, natAbs, _-ℤ_}
-use lib.Dec.{T, ltb}
-use lib.Signed.{mag, ltZ, nonNeg}
+use lib.Dec.{T}
+use lib.Signed.{ltZ, nonNeg}
 use mir.Syntax.{w32, w64}
 use mir.Val.{Fits, SFits}
 use borrow.Author.Tests.{lt-ltb, le-ltb, ltb-true}
 use Rattle.pciv_format.specs.Layout.{at}
-use Rattle.pciv_format.specs.Refusals.{done, refused}
+use Rattle.pciv_format.specs.Refusals.{done, refused, fileAnswer}
 use Rattle.pciv_format.specs.Parts.{valueOf}
 use Rattle.pciv_format.specs.Check.{fileParts, checkFile, CheckedMap}
 use Rattle.pciv_format.specs.Read.{listOf}
 use Rattle.pciv_format.specs.Write.{mapInto, fileBuffer}
-use Rattle.pciv_format.specs.Arith.{atLeastZero, shiftedBy, shiftOutcome, shiftBuffer}
+use Rattle.pciv_format.specs.Arith.{shiftedBy, shiftOutcome, shiftBuffer}
 use Rattle.pciv_format.specs.declared.Summary.{Summary}
 use Rattle.pciv_format.specs.declared.Refusal.{Refusal}
+use Rattle.pciv_format.specs.declared.FileAnswer.{FileAnswer}
+use Rattle.pciv_format.specs.declared.FileAnswer.the-variants.{Refused}
 use Rattle.pciv_format.proofs.CheckLaws.{done-counts}
 use Rattle.pciv_format.proofs.ReadLaws.{length-listOf, at-list}
-use Rattle.pciv_arith_add.proofs.IntoLaws.{mapInto-cong, mapBuffer-cong}
+use Rattle.pciv_build.proofs.IntoLaws.{map-written}
 use Rattle.pciv_arith.specs.Direction.{directionOf}
 use Rattle.pciv_arith.specs.declared.Direction.the-variants.{Down, Up}
 
@@ -83,9 +89,10 @@ lower-is (negsuc y) m x e =
 
 -- ---- the map
 
-pub shift-refused : (b : List ℕ) (r : Refusal) → checkFile 1 b ≡ refused r → (d : ℤ) (capacity : ℕ) → shiftOutcome b d capacity ≡ refused r
-unfolding shiftOutcome
-shift-refused b r e d capacity = rw e
+pub shift-refused : (b : List ℕ) (r : Refusal) → checkFile 1 b ≡ refused r → (d : ℤ) (out : List ℕ)
+    → (Refused r ≡ fileAnswer (shiftOutcome b d (length out))) × (out ≡ shiftBuffer b d out)
+unfolding shiftOutcome shiftBuffer
+shift-refused b r e d out = (rw e, rw e)
 
 module _ (b : List ℕ) (s : Summary) (e : checkFile 1 b ≡ done s) (d : ℤ) where
   pub checked : CheckedMap b (s .n) (s .k)
@@ -100,15 +107,13 @@ module _ (b : List ℕ) (s : Summary) (e : checkFile 1 b ≡ done s) (d : ℤ) w
     same i h =
         is i ∙ ap (shiftedBy d) (sym (at-list b (s .n) (s .k) (checked .header .nIs) (checked .header .kIs) i h))
 
-    pub shift-outcome : (capacity : ℕ) → mapInto (s .n) v capacity ≡ shiftOutcome b d capacity
-    unfolding shiftOutcome
-    shift-outcome capacity = mapInto-cong (s .n) v shifted same capacity ∙ rw e
-
-    pub shift-buffer : (out : List ℕ) → fileBuffer (mapInto (s .n) v (length out)) (s .n) v out ≡ shiftBuffer b d out
-    unfolding shiftBuffer
-    shift-buffer out =
-        mapBuffer-cong (s .n) v shifted same (mapInto (s .n) v (length out)) out
-        ∙ rw (shift-outcome (length out), length-listOf b, checked .header .nIs)
+    pub shift-written : (out d' : List ℕ) (x : FileAnswer) → x ≡ fileAnswer (mapInto (s .n) v (length out))
+        → d' ≡ fileBuffer (mapInto (s .n) v (length out)) (s .n) v out
+        → (x ≡ fileAnswer (shiftOutcome b d (length out))) × (d' ≡ shiftBuffer b d out)
+    unfolding shiftOutcome shiftBuffer
+    shift-written out d' x answer buffer =
+        map-written (s .n) v shifted same (length (listOf b)) (length-listOf b ∙ checked .header .nIs) out d' x
+        (shiftOutcome b d (length out)) (rw e) answer buffer
 
   module _ (m : ℕ) where
     abbrev raised : ℕ → ℕ

@@ -1,11 +1,12 @@
 -- The walk for the least slot where the result is too large.
 --   Walked        its invariant: no slot below `slot` is too large, and both cursors stand there
---   walked-start, -more, -found, -none
---   MostOf, most-more, most-all    a distance that none is above
+--   walked-start, -more    at the first slot with an entry in either map, and at the next one
+--   walked-found, -none    the slot is too large, or no slot is
+--   MostOf, most-more, most-all    a distance that none is above: of the entries before j, one entry on, of all slots
 --   none-large    no slot is too large where the largest of both are not
 -- Axioms: none.
 use mathlib.Core.Path.{_≡_, sym}
-use Prim.Native.Nat.{ℕ, _+_, _-_, _≤_, _<_, min, max}
+use Prim.Native.Nat.{ℕ, _+_, _-_, _≤_, _<_, min}
 use native.Mathlib.Omega.{arith}
 use native.Mathlib.Decide.{decLe}
 use mathlib.Core.Bool.{false}
@@ -15,11 +16,13 @@ use Rattle.pciv_bytes.proofs.RangesLaws.{firstBelow-at, firstBelow-none}
 use Rattle.pciv_format.specs.Layout.{maxDistance}
 use Rattle.pciv_format.specs.Parts.{Parts, valueOf, SoundParts}
 use Rattle.pciv_format.proofs.PartsLaws.{slot-cases}
+use Rattle.pciv_build.specs.Build.{NoneAbove}
 use Rattle.pciv_map.specs.Cursor.{Cursor, nextSlot}
 use Rattle.pciv_map.proofs.CursorLaws.{cursor-start, cursor-to, nextSlot-low, nextSlot-le, gap-small}
-use Rattle.pciv_arith_add.specs.Addition.{addendAt, addedAt, tooLarge, CursorOf, nextOf, Small, NoneAbove}
+use Rattle.pciv_arith_add.specs.Addition.{addendAt, addedAt, tooLarge, CursorOf, nextOf, Small}
 use Rattle.pciv_arith_add.specs.declared.addend.Addend.{Addend}
-use Rattle.pciv_arith_add.proofs.PairOfParts.{SoundPair, cursorOf-start, cursorOf-to, nextOf-low, addend-gap}
+use Rattle.pciv_check.proofs.SoundPairLaws.{SoundPair}
+use Rattle.pciv_arith_add.proofs.AddendLaws.{cursorOf-start, cursorOf-to, nextOf-low, addend-gap}
 
 pub record Walked (of : Addend) (P Q : Parts) (j t slot : ℕ) : Type 0 where
   pub inside : slot ≤ P .n
@@ -64,7 +67,8 @@ module _ {P Q : Parts} (p : SoundPair P Q) (of : Addend) (small : Small of) wher
       is .0
 
   -- the slot is fine, and both cursors are behind it
-  pub walked-more : (j t slot j' t' slot' : ℕ) → Walked of P Q j t slot → slot < P .n → addedAt of P Q slot ≤ maxDistance
+  pub walked-more : (j t slot j' t' slot' : ℕ) → Walked of P Q j t slot → slot < P .n
+      → addedAt of P Q slot ≤ maxDistance
       → Cursor P j' (slot + 1) → CursorOf of Q t' (slot + 1) → slot' ≡ min (nextSlot P j') (nextOf of Q t')
       → Walked of P Q j' t' slot' × (slot + 1 ≤ slot')
   walked-more j t slot j' t' slot' w here fits first second is =
@@ -97,8 +101,8 @@ pub record MostOf (P : Parts) (j x : ℕ) : Type 0 where
   pub inline : 255 ≤ x
   pub entries : (t : ℕ) → t < j → P .distance t ≤ x
 
-pub most-more : (P : Parts) (j x y : ℕ) → MostOf P j x → y ≡ max x (P .distance j) → MostOf P (j + 1) y
-most-more P j x y m is =
+pub most-more : (P : Parts) (j x y : ℕ) → MostOf P j x → x ≤ y → P .distance j ≤ y → MostOf P (j + 1) y
+most-more P j x y m more fits =
     record {
       inline = omega (arith, m .inline);
       entries = λ t h.
@@ -114,7 +118,8 @@ most-all P sound bytes j x m all i h =
     slot-cases P sound bytes i h (λ small e. omega (arith, m .inline))
     (λ t ht at e w overflows. omega (arith, m .entries t (omega arith)))
 
-pub none-large : (of : Addend) (P Q : Parts) (x y : ℕ) → NoneAbove (P .n) (valueOf P) x → NoneAbove (P .n) (addendAt of Q) y
+pub none-large : (of : Addend) (P Q : Parts) (x y : ℕ) → NoneAbove (P .n) (valueOf P) x
+    → NoneAbove (P .n) (addendAt of Q) y
     → y ≤ maxDistance - x → x ≤ maxDistance → P .n ≡ firstBelow (tooLarge of P Q) (P .n)
 none-large of P Q x y first second small fits =
     sym (firstBelow-none (tooLarge of P Q) (P .n)

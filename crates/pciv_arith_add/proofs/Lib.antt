@@ -1,5 +1,4 @@
-pub mod PairOfParts
+pub mod AddendLaws
 pub mod BytesLaws
 pub mod LargeLaws
 pub mod PutLaws
-pub mod IntoLaws

@@ -5,7 +5,7 @@
 --   Putting                        the walk's invariant: the entries of slots from `from` on are left, and both cursors
 --                                  are there
 --   PutAt                          and at the next slot in overflow
---   putting-start, -next, -more
+--   putting-start, -next, -more    before the first entry; at the next slot; one entry on
 -- Axioms: none.
 use mathlib.Core.Path.{_≡_, sym, ap, ap₂, _∙_}
 use Prim.Native.Nat.{ℕ, _+_, _-_, _*_, _<_}
@@ -25,8 +25,9 @@ use Rattle.pciv_bytes.proofs.SumLaws.{sumFrom-cong}
 use Rattle.pciv_format.specs.Layout.{inOverflow, primaryByte, primary, overflowCount}
 use Rattle.pciv_format.specs.Parts.{Parts}
 use Rattle.pciv_format.specs.Check.{fileParts}
+use Rattle.pciv_format.proofs.PartsLaws.{primaryByte-full}
 use Rattle.pciv_build.proofs.EntriesLaws.{overflowCount-sum}
-use Rattle.pciv_build.proofs.FillLaws.{full-is, Filling, Next, fill-next, fill-more}
+use Rattle.pciv_build.proofs.FillLaws.{Filling, Next, fill-next, fill-more}
 use Rattle.pciv_map.specs.Cursor.{Cursor, TakenAt}
 use Rattle.pciv_map.specs.declared.cursor.Taken.{Taken}
 use Rattle.pciv_format.proofs.MapLaws.{primaryOf, primary-length, primary-at}
@@ -34,7 +35,8 @@ use Rattle.pciv_map.proofs.CursorLaws.{cursor-start, cursor-gap}
 use Rattle.pciv_arith_add.specs.Addition.{addedAt, CursorOf, TakenOf}
 use Rattle.pciv_arith_add.specs.declared.addend.Addend.{Addend}
 use Rattle.pciv_arith_add.specs.declared.addend.Addend.the-variants.{Map, Number}
-use Rattle.pciv_arith_add.proofs.PairOfParts.{SoundPair, Maps, sound, cursorOf-start, cursorOf-gap}
+use Rattle.pciv_check.proofs.SoundPairLaws.{SoundPair, Maps, sound}
+use Rattle.pciv_arith_add.proofs.AddendLaws.{cursorOf-start, cursorOf-gap}
 use Rattle.pciv_arith_add.proofs.BytesLaws.{added-byte, from-is}
 
 -- ---- the count and the primary bytes
@@ -69,7 +71,7 @@ module _ {a b : List ℕ} {n ka kb : ℕ} (m : Maps a b n ka kb) where
       ≡ overflowCount n (addedAt Map P Q)
   count-map =
       count-is (addedAt Map P Q) (λ i. eqb (pairAt Add (primaryOf a n) (primaryOf b n) i) 255)
-      (λ i h. ap (λ (x : ℕ). eqb x 255) (sum-map i h) ∙ full-is (addedAt Map P Q i))
+      (λ i h. ap (λ (x : ℕ). eqb x 255) (sum-map i h) ∙ primaryByte-full (addedAt Map P Q i))
 
   pub count-number : (d : ℕ)
       → sumFrom (byteFrom (primaryOf a n) (255 - primaryByte d)) 0 (length (primaryOf a n))
@@ -79,17 +81,20 @@ module _ {a b : List ℕ} {n ka kb : ℕ} (m : Maps a b n ka kb) where
       (λ i h. ap (leb (255 - primaryByte d)) (first-at i h) ∙ from-is (sound m) d i h)
 
   -- a table of the primary bytes of v
-  table-is : (v f : ℕ → ℕ) → ((i : ℕ) → i < n → f i ≡ primaryByte (v i)) → table f 0 (length (primaryOf a n)) ≡ primary n v
+  table-is : (v f : ℕ → ℕ) → ((i : ℕ) → i < n → f i ≡ primaryByte (v i))
+      → table f 0 (length (primaryOf a n)) ≡ primary n v
   unfolding primary
   table-is v f same =
       rw (primary-length a n ka (m .pair .first))
       (table-cong f (λ (i : ℕ). primaryByte (v i)) 0 n (λ i h. same i (omega arith)))
 
-  pub primary-map : table (pairAt Add (primaryOf a n) (primaryOf b n)) 0 (length (primaryOf a n)) ≡ primary n (addedAt Map P Q)
+  pub primary-map : table (pairAt Add (primaryOf a n) (primaryOf b n)) 0 (length (primaryOf a n))
+      ≡ primary n (addedAt Map P Q)
   primary-map = table-is (addedAt Map P Q) (pairAt Add (primaryOf a n) (primaryOf b n)) sum-map
 
   pub primary-number : (d : ℕ)
-      → table (oneAt Add (primaryOf a n) (primaryByte d)) 0 (length (primaryOf a n)) ≡ primary n (addedAt (Number d) P Q)
+      → table (oneAt Add (primaryOf a n) (primaryByte d)) 0 (length (primaryOf a n))
+      ≡ primary n (addedAt (Number d) P Q)
   primary-number d = table-is (addedAt (Number d) P Q) (oneAt Add (primaryOf a n) (primaryByte d)) (sum-number d)
 
 -- ---- the overflow entries
@@ -106,7 +111,8 @@ pub record PutAt (of : Addend) (P Q : Parts) (from : ℕ) (d : List ℕ) (at j t
   pub second : CursorOf of Q t slot
 
 module _ {P Q : Parts} (p : SoundPair P Q) (of : Addend) (d₀ : List ℕ) where
-  pub putting-start : (d : List ℕ) → Filling (P .n) (addedAt of P Q) d₀ 0 d (40 + P .n) → Putting of P Q d₀ d (40 + P .n) 0 0
+  pub putting-start : (d : List ℕ) → Filling (P .n) (addedAt of P Q) d₀ 0 d (40 + P .n)
+      → Putting of P Q d₀ d (40 + P .n) 0 0
   putting-start d fill = record { from = 0; fill = fill; first = cursor-start P; second = cursorOf-start of Q }
 
   pub putting-next : (d : List ℕ) (at j t : ℕ) (w : Putting of P Q d₀ d at j t)
@@ -118,7 +124,8 @@ module _ {P Q : Parts} (p : SoundPair P Q) (of : Addend) (d₀ : List ℕ) where
         next = next;
         first = cursor-gap P (p .first) (p .bytes-first) j (w .from) slot (w .first) (next .low)
             (λ u h₁ h₂. omega (arith, next .clear u h₁ h₂));
-        second = cursorOf-gap p of t (w .from) slot (w .second) (next .low) (λ u h₁ h₂. omega (arith, next .clear u h₁ h₂));
+        second = cursorOf-gap p of t (w .from) slot (w .second) (next .low)
+            (λ u h₁ h₂. omega (arith, next .clear u h₁ h₂));
       }
 
   -- the entry of the slot is written

@@ -5,10 +5,9 @@
 --   tooLarge of P Q i       it is above what a file can hold (refusal 11)
 --   CursorOf, TakenOf, nextOf    a cursor in the entries of Q; nothing is asked of it where a number is added
 --   Small of                a number that is added is at most what a shift can be by
---   NoneAbove n v x, Fits n v       no distance is above x; every one can stand in a file
 -- Laws are in proofs/. Axioms: none.
 use mathlib.Core.Path.{_≡_}
-use Prim.Native.Nat.{ℕ, _+_, _^_, _≤_, _<_}
+use Prim.Native.Nat.{ℕ, _+_, _^_, _<_}
 use mathlib.Core.Bool.{Bool}
 use lib.Dec.{ltb}
 use Rattle.pciv_format.specs.Layout.{maxDistance, primaryByte}
@@ -49,13 +48,3 @@ pub record TakenOf (of : Addend) (Q : Parts) (slot : ℕ) (r : Taken) : Type 0 w
 abbrev pub Small : Addend → Type 0
 Small Map = Unit {0}
 Small (Number d) = d < 2 ^ 31
-
--- ---- how large distances are
-
--- no distance is above x
-abbrev pub NoneAbove : ℕ → (ℕ → ℕ) → ℕ → Type 0
-NoneAbove n v x = (i : ℕ) → i < n → v i ≤ x
-
--- every distance can stand in a file
-abbrev pub Fits : ℕ → (ℕ → ℕ) → Type 0
-Fits n v = NoneAbove n v maxDistance

@@ -1,29 +1,23 @@
 // Refusal 11: the least slot where the result is above what a file can hold. Only where one of the two is in
 // overflow can it be, so a walk over the overflow entries of both finds it.
 ghost use mathlib.Core.Path.{_≡_};
-ghost use Prim.Native.Nat.{min, max};
+ghost use Prim.Native.Nat.{min};
 ghost use Rattle.pciv_bytes.specs.Ranges.{firstBelow};
 ghost use Rattle.pciv_format.specs.Parts.{valueOf};
 ghost use Rattle.pciv_format.specs.Check.{fileParts, CheckedMap};
 ghost use Rattle.pciv_check.specs.Pair.{CheckedPair};
+ghost use Rattle.pciv_build.specs.Build.{NoneAbove};
 ghost use Rattle.pciv_map.specs.Cursor.{nextSlot};
-ghost use Rattle.pciv_arith_add.specs.Addition.{addendAt, Small, NoneAbove, nextOf, tooLarge};
+ghost use Rattle.pciv_arith_add.specs.Addition.{addendAt, Small, nextOf, tooLarge};
 use crate::addend::Addend;
 use crate::addend::addend_slot;
 use crate::addend::take_addend;
+use pciv_bytes::numbers::smaller;
+use pciv_format::MAX_DISTANCE;
 use pciv_format::SENTINEL;
 use pciv_map::cursor::next_slot;
 use pciv_map::cursor::take_at;
 use pciv_map::entries::entry_distance;
-
-// The largest distance.
-const MAX_DISTANCE: u32 = 4294967295;
-
-fn smaller(x: usize, y: usize) -> usize
-    ensures { λ r. ⌜ r ≡ min x y ⌝ }
-{
-    if x <= y { x } else { y }
-}
 
 // The next slot with an overflow entry in either map, or n.
 fn either_slot(
@@ -64,12 +58,6 @@ fn walk_large(of: Addend, a: &[u8], b: &[u8], n: usize, ka: usize, kb: usize) ->
     n
 }
 
-fn larger(x: u32, y: u32) -> u32
-    ensures { λ r. ⌜ r ≡ max x y ⌝ }
-{
-    if x <= y { y } else { x }
-}
-
 // A distance that none of the map is above: the largest in overflow, or 255.
 fn most_in(file: &[u8], n: usize, k: usize) -> u32
     requires { ⌜ CheckedMap (now file) n k ⌝ }
@@ -78,8 +66,11 @@ fn most_in(file: &[u8], n: usize, k: usize) -> u32
     let mut most: u32 = SENTINEL as u32;
     let mut j = 0;
     while j < k {
-        most = larger(most, entry_distance(file, n, j));
+        let x = entry_distance(file, n, j);
         j += 1;
+        if most < x {
+            most = x;
+        }
     }
     most
 }

@@ -21,7 +21,7 @@ use pciv_build::begin;
 use pciv_build::finish;
 use pciv_format::DISTANCE_OVERFLOW;
 use pciv_format::FileAnswer;
-use pciv_format::Refusal;
+use pciv_layout::refusals::refuse_file;
 
 // Writes the result's file to the front of out. Refusals: 11, then 12.
 pub fn added_into(
@@ -40,11 +40,7 @@ pub fn added_into(
 {
     let large = first_too_large(of, a, b, n, ka, kb);
     if large < n {
-        return FileAnswer::Refused(Refusal {
-            number: DISTANCE_OVERFLOW,
-            map: 0,
-            place: large,
-        });
+        return refuse_file(DISTANCE_OVERFLOW, 0, large);
     }
     let k = count_added(of, a, b, n, ka, kb);
     let begun = begin(out, n, k);

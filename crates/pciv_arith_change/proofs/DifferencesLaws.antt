@@ -1,4 +1,12 @@
 -- Laws of signed differences that are put right entry by entry.
+--   bytes-more                a part of the differences of bytes, raised and lowered again, is written
+--   moved-more, -done, -all   one entry on; none left; what all entries of a map make of a list
+--   excess-subtracted, -reduced    a difference of 255 moved by what a distance exceeds it
+--   small-table, -more        numbers that are small: in a table, and past an entry
+--   withBytes, withOne, withBoth   the list with the differences of bytes, of a's bytes and b's distances, of distances
+--   Given                     two maps, and a list with space for the differences
+--   bytes-differ, one-moved, both-moved    each of them from the one before
+--   small-bytes, small-one    what each pass is given is small
 -- Axioms: none.
 use mathlib.Core.Path.{_≡_, ap, ap₂, _∙_}
 use Prim.Native.Nat.{ℕ, zero, suc, _+_, _-_, _^_, _≤_, _<_}
@@ -16,11 +24,13 @@ use Rattle.pciv_bytes.specs.ByteAt.{byteAt}
 use Rattle.pciv_bytes.proofs.RangesLaws.{length-table, getD-table, table-cong, table-shift}
 use Rattle.pciv_bytes.proofs.WriteLaws.{sets-front, getD-sets, sets-table-part}
 use Rattle.pciv_format.specs.Parts.{Parts, lowestSlot, valueOf, SoundParts}
-use Rattle.pciv_format.specs.Check.{fileParts, CheckedMap}
+use Rattle.pciv_format.specs.Check.{fileParts}
 use Rattle.pciv_format.proofs.PartsLaws.{entry-good}
 use Rattle.pciv_format.proofs.MapLaws.{primaryOf, primary-length, primary-at, value-lt}
 use Rattle.pciv_format.proofs.PatchLaws.{over, over-start, over-at, over-more, over-end}
-use Rattle.pciv_arith_change.specs.Differences.{differenceAt, raisedAt, loweredAt, movedBy, movedAt, movedFrom, SmallFrom}
+use Rattle.pciv_arith_change.specs.Differences.{differenceAt, raisedAt, loweredAt, movedBy, movedAt}
+use Rattle.pciv_arith_change.specs.Differences.{movedFrom, SmallFrom}
+use Rattle.pciv_check.proofs.SoundPairLaws.{Maps}
 use Rattle.pciv_arith_change.specs.declared.Side.{Side}
 use Rattle.pciv_arith_change.specs.declared.Side.the-variants.{Subtracted, Reduced}
 use Rattle.pciv_arith_change.proofs.SignedLaws.{mag-sub, sub-sub, sub-add, lowered-raised}
@@ -30,7 +40,8 @@ use Rattle.pciv_arith_change.proofs.SignedLaws.{mag-sub, sub-sub, sub-a
 module _ (a b : List ℕ) (bytes : Bytes a) where
   -- c of them, raised in a list t of their own
   part-lowered : (t : List ℕ) (i c : ℕ) → c ≤ length t
-      → table (loweredAt (sets t 0 (table (raisedAt (byteAt a) (byteAt b) i) 0 c))) 0 c ≡ table (differenceAt (byteAt a) (byteAt b)) i c
+      → table (loweredAt (sets t 0 (table (raisedAt (byteAt a) (byteAt b) i) 0 c))) 0 c
+      ≡ table (differenceAt (byteAt a) (byteAt b)) i c
   part-lowered t i c space =
       let g : ℕ → ℕ = raisedAt (byteAt a) (byteAt b) i in
       table-shift _ (differenceAt (byteAt a) (byteAt b)) 0 i c
@@ -130,34 +141,32 @@ module _ (a b : List ℕ) (n ka kb : ℕ) where
 
 -- the maps, and a list d with space for the differences
 pub record Given (a b : List ℕ) (n ka kb : ℕ) (d : List ℤ) : Type 0 where
-  pub first : CheckedMap a n ka
-  pub second : CheckedMap b n kb
-  pub bytes-a : Bytes a
-  pub bytes-b : Bytes b
+  pub maps : Maps a b n ka kb
   pub long : n ≤ length d
 
 module _ {a b : List ℕ} {n ka kb : ℕ} {d : List ℤ} (g : Given a b n ka kb d) where
-  pub bytes-differ : sets d 0 (table (differenceAt (byteAt (primaryOf a n)) (byteAt (primaryOf b n))) 0 (length (primaryOf a n)))
+  pub bytes-differ : sets d 0
+      (table (differenceAt (byteAt (primaryOf a n)) (byteAt (primaryOf b n))) 0 (length (primaryOf a n)))
       ≡ withBytes a b n ka kb d
   bytes-differ =
-      rw (primary-length a n ka (g .first))
+      rw (primary-length a n ka (g .maps .pair .first))
       (ap (sets d 0)
       (table-cong _ (differenceAt (fileParts a n ka .byte) (fileParts b n kb .byte)) 0 n
       (λ i h.
-      ap₂ (λ (x y : ℕ). pos y -ℤ pos x) (primary-at a n ka (g .first) i (omega arith))
-      (primary-at b n kb (g .second) i (omega arith)))))
+      ap₂ (λ (x y : ℕ). pos y -ℤ pos x) (primary-at a n ka (g .maps .pair .first) i (omega arith))
+      (primary-at b n kb (g .maps .pair .second) i (omega arith)))))
 
   pub one-moved : movedFrom Reduced (fileParts b n kb) 0 kb (withBytes a b n ka kb d) ≡ withOne a b n ka kb d
   one-moved =
       moved-all Reduced (λ i y. pos y -ℤ pos (fileParts a n ka .byte i))
       (λ i e. excess-reduced (fileParts a n ka .byte i) e)
-      (fileParts b n kb) (g .second .parts) (λ i. g .bytes-b (40 + i)) d (g .long)
+      (fileParts b n kb) (g .maps .pair .second .parts) (λ i. g .maps .bytes-b (40 + i)) d (g .long)
 
   pub both-moved : movedFrom Subtracted (fileParts a n ka) 0 ka (withOne a b n ka kb d) ≡ withBoth a b n ka kb d
   both-moved =
       moved-all Subtracted (λ i x. pos (valueOf (fileParts b n kb) i) -ℤ pos x)
       (λ i e. excess-subtracted (valueOf (fileParts b n kb) i) e)
-      (fileParts a n ka) (g .first .parts) (λ i. g .bytes-a (40 + i)) d (g .long)
+      (fileParts a n ka) (g .maps .pair .first .parts) (λ i. g .maps .bytes-a (40 + i)) d (g .long)
 
   -- what each pass is given
   small : (y : ℕ → ℕ) → ((i : ℕ) → i < n → y i < 2 ^ 32)
@@ -166,11 +175,11 @@ module _ {a b : List ℕ} {n ka kb : ℕ} {d : List ℤ} (g : Given a b n ka kb 
       let x : ℕ → ℕ = fileParts a n ka .byte in (
         rw length-sets (g .long),
         small-table (differenceAt x y) n d (g .long)
-            (λ i h. small-difference (x i) (y i) (omega (arith, g .bytes-a (40 + i))) (each i h)),
+            (λ i h. small-difference (x i) (y i) (omega (arith, g .maps .bytes-a (40 + i))) (each i h)),
       )
 
   pub small-bytes : (n ≤ length (withBytes a b n ka kb d)) × SmallFrom 0 n (withBytes a b n ka kb d)
-  small-bytes = small (fileParts b n kb .byte) (λ i h. omega (arith, g .bytes-b (40 + i)))
+  small-bytes = small (fileParts b n kb .byte) (λ i h. omega (arith, g .maps .bytes-b (40 + i)))
 
   pub small-one : (n ≤ length (withOne a b n ka kb d)) × SmallFrom 0 n (withOne a b n ka kb d)
-  small-one = small (valueOf (fileParts b n kb)) (value-lt b n kb (g .second) (g .bytes-b))
+  small-one = small (valueOf (fileParts b n kb)) (value-lt b n kb (g .maps .pair .second) (g .maps .bytes-b))

@@ -1,7 +1,10 @@
--- Laws of signed numbers: how large a sum or a difference is, and differences of what exceeds a number.
--- `mag z` is n both for n and for -(n + 1).
+-- Laws of signed numbers. `mag z` is n both for n and for -(n + 1).
+--   mag-sum, mag-sub     how large a sum and a difference are
+--   sub-sub, sub-add     taking off more at once, and adding to what something is taken off
+--   lowered-raised       255 more, and 255 less again
+-- Axioms: none.
 use mathlib.Core.Path.{_≡_, sym, ap, _∙_}
-use Prim.Native.Nat.{ℕ, zero, suc, _+_, _-_, _^_, _≤_, _<_}
+use Prim.Native.Nat.{ℕ, zero, suc, _+_, _-_, _≤_, _<_}
 use native.Mathlib.Omega.{arith}
 use mathlib.Core.Bool.{Bool, true, false, cond}
 use lib.IntN.{ℤ, pos, negsuc, negℤ, _+ℤ_, _-ℤ_, +ℤ-assoc, +ℤ-comm, +ℤ-negℤ-cancel, negℤ-+ℤ}

@@ -21,8 +21,8 @@ use pciv_map::entries::entry_slot;
 use pciv_passes::pairs::ByteOp;
 use pciv_passes::pairs::map_into;
 
-// A distance lowered by m.
-fn lower(x: u32, m: u32) -> u32
+// A distance lowered by m, to 0 at the least.
+fn truncated_difference(x: u32, m: u32) -> u32
     ensures { λ r. ⌜ r ≡ x - m ⌝ }
 {
     if x <= m { 0 } else { x - m }
@@ -36,7 +36,7 @@ fn count_lowered(file: &[u8], n: usize, k: usize, m: u32) -> usize
     let mut count: usize = 0;
     let mut j = 0;
     while j < k {
-        let x = lower(entry_distance(file, n, j), m);
+        let x = truncated_difference(entry_distance(file, n, j), m);
         j += 1;
         if 255 <= x {
             count += 1;
@@ -62,7 +62,7 @@ fn put_primary(out: &mut [u8], file: &[u8], n: usize, k: usize, m: u32)
     let mut j = 0;
     while j < k {
         let slot = entry_slot(file, n, j);
-        out[HEADER_LEN + slot] = primary_byte(lower(entry_distance(file, n, j), m));
+        out[HEADER_LEN + slot] = primary_byte(truncated_difference(entry_distance(file, n, j), m));
         j += 1;
     }
 }
@@ -77,7 +77,7 @@ fn put_entries(out: &mut [u8], file: &[u8], n: usize, k: usize, m: u32)
     let mut j = 0;
     while j < k {
         let slot = entry_slot(file, n, j);
-        let x = lower(entry_distance(file, n, j), m);
+        let x = truncated_difference(entry_distance(file, n, j), m);
         j += 1;
         if 255 <= x {
             at = put_entry(out, at, slot, x);

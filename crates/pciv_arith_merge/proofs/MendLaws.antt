@@ -1,11 +1,11 @@
 -- Primary bytes that are put right at the slots of a map's overflow entries.
 --   Mended A v d₀ j d     d₀ was right where A is stored inline; in d the slots of the first j entries are right too
 --   mended-start, -more, -end    before the first entry, one entry on, and after the last
---   Settled A v d₀ j d p  the same where the overflow entries of v are written too, and those of the slots past the first
---                         j entries of A are left to write from p on
---   settled-start, -byte, -space, -more, -pass, -end
---                         before the first entry; a byte is put right, and there is space for its entry, which is written, or
---                         there is none; after the last
+--   Settled A v d₀ j d p  the same where the overflow entries of v are written too: those of the slots past the first j
+--                         entries of A are left to write from p on
+--   settled-start, -end   before the first entry, and after the last
+--   settled-size, -byte   the buffer's length, and that slot i has a byte in it
+--   settled-space, -more, -pass    a byte is put right, and there is space for its entry, which is written, or none is
 --   settled-over          what the primary array was before does not matter
 -- Axioms: none.
 use mathlib.Core.Path.{_≡_, refl, sym, ap, _∙_}
@@ -25,10 +25,10 @@ use Rattle.pciv_format.specs.Parts.{Parts, lowestSlot, SoundParts}
 use Rattle.pciv_format.proofs.PartsLaws.{entry-good}
 use Rattle.pciv_format.proofs.LayoutLaws.{length-primary}
 use Rattle.pciv_build.proofs.EntriesLaws.{EntriesLeft, entriesFrom, entries-start}
+use Rattle.pciv_build.proofs.AlongLaws.{Along, entries-fit, entries-entry, entries-pass, entries-last}
 use Rattle.pciv_format.proofs.PrimaryLaws.{primary-byte}
 use Rattle.pciv_format.proofs.EntryLaws.{gap-inline}
 use Rattle.pciv_arith_merge.specs.Merge.{partsPut, InlineRight}
-use Rattle.pciv_arith_merge.proofs.LedLaws.{entries-fit, entries-entry, entries-pass, entries-last}
 
 pub record Mended (A : Parts) (v : ℕ → ℕ) (d₀ : List ℕ) (j : ℕ) (d : List ℕ) : Type 0 where
   pub size : length d ≡ length d₀
@@ -39,7 +39,8 @@ pub record Mended (A : Parts) (v : ℕ → ℕ) (d₀ : List ℕ) (j : ℕ) (d :
 pub mended-start : (A : Parts) (v : ℕ → ℕ) (d : List ℕ) → InlineRight A v d → Mended A v d 0 d
 mended-start A v d right = record { size = refl; rest = refl; inline = right; passed = λ i h low. absurd (omega arith) }
 
-module _ (A : Parts) (s : SoundParts A) (bytes : (i : ℕ) → A .byte i < 256) (v : ℕ → ℕ) (d₀ : List ℕ) (j : ℕ) (d : List ℕ)
+module _ (A : Parts) (s : SoundParts A) (bytes : (i : ℕ) → A .byte i < 256) (v : ℕ → ℕ) (d₀ : List ℕ) (j : ℕ)
+    (d : List ℕ)
     (m : Mended A v d₀ j d) where
   -- a slot between two entries
   between : (i : ℕ) → j ≤ A .k → (j < A .k → i < A .slot j) → i < A .n → getD d (40 + i) 0 ≡ primaryByte (v i)
@@ -50,14 +51,16 @@ module _ (A : Parts) (s : SoundParts A) (bytes : (i : ℕ) → A .byte i < 256) 
       ]
 
   module _ (here : j < A .k) (slot x : ℕ) (at : slot ≡ A .slot j) (is : x ≡ primaryByte (v (A .slot j))) where
-    other : (i : ℕ) → (i ≡ slot → ⊥) → getD d (40 + i) 0 ≡ primaryByte (v i) → getD (set d (40 + slot) x) (40 + i) 0 ≡ primaryByte (v i)
+    other : (i : ℕ) → (i ≡ slot → ⊥) → getD d (40 + i) 0 ≡ primaryByte (v i)
+        → getD (set d (40 + slot) x) (40 + i) 0 ≡ primaryByte (v i)
     other i ne right = getD-set-other d (40 + slot) (40 + i) x 0 (λ q. ne (omega arith)) ∙ right
 
     up-to : (i : ℕ) → i < A .n → i ≤ slot → getD (set d (40 + slot) x) (40 + i) 0 ≡ primaryByte (v i)
     up-to i inside h =
         elim (decLe slot i) [
           | yes last ↦ (let e : i ≡ slot = omega arith in
-              rw e (getD-set-same d (40 + slot) x 0 (omega (arith, m .inline .space)) ∙ is ∙ ap (λ (u : ℕ). primaryByte (v u)) (sym at)))
+              rw e (getD-set-same d (40 + slot) x 0 (omega (arith, m .inline .space)) ∙ is
+              ∙ ap (λ (u : ℕ). primaryByte (v u)) (sym at)))
           | no last ↦ other i (λ q. omega arith) (between i (omega arith) (λ more. omega arith) inside)
         ]
 
@@ -68,7 +71,8 @@ module _ (A : Parts) (s : SoundParts A) (bytes : (i : ℕ) → A .byte i < 256) 
         record {
           size = simp length-set (m .size);
           rest = m .rest
-              ∙ sym (sets-set-inside (primary (A .n) v) d 40 (40 + slot) x (omega arith) (omega (arith, length-primary (A .n) v)));
+              ∙ sym (sets-set-inside (primary (A .n) v) d 40 (40 + slot) x (omega arith)
+              (omega (arith, length-primary (A .n) v)));
           inline =
               record {
                 space = simp length-set (m .inline .space);
@@ -110,29 +114,31 @@ pub record Settled (A : Parts) (v : ℕ → ℕ) (d₀ : List ℕ) (j : ℕ) (d 
   pub mended : Mended A v d₀ j bytes
   pub left : EntriesLeft (A .n) v bytes (40 + A .n) (lowestSlot A j) d p
 
-pub settled-start : (A : Parts) (v : ℕ → ℕ) (d : List ℕ) → InlineRight A v d → 40 + A .n + 12 * overflowCount (A .n) v ≤ length d
+pub settled-start : (A : Parts) (v : ℕ → ℕ) (d : List ℕ) → InlineRight A v d
+    → 40 + A .n + 12 * overflowCount (A .n) v ≤ length d
     → Settled A v d 0 d (40 + A .n)
 settled-start A v d right space =
     record { bytes = d; mended = mended-start A v d right; left = entries-start (A .n) v d (40 + A .n) space }
 
-pub settled-size : (A : Parts) (v : ℕ → ℕ) (d₀ : List ℕ) (j : ℕ) (d : List ℕ) (p : ℕ) → Settled A v d₀ j d p → length d ≡ length d₀
-settled-size A v d₀ j d p e = e .left .size ∙ e .mended .size
+pub settled-size : {A : Parts} {v : ℕ → ℕ} {d₀ : List ℕ} {j : ℕ} {d : List ℕ} {p : ℕ} → Settled A v d₀ j d p
+    → length d ≡ length d₀
+settled-size e = e .left .size ∙ e .mended .size
 
-pub settled-byte : (A : Parts) (v : ℕ → ℕ) (d₀ : List ℕ) (j : ℕ) (d : List ℕ) (p i : ℕ) → Settled A v d₀ j d p → i < A .n
-    → 40 + i < length d
-settled-byte A v d₀ j d p i e h = omega (arith, e .left .size, e .mended .inline .space)
+pub settled-byte : {A : Parts} {v : ℕ → ℕ} {d₀ : List ℕ} {j : ℕ} {d : List ℕ} {p : ℕ} → Settled A v d₀ j d p
+    → (i : ℕ) → i < A .n → 40 + i < length d
+settled-byte e i h = omega (arith, e .left .size, e .mended .inline .space)
 
-module _ (A : Parts) (s : SoundParts A) (bytes : (i : ℕ) → A .byte i < 256) (v : ℕ → ℕ)
-    (led : (i : ℕ) → i < A .n → A .byte i < 255 → v i < 255) (d₀ : List ℕ) (j : ℕ) (d : List ℕ) (p : ℕ) (e : Settled A v d₀ j d p) where
+module _ {A : Parts} {v : ℕ → ℕ} (along : Along A v) {d₀ : List ℕ} {j : ℕ} {d : List ℕ} {p : ℕ}
+    (e : Settled A v d₀ j d p) where
   module _ (here : j < A .k) (slot x : ℕ) (at : slot ≡ A .slot j) (is : x ≡ primaryByte (v (A .slot j))) where
     next : Mended A v d₀ (j + 1) (set (e .bytes) (40 + slot) x)
-    next = mended-more A s bytes v d₀ j (e .bytes) (e .mended) here slot x at is
+    next = mended-more A (along .sound) (along .bytes) v d₀ j (e .bytes) (e .mended) here slot x at is
 
     patched : EntriesLeft (A .n) v (set (e .bytes) (40 + slot) x) (40 + A .n) (lowestSlot A j) (set d (40 + slot) x) p
-    patched = entries-patch (e .left) (40 + slot) x (omega (arith, entry-good A s j here .inside))
+    patched = entries-patch (e .left) (40 + slot) x (omega (arith, entry-good A (along .sound) j here .inside))
 
     pub settled-space : 255 ≤ v (A .slot j) → p + 12 ≤ length (set d (40 + slot) x)
-    settled-space overflows = entries-fit A s bytes v led j here patched overflows
+    settled-space overflows = entries-fit along j here patched overflows
 
     pub settled-more : 255 ≤ v (A .slot j) → (y : ℕ) (d' : List ℕ) (p' : ℕ) → y ≡ v (A .slot j)
         → d' ≡ sets (set d (40 + slot) x) p (le 8 slot ++ le 4 y) → p' ≡ p + 12 → Settled A v d₀ (j + 1) d' p'
@@ -140,7 +146,7 @@ module _ (A : Parts) (s : SoundParts A) (bytes : (i : ℕ) → A .byte i < 256) 
         record {
           bytes = set (e .bytes) (40 + slot) x;
           mended = next;
-          left = entries-entry A s bytes v led j here patched overflows slot y d' p' at same put past;
+          left = entries-entry along j here patched overflows slot y d' p' at same put past;
         }
 
     pub settled-pass : v (A .slot j) < 255 → Settled A v d₀ (j + 1) (set d (40 + slot) x) p
@@ -148,14 +154,14 @@ module _ (A : Parts) (s : SoundParts A) (bytes : (i : ℕ) → A .byte i < 256) 
         record {
           bytes = set (e .bytes) (40 + slot) x;
           mended = next;
-          left = entries-pass A s bytes v led j here patched inline;
+          left = entries-pass along j here patched inline;
         }
 
   pub settled-end : j ≤ A .k → A .k ≤ j → d ≡ partsPut (A .n) v d₀
   settled-end few last =
-      entries-last A s bytes v led j few last (e .left)
+      entries-last along j few last (e .left)
       ∙ ap (λ (l : List ℕ). sets l (40 + A .n) (overflowPart (A .n) v))
-      (mended-end A s bytes v d₀ j (e .bytes) (e .mended) few last)
+      (mended-end A (along .sound) (along .bytes) v d₀ j (e .bytes) (e .mended) few last)
 
 pub settled-over : (n : ℕ) (f v : ℕ → ℕ) (d d₁ d₂ : List ℕ) → d₁ ≡ sets d 40 (table f 0 n) → d₂ ≡ partsPut n v d₁
     → d₂ ≡ partsPut n v d

@@ -1,9 +1,10 @@
 -- Two maps combined, slot by slot: A and B are the parts of the first and of the second (docs/FORMAT.md, "Arithmetic").
 --   combinedOf o A B i       the combined distance at slot i
 --   combinedBytes o A B i    the operation o on the primary bytes of slot i
+--   slotOpOf o               a merge's operation as one of slots
 --   resultOf o a b n ka kb   the result of a routine on two files
 --   partsPut n v d           the buffer d with the primary array and the overflow entries of v in their places
---   combinedInto o .. capacity   the file of the combination into a buffer of `capacity` bytes: its summary, or refusal 12
+--   combinedInto o .. capacity   the outcome of writing the combination's file into a buffer of `capacity` bytes
 --   combinedBuffer o .. out  the buffer after that
 --   Shrinks o                the result is never above the first distance
 --   Before P i t             the entries before entry t of P have slots below i
@@ -21,7 +22,7 @@ use Rattle.pciv_format.specs.Layout.{primaryByte, primary, overflowPart}
 use Rattle.pciv_format.specs.Refusals.{Outcome}
 use Rattle.pciv_format.specs.Parts.{Parts, lowestSlot, valueOf}
 use Rattle.pciv_format.specs.Check.{fileParts}
-use Rattle.pciv_format.specs.Write.{fileInto, fileBuffer}
+use Rattle.pciv_format.specs.Write.{mapInto, fileBuffer}
 use Rattle.pciv_format.specs.Arith.{slotOp}
 use Rattle.pciv_format.specs.declared.Summary.{Summary}
 use Rattle.pciv_format.specs.declared.SlotOp.{SlotOp}
@@ -50,7 +51,7 @@ abbrev pub partsPut : ℕ → (ℕ → ℕ) → List ℕ → List ℕ
 partsPut n v d = sets (sets d 40 (primary n v)) (40 + n) (overflowPart n v)
 
 abbrev pub combinedInto : MergeOp → List ℕ → List ℕ → ℕ → ℕ → ℕ → ℕ → Outcome Summary
-combinedInto o a b n ka kb capacity = fileInto n (resultOf o a b n ka kb) capacity
+combinedInto o a b n ka kb capacity = mapInto n (resultOf o a b n ka kb) capacity
 
 abbrev pub combinedBuffer : MergeOp → List ℕ → List ℕ → ℕ → ℕ → ℕ → List ℕ → List ℕ
 combinedBuffer o a b n ka kb out =

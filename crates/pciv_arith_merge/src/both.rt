@@ -7,8 +7,8 @@ ghost use Rattle.pciv_format.specs.Check.{fileParts};
 ghost use Rattle.pciv_format.specs.declared.SlotOp.the-variants.{Minimum};
 ghost use Rattle.pciv_check.specs.Pair.{CheckedPair};
 ghost use Rattle.pciv_arith_merge.specs.Merge.{combinedOf};
-use crate::joint::lower;
 use crate::primary::count_full_slots;
+use pciv_bytes::numbers::smaller;
 use pciv_format::HEADER_LEN;
 use pciv_format::SENTINEL;
 use pciv_map::entries::entry_slot;
@@ -37,7 +37,7 @@ pub fn count_both(a: &[u8], b: &[u8], n: usize, ka: usize, kb: usize) -> usize
     requires { ⌜ CheckedPair (now a) (now b) n ka kb ⌝ }
     ensures { λ r. ⌜ r ≡ overflowCount n (combinedOf Minimum (fileParts (now (a .entry)) n ka) (fileParts (now (b .entry)) n kb)) ⌝ }
 {
-    if n / ENTRY_COST < lower(ka, kb) {
+    if n / ENTRY_COST < smaller(ka, kb) {
         return count_full_slots(ByteOp::Min, a, b, n, ka, kb);
     }
     if ka <= kb {

@@ -2,7 +2,7 @@
 // order of their slots. What it takes from each is chosen between values, and not by a branch, which a processor
 // would guess wrong every other time.
 ghost use mathlib.Core.Path.{_≡_};
-ghost use Prim.Native.Nat.{_+_, _*_, _≤_, _<_, min, max};
+ghost use Prim.Native.Nat.{_+_, _*_, _≤_, _<_};
 ghost use lib.ListN.{length};
 ghost use lib.Seq.{sets};
 ghost use lib.Dec.{eqb};
@@ -17,6 +17,7 @@ use crate::slots::slot_op;
 use pciv_build::put_entry;
 use pciv_bytes::little_endian::get32;
 use pciv_bytes::little_endian::get64;
+use pciv_bytes::numbers::smaller;
 use pciv_format::HEADER_LEN;
 use pciv_format::SlotOp;
 
@@ -42,12 +43,6 @@ fn read_head(file: &[u8], n: usize, k: usize, j: usize, place: usize) -> Head
         slot: get64(file, place),
         distance: get32(file, place + 8),
     }
-}
-
-pub(crate) fn lower(x: usize, y: usize) -> usize
-    ensures { λ r. ⌜ r ≡ min x y ⌝ }
-{
-    if x <= y { x } else { y }
 }
 
 // 1 where an entry's slot is the given one, else 0.
@@ -91,7 +86,7 @@ fn meet(
 {
     let x = read_head(a, n, ka, j, p);
     let y = read_head(b, n, kb, t, q);
-    let slot = lower(x.slot, y.slot);
+    let slot = smaller(x.slot, y.slot);
     let dx = distance_in(x, slot);
     let dy = distance_in(y, slot);
     Met {

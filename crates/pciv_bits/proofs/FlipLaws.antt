@@ -1,5 +1,5 @@
 -- Laws of flipping one slot of a mask: the exclusive or of its word with a single bit, or with none.
---   flipAt p s b i     p, flipped at slot s where b holds
+--   flipAt p s b i     p, flipped at slot s where b holds;  flipped ws s b  the word of slot s so
 --   maskHas-flip       the slots of words with one flipped
 --   maskOf-flip        a mask with one slot flipped is a mask
 -- Axioms: none.
@@ -20,7 +20,8 @@ use Rattle.pciv_format.specs.Mask.{bitAt, maskHas, maskOf}
 use Rattle.pciv_format.proofs.PartsLaws.{and-false}
 use Rattle.pciv_format.specs.Words.{Words}
 use Rattle.pciv_format.proofs.BitLaws.{eqb-flag, bitAt-lowest, bitAt-shl, bitAt-mod, bitAt-xor, bitAt-past, bitAt-none}
-use Rattle.pciv_format.proofs.MaskLaws.{maskHas-at, flag-maskHas, isMask, length-maskOf, maskOf-words, maskHas-maskOf, maskHas-maskOf-past, maskOf-unique}
+use Rattle.pciv_format.proofs.MaskLaws.{maskHas-at, flag-maskHas, isMask, length-maskOf, maskOf-words}
+use Rattle.pciv_format.proofs.MaskLaws.{maskHas-maskOf, maskHas-maskOf-past, maskOf-unique}
 use Rattle.pciv_bits.specs.Flags.{flipIf}
 
 abbrev pub flipAt : (ℕ → Bool) → ℕ → Bool → ℕ → Bool
@@ -53,7 +54,10 @@ single-bit true e j h = bitAt-mod (1 * 2 ^ e) 64 j h ∙ up-bit e j ∙ ap flag 
     and-true true = refl
     and-true false = refl
 single-bit false e j h =
-    bitAt-mod (0 * 2 ^ e) 64 j h ∙ ap (λ (z : ℕ). bitAt z j) (zero-mul (2 ^ e)) ∙ bitAt-none j ∙ ap flag (sym (and-false (eqb j e)))
+    bitAt-mod (0 * 2 ^ e) 64 j h
+    ∙ ap (λ (z : ℕ). bitAt z j) (zero-mul (2 ^ e))
+    ∙ bitAt-none j
+    ∙ ap flag (sym (and-false (eqb j e)))
 
 -- ---- a slot of words
 

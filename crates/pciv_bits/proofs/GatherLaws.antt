@@ -1,5 +1,5 @@
 -- Laws of gathering 64 flags in sixteen lanes.
---   bitAt-get          the bits of a little-endian number are those of its bytes
+--   bitAt-get          the bits of a little-endian number are those of its bytes;  spread-lt  a lane is a byte
 --   Lanes p i f at j   the j bytes of f from `at` on are lanes of flags p;  lanes-kept, -more  one byte of f changed
 --   lanes-gathered     sixteen lanes, the last eight one bit up, are the 64 flags
 --   gathered-word      transposed, they are the word of the flags
@@ -18,7 +18,7 @@ use lib.Dec.{eqb}
 use Rattle.pciv_bytes.specs.Ranges.{flag}
 use Rattle.pciv_bytes.specs.LittleEndian.{get}
 use Rattle.pciv_bytes.specs.ByteAt.{byteAt}
-use Rattle.pciv_bytes.proofs.SumLaws.{flag-le}
+use Rattle.pciv_bytes.proofs.RangesLaws.{flag-le}
 use Rattle.pciv_bytes.proofs.LittleEndianLaws.{get-suc}
 use Rattle.pciv_format.specs.Mask.{bitAt, word}
 use Rattle.pciv_format.proofs.BitLaws.{bitAt-lowest, bitAt-shr, bitAt-shl, bitAt-mod, bitAt-or, bitAt-word, word-unique}
@@ -27,21 +27,23 @@ use Rattle.pciv_bits.specs.Flags.{spread, transposed, Gathered}
 -- ---- the bits of a little-endian number
 
 -- of bytes from lo up to hi
-module _ (b : List ℕ) (lo hi : ℕ) (bytes : (k : ℕ) → lo ≤ k → k < hi → getD b k 0 < 256) (inside : hi ≤ length b) where
+module _ (b : List ℕ) (lo hi : ℕ) (bytes : (k : ℕ) → lo ≤ k → k < hi → getD b k 0 < 256)
+    (inside : hi ≤ length b) where
   pub bitAt-get : (w at k j : ℕ) → lo ≤ at → at + w ≤ hi → k < w → j < 8
       → bitAt (get w b at) (8 * k + j) ≡ bitAt (byteAt b (at + k)) j
   bitAt-get zero at k j low space h l = absurd (omega arith)
   bitAt-get (suc w) at zero j low space h l =
       let e : 8 * 0 + j ≡ j = omega arith in
-      let byte : (getD b at 0 + 256 * get w b (suc at)) % 2 ^ 8 ≡ getD b at 0 = omega (arith, bytes at low (omega arith)) in
-      rw (e, add-zero at, get-suc w b at (omega arith))
-      (sym (bitAt-mod (getD b at 0 + 256 * get w b (suc at)) 8 j l) ∙ rw byte)
+      let all : ℕ = getD b at 0 + 256 * get w b (suc at) in
+      let byte : all % 2 ^ 8 ≡ getD b at 0 = omega (arith, bytes at low (omega arith)) in
+      rw (e, add-zero at, get-suc w b at (omega arith)) (sym (bitAt-mod all 8 j l) ∙ rw byte)
   bitAt-get (suc w) at (suc k) j low space h l =
       let e : 8 * suc k + j ≡ 8 + (8 * k + j) = omega arith in
       let f : at + suc k ≡ suc at + k = omega arith in
-      let rest : (getD b at 0 + 256 * get w b (suc at)) / 2 ^ 8 ≡ get w b (suc at) = omega (arith, bytes at low (omega arith)) in
+      let all : ℕ = getD b at 0 + 256 * get w b (suc at) in
+      let rest : all / 2 ^ 8 ≡ get w b (suc at) = omega (arith, bytes at low (omega arith)) in
       rw (e, f, get-suc w b at (omega arith))
-      (sym (bitAt-shr (getD b at 0 + 256 * get w b (suc at)) 8 (8 * k + j))
+      (sym (bitAt-shr all 8 (8 * k + j))
       ∙ rw rest (bitAt-get w (suc at) k j (omega arith) (omega arith) (omega arith) l))
 
 -- ---- places
@@ -111,7 +113,8 @@ module _ (p : ℕ → Bool) (i : ℕ) (f : List ℕ) (at : ℕ) where
         let byte : from + j / 8 ≡ at + (q + j / 8) = omega arith in
         let slot : i + (q + j / 8) + 8 * (j % 8) ≡ i + q + transposed j = omega arith in
         ap (bitAt (get 8 f from)) place
-        ∙ bitAt-get f at (at + 16) bytes long 8 from (j / 8) (j % 8) (omega arith) (omega arith) (omega arith) (omega arith)
+        ∙ bitAt-get f at (at + 16) bytes long 8 from (j / 8) (j % 8) (omega arith) (omega arith) (omega arith)
+        (omega arith)
         ∙ ap (λ (x : ℕ). bitAt x (j % 8)) (ap (byteAt f) byte ∙ all (q + j / 8) (omega arith))
         ∙ spread-bit p (i + (q + j / 8)) (j % 8) (omega arith)
         ∙ rw (odd, slot)

@@ -109,7 +109,8 @@ module _ (r : Round) (all : 64 ≤ firstBelow (misplaced r) 64) (j : ℕ) (h : j
       )
       (chosen (bitAt x) (bitAt (r .kept) j) (bitAt (r .down) j) (bitAt (r .up) j)
       (bitAt x j) (bitAt (x / 2 ^ r .k) j) (bitAt (x * 2 ^ r .k % 2 ^ 64) j) j (r .k + j) (j - r .k) (placed .one)
-      (bitAt-le x j) (bitAt-le (x / 2 ^ r .k) j) (bitAt-le (x * 2 ^ r .k % 2 ^ 64) j) refl (bitAt-shr x (r .k) j) (moved-up x))
+      (bitAt-le x j) (bitAt-le (x / 2 ^ r .k) j) (bitAt-le (x * 2 ^ r .k % 2 ^ 64) j) refl (bitAt-shr x (r .k) j)
+      (moved-up x))
 
 -- ---- the three rounds: squares of one, two and four bits
 
@@ -146,4 +147,5 @@ transpose-bit x j h =
     ∙ moved-bit twos (tested .twos-placed) (source fours j) h₂ (moved ones x)
     ∙ moved-bit ones (tested .ones-placed) (source twos (source fours j)) h₁ x
     ∙ ap (bitAt x)
-    (not-eqb (source ones (source twos (source fours j))) (transposed j) (firstBelow-all astray 64 j (tested .none-astray) h))
+    (not-eqb (source ones (source twos (source fours j))) (transposed j)
+    (firstBelow-all astray 64 j (tested .none-astray) h))

@@ -19,7 +19,7 @@ use Rattle.pciv_bytes.specs.Ranges.{flag}
 use Rattle.pciv_format.specs.Mask.{maskLen, word, maskOf}
 use Rattle.pciv_format.proofs.BitLaws.{word-lt}
 use Rattle.pciv_format.proofs.MaskLaws.{maskWord, maskOf-table}
-use Rattle.pciv_bytes.proofs.TableLaws.{Left, left-more, left-end}
+use Rattle.pciv_bytes.proofs.WriteLaws.{Left, left-more, left-end}
 use Rattle.pciv_bits.specs.Flags.{flipIf}
 
 -- c set bits, as the highest bits of 64 moved down
@@ -79,7 +79,8 @@ word-fits p i c h =
 -- ---- a mask, word by word
 
 -- c slots from i on, which are those of word w
-pub maskWord-is : (n : ℕ) (p : ℕ → Bool) (w i c : ℕ) → i ≡ 64 * w → c ≡ min 64 (n - 64 * w) → word p i c ≡ maskWord n p w
+pub maskWord-is : (n : ℕ) (p : ℕ → Bool) (w i c : ℕ) → i ≡ 64 * w → c ≡ min 64 (n - 64 * w)
+    → word p i c ≡ maskWord n p w
 maskWord-is n p w i c e f = rw (e, f)
 
 -- two words written
@@ -90,6 +91,6 @@ left-two {f} {n} {out₀} {out} {i} left x y h e g =
     rw two at (left-more (left-more left x (omega arith) e) y (omega arith) g)
 
 -- the last word written
-pub left-mask : (n : ℕ) (p : ℕ → Bool) (out₀ out : List ℕ) (w : ℕ) → Left (maskWord n p) (maskLen n) out₀ out w → maskLen n ≤ w
-    → out ≡ sets out₀ 0 (maskOf n p)
+pub left-mask : (n : ℕ) (p : ℕ → Bool) (out₀ out : List ℕ) (w : ℕ) → Left (maskWord n p) (maskLen n) out₀ out w
+    → maskLen n ≤ w → out ≡ sets out₀ 0 (maskOf n p)
 left-mask n p out₀ out w left h = left-end left h ∙ ap (sets out₀ 0) (sym (maskOf-table n p))

@@ -2,17 +2,16 @@
 // not; and of n slots that are all alike.
 ghost use mathlib.Core.Path.{_≡_};
 ghost use mathlib.Core.Bool.{cond};
-ghost use Prim.Native.Nat.{ℕ, _+_, _-_, _^_, _≤_, _<_, min};
+ghost use Prim.Native.Nat.{ℕ, _+_, _-_, _^_, _≤_, _<_};
 ghost use lib.ListN.{length};
 ghost use lib.Seq.{sets};
 ghost use Rattle.pciv_format.specs.Mask.{maskLen, word, maskOf};
 ghost use Rattle.pciv_bits.specs.Flags.{passesAt};
 use crate::gather::Pair;
 use crate::gather::gather;
+use crate::masks::ALL_BITS;
 use crate::transpose::transpose;
-
-// All 64 bits of a word.
-const ALL_BITS: u64 = 0xFFFF_FFFF_FFFF_FFFF;
+use pciv_bytes::numbers::smaller;
 
 // The word of c set bits.
 fn ones(c: usize) -> u64
@@ -31,13 +30,6 @@ fn flip_if(negated: bool, all: u64, x: u64) -> u64
         return all - x;
     }
     x
-}
-
-// The smaller of two numbers.
-fn least(x: usize, y: usize) -> usize
-    ensures { λ r. ⌜ r ≡ min x y ⌝ }
-{
-    if x < y { x } else { y }
 }
 
 // The two words of the 128 bytes from i on.
@@ -81,7 +73,7 @@ pub fn flags_into(a: &[u8], limit: u8, negated: bool, out: &mut [u64])
         w += 2;
     }
     while 64 * w < n {
-        out[w] = part_word(a, 64 * w, least(64 * w + 64, n), limit, negated);
+        out[w] = part_word(a, 64 * w, smaller(64 * w + 64, n), limit, negated);
         w += 1;
     }
 }

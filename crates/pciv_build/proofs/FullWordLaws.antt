@@ -40,7 +40,8 @@ not-below x h =
     ]
 
 -- the mask of the primary bytes of slots i up to `to`, in the front of ws
-module _ (d ws : List ℕ) (i to : ℕ) (bytes : Bytes d) (h : i ≤ to) (fits : 40 + to ≤ length d) (space : to ≤ i + 64 * length ws) where
+module _ (d ws : List ℕ) (i to : ℕ) (bytes : Bytes d) (h : i ≤ to) (fits : 40 + to ≤ length d)
+    (space : to ≤ i + 64 * length ws) where
   abbrev part : List ℕ
   part = take (40 + to - (40 + i)) (drop (40 + i) d)
 
@@ -53,7 +54,8 @@ module _ (d ws : List ℕ) (i to : ℕ) (bytes : Bytes d) (h : i ≤ to) (fits :
   part-full j inside =
       let there : 40 + i + j ≡ 40 + (i + j) = omega arith in
       let e : byteAt part j ≡ byteAt d (40 + (i + j)) =
-      getD-take (40 + to - (40 + i)) (drop (40 + i) d) j 0 (omega arith) ∙ getD-drop (40 + i) d j 0 ∙ ap (byteAt d) there in
+      getD-take (40 + to - (40 + i)) (drop (40 + i) d) j 0 (omega arith) ∙ getD-drop (40 + i) d j 0
+      ∙ ap (byteAt d) there in
       rw e (not-below (byteAt d (40 + (i + j))) (bytes (40 + (i + j))))
 
   pub tell-full : TellFull (sets ws 0 (maskOf (length part) (passesAt part 255 true))) d i to
@@ -67,7 +69,8 @@ module _ (d ws : List ℕ) (i to : ℕ) (bytes : Bytes d) (h : i ≤ to) (fits :
       ∙ getD-maskOf n p w (omega (arith, length-part))
       ∙ ap (word p (64 * w)) e
       ∙ word-moved p (isFull d) (64 * w) (i + 64 * w) (min 64 (to - (i + 64 * w)))
-      (λ j l. let there : i + (64 * w + j) ≡ i + 64 * w + j = omega arith in part-full (64 * w + j) (omega arith) ∙ ap (isFull d) there)
+      (λ j l. let there : i + (64 * w + j) ≡ i + 64 * w + j = omega arith in part-full (64 * w + j) (omega arith)
+      ∙ ap (isFull d) there)
 
 -- ---- the lowest set bit
 
@@ -116,13 +119,15 @@ zeros-even k w =
     rw (e, half)
 
 bit-next : (p : ℕ → Bool) (k i c : ℕ) (b : Bool) → 0 < flag b + 2 * word p (suc i) c
-    → (0 < word p (suc i) c → NextBit p (suc i) c (positions p (suc i) c) (word p (suc i) c) (trailingZeros k (word p (suc i) c)))
+    → (0 < word p (suc i) c
+    → NextBit p (suc i) c (positions p (suc i) c) (word p (suc i) c) (trailingZeros k (word p (suc i) c)))
     → NextBit p i (suc c) (keepIf b i (positions p (suc i) c)) (flag b + 2 * word p (suc i) c)
     (trailingZeros (suc k) (flag b + 2 * word p (suc i) c))
 bit-next p k i c true some next = rw (zeros-odd k (word p (suc i) c)) (bit-set p i c)
 bit-next p k i c false some next =
     rw (zero-add (2 * word p (suc i) c), zeros-even k (word p (suc i) c))
-    (bit-clear p i c (positions p (suc i) c) (word p (suc i) c) (trailingZeros k (word p (suc i) c)) (next (omega arith)))
+    (bit-clear p i c (positions p (suc i) c) (word p (suc i) c) (trailingZeros k (word p (suc i) c))
+    (next (omega arith)))
 
 lowest-bit : (p : ℕ → Bool) (k i c : ℕ) → c ≤ k → 0 < word p i c
     → NextBit p i c (positions p i c) (word p i c) (trailingZeros k (word p i c))

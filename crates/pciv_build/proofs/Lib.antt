@@ -4,3 +4,6 @@ pub mod IndexLaws
 pub mod FullWordLaws
 pub mod SlotsLaws
 pub mod FillLaws
+pub mod AlongLaws
+pub mod IntoLaws
+pub mod ChainLaws

@@ -19,10 +19,10 @@ use pciv_format::BUFFER_TOO_SMALL;
 use pciv_format::FileAnswer;
 use pciv_format::HEADER_LEN;
 use pciv_format::MAGIC;
-use pciv_format::Refusal;
 use pciv_layout::file_len;
 use pciv_layout::index_len;
 use pciv_layout::index_step;
+use pciv_layout::refusals::refuse_file;
 use pciv_layout::summary_of;
 
 // Writes the header of a file with n slots and k overflow entries.
@@ -44,11 +44,7 @@ pub fn begin(out: &mut [u8], n: usize, k: usize) -> FileAnswer
     ensures buffer { λ _. ⌜ now (out .exit) ≡ beginBuffer n k (now (out .entry)) ⌝ }
 {
     if out.len() < file_len(n, k) {
-        return FileAnswer::Refused(Refusal {
-            number: BUFFER_TOO_SMALL,
-            map: 0,
-            place: 0,
-        });
+        return refuse_file(BUFFER_TOO_SMALL, 0, 0);
     }
     put_header(out, n, k);
     FileAnswer::Done(summary_of(n, k))

@@ -6,4 +6,3 @@ pub mod LittleEndianLaws
 pub mod WriteLaws
 pub mod AnyLaws
 pub mod MoveLaws
-pub mod TableLaws

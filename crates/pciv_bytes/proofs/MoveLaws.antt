@@ -1,7 +1,9 @@
 -- Laws of a part of a list that is moved by 12 places within the list, one element a turn.
 --   MovedUp from to l i o      o is l with the part from i up to `to` moved towards the end
+--   up-start, up-more, up-end        before the first turn, one turn on, and after the last
 --   MovesDown from to l i o    moving the part down to `from` .. `to` in l is moving what goes to i .. `to` in o
---   -start, -more, -end        before the first turn, one turn on, and after the last
+--   down-start, down-more, down-end  likewise
+-- Axioms: none.
 use mathlib.Core.Path.{_≡_, refl, sym, ap, ap₂, _∙_}
 use Prim.Native.Nat.{ℕ, suc, _+_, _-_, _≤_, _<_}
 use native.Mathlib.Nat.{sub-self}
@@ -34,7 +36,8 @@ module _ {from to : ℕ} {l : List ℕ} {i : ℕ} {o : List ℕ} (m : MovedUp fr
       let e : to - p ≡ suc (to - i) = omega (arith, m .high) in
       let f : suc p ≡ i = omega arith in
       let g : i + 12 ≡ p + 12 + 1 = omega arith in
-      let part : take (to - p) (drop p l) ≡ getD l p 0 ∷ rest = rw (e, part-cons l p (to - i) (omega (arith, m .high)), f) in
+      let part : take (to - p) (drop p l) ≡ getD l p 0 ∷ rest =
+      rw (e, part-cons l p (to - i) (omega (arith, m .high)), f) in
       let read : getD o p 0 ≡ getD l p 0 = rw (m .moved) (getD-sets-below rest l (i + 12) p (omega arith)) in
       record {
         low = omega arith;
@@ -74,7 +77,10 @@ module _ {from to : ℕ} {l : List ℕ} {i : ℕ} {o : List ℕ} (m : MovesDown 
       record {
         high = omega arith;
         size = length-set o i x ∙ m .size;
-        ahead = drop-set-lt (i + 1) o i x (omega arith) ∙ sym (drop-drop 1 i o) ∙ ap (drop 1) (m .ahead) ∙ drop-drop 1 i l;
+        ahead = drop-set-lt (i + 1) o i x (omega arith)
+            ∙ sym (drop-drop 1 i o)
+            ∙ ap (drop 1) (m .ahead)
+            ∙ drop-drop 1 i l;
         rest = m .rest ∙ sets-cons o _ x _ i (i + 1) part refl;
       }
 

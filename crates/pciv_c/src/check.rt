@@ -1,6 +1,5 @@
-// Check and primary array (include/pciv.h).
+// The header's sections "Check" and "Primary array".
 ghost use mathlib.Core.Path.{_≡_};
-ghost use lib.ListN.{length};
 ghost use Rattle.pciv_format.specs.Check.{checkFile};
 ghost use Rattle.pciv_c_cells.specs.Cells.{ToldFile, spanCells, spanLength};
 use pciv_c_cells::tell_file;
@@ -8,15 +7,14 @@ use pciv_check::check;
 use pciv_format::FileAnswer;
 use pciv_format::HEADER_LEN;
 
-// ---- check and primary part
-
 #[no_mangle]
 pub extern "C" fn pciv_check(
     file: &[u8],
     summary: &mut [usize; 5],
     refusal: &mut [usize; 3],
 ) -> usize
-    ensures told { λ r. ⌜ ToldFile (checkFile 1 (now (file .entry))) r (now (summary .entry)) (now (summary .exit)) (now (refusal .exit)) ⌝ }
+    ensures told { λ r. ⌜ ToldFile (checkFile 1 (now (file .entry)))
+        r (now (summary .entry)) (now (summary .exit)) (now (refusal .exit)) ⌝ }
 {
     tell_file(check(file), summary, refusal)
 }

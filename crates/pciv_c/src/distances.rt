@@ -1,4 +1,4 @@
-// Distances (include/pciv.h).
+// The header's section "Distances".
 ghost use mathlib.Core.Path.{_≡_};
 ghost use lib.ListN.{length};
 ghost use Rattle.pciv_format.specs.Read.{lookupOutcome, lookupListOutcome, lookupListBuffer, scanOutcome, scanBuffer};
@@ -9,8 +9,6 @@ use pciv_read::lookup;
 use pciv_read::lookup_list;
 use pciv_read::scan;
 
-// ---- reading
-
 #[no_mangle]
 pub extern "C" fn pciv_lookup(
     file: &[u8],
@@ -18,7 +16,8 @@ pub extern "C" fn pciv_lookup(
     distance: &mut u32,
     refusal: &mut [usize; 3],
 ) -> usize
-    ensures told { λ r. ⌜ ToldNumber (lookupOutcome (now (file .entry)) slot) r (now (distance .entry)) (now (distance .exit)) (now (refusal .exit)) ⌝ }
+    ensures told { λ r. ⌜ ToldNumber (lookupOutcome (now (file .entry)) slot)
+        r (now (distance .entry)) (now (distance .exit)) (now (refusal .exit)) ⌝ }
 {
     tell_distance(lookup(file, slot), distance, refusal)
 }
@@ -31,8 +30,11 @@ pub extern "C" fn pciv_lookup_list(
     count: &mut usize,
     refusal: &mut [usize; 3],
 ) -> usize
-    ensures told { λ r. ⌜ ToldNumber (lookupListOutcome (now (file .entry)) (now (slots .entry)) (length (now (distances .entry)))) r (now (count .entry)) (now (count .exit)) (now (refusal .exit)) ⌝ }
-    ensures buffer { λ _. ⌜ now (distances .exit) ≡ lookupListBuffer (now (file .entry)) (now (slots .entry)) (now (distances .entry)) ⌝ }
+    ensures told { λ r. ⌜ ToldNumber
+        (lookupListOutcome (now (file .entry)) (now (slots .entry)) (length (now (distances .entry))))
+        r (now (count .entry)) (now (count .exit)) (now (refusal .exit)) ⌝ }
+    ensures buffer { λ _. ⌜ now (distances .exit)
+        ≡ lookupListBuffer (now (file .entry)) (now (slots .entry)) (now (distances .entry)) ⌝ }
 {
     tell_number(lookup_list(file, slots, distances), count, refusal)
 }
@@ -44,7 +46,8 @@ pub extern "C" fn pciv_scan(
     count: &mut usize,
     refusal: &mut [usize; 3],
 ) -> usize
-    ensures told { λ r. ⌜ ToldNumber (scanOutcome (now (file .entry)) (length (now (distances .entry)))) r (now (count .entry)) (now (count .exit)) (now (refusal .exit)) ⌝ }
+    ensures told { λ r. ⌜ ToldNumber (scanOutcome (now (file .entry)) (length (now (distances .entry))))
+        r (now (count .entry)) (now (count .exit)) (now (refusal .exit)) ⌝ }
     ensures buffer { λ _. ⌜ now (distances .exit) ≡ scanBuffer (now (file .entry)) (now (distances .entry)) ⌝ }
 {
     tell_number(scan(file, distances), count, refusal)

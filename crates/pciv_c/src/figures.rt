@@ -1,11 +1,9 @@
-// Comparison figures (include/pciv.h).
+// The header's section "Comparison figures".
 ghost use Rattle.pciv_format.specs.Figures.{brayCurtisOutcome, jaccardOutcome};
 ghost use Rattle.pciv_c_cells.specs.Cells.{ToldNumber};
 use pciv_c_cells::tell_figure;
 use pciv_compare::bray_curtis;
 use pciv_compare::jaccard;
-
-// ---- comparison figures
 
 #[no_mangle]
 pub extern "C" fn pciv_bray_curtis(
@@ -14,7 +12,8 @@ pub extern "C" fn pciv_bray_curtis(
     figure: &mut f64,
     refusal: &mut [usize; 3],
 ) -> usize
-    ensures told { λ r. ⌜ ToldNumber (brayCurtisOutcome (now (a .entry)) (now (b .entry))) r (now (figure .entry)) (now (figure .exit)) (now (refusal .exit)) ⌝ }
+    ensures told { λ r. ⌜ ToldNumber (brayCurtisOutcome (now (a .entry)) (now (b .entry)))
+        r (now (figure .entry)) (now (figure .exit)) (now (refusal .exit)) ⌝ }
 {
     tell_figure(bray_curtis(a, b), figure, refusal)
 }
@@ -27,7 +26,8 @@ pub extern "C" fn pciv_jaccard(
     figure: &mut f64,
     refusal: &mut [usize; 3],
 ) -> usize
-    ensures told { λ r. ⌜ ToldNumber (jaccardOutcome t (now (a .entry)) (now (b .entry))) r (now (figure .entry)) (now (figure .exit)) (now (refusal .exit)) ⌝ }
+    ensures told { λ r. ⌜ ToldNumber (jaccardOutcome t (now (a .entry)) (now (b .entry)))
+        r (now (figure .entry)) (now (figure .exit)) (now (refusal .exit)) ⌝ }
 {
     tell_figure(jaccard(a, b, t), figure, refusal)
 }

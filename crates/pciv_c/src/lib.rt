@@ -1,5 +1,5 @@
-// The C interface (include/pciv.h), a module for each of the header's sections: a thin function for each routine that C has,
-// and one for each comparison of threshold. How an answer is told is in pciv_c_cells.
+// The C interface (include/pciv.h), its functions in the header's sections and order: a thin one for each routine that
+// C has, and one for each comparison of threshold. How an answer is told is in pciv_c_cells.
 pub mod arithmetic;
 pub mod check;
 pub mod distances;

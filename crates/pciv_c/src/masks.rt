@@ -1,7 +1,11 @@
-// Masks (include/pciv.h).
+// The header's section "Masks".
 ghost use mathlib.Core.Path.{_≡_};
 ghost use lib.ListN.{length};
-ghost use Rattle.pciv_format.specs.Mask.{thresholdOutcome, thresholdWords, nearMaskOutcome, nearMaskWords, combineOutcome, combineWords, complementOutcome, complementWords, setBitsOutcome, mapOfMaskOutcome, mapOfMaskBuffer, keepMaskedOutcome, keepMaskedBuffer, incrementMaskedOutcome, incrementMaskedBuffer};
+ghost use Rattle.pciv_format.specs.Mask.{thresholdOutcome, thresholdWords, nearMaskOutcome, nearMaskWords};
+ghost use Rattle.pciv_format.specs.Mask.{combineOutcome, combineWords, complementOutcome, complementWords};
+ghost use Rattle.pciv_format.specs.Mask.{setBitsOutcome, mapOfMaskOutcome, mapOfMaskBuffer};
+ghost use Rattle.pciv_format.specs.Mask.{keepMaskedOutcome, keepMaskedBuffer, incrementMaskedOutcome};
+ghost use Rattle.pciv_format.specs.Mask.{incrementMaskedBuffer};
 ghost use Rattle.pciv_format.specs.declared.Comparison.the-variants.{Below, AtMost, Above, AtLeast};
 ghost use Rattle.pciv_format.specs.declared.MaskOp.the-variants.{And, Or, Xor};
 ghost use Rattle.pciv_c_cells.specs.Cells.{ToldNumber, ToldFile};
@@ -29,7 +33,8 @@ pub extern "C" fn pciv_mask_below(
     count: &mut usize,
     refusal: &mut [usize; 3],
 ) -> usize
-    ensures told { λ r. ⌜ ToldNumber (thresholdOutcome Below (now (file .entry)) t (length (now (out .entry)))) r (now (count .entry)) (now (count .exit)) (now (refusal .exit)) ⌝ }
+    ensures told { λ r. ⌜ ToldNumber (thresholdOutcome Below (now (file .entry)) t (length (now (out .entry))))
+        r (now (count .entry)) (now (count .exit)) (now (refusal .exit)) ⌝ }
     ensures words { λ _. ⌜ now (out .exit) ≡ thresholdWords Below (now (file .entry)) t (now (out .entry)) ⌝ }
 {
     tell_number(threshold(file, Comparison::Below, t, out), count, refusal)
@@ -43,7 +48,8 @@ pub extern "C" fn pciv_mask_at_most(
     count: &mut usize,
     refusal: &mut [usize; 3],
 ) -> usize
-    ensures told { λ r. ⌜ ToldNumber (thresholdOutcome AtMost (now (file .entry)) t (length (now (out .entry)))) r (now (count .entry)) (now (count .exit)) (now (refusal .exit)) ⌝ }
+    ensures told { λ r. ⌜ ToldNumber (thresholdOutcome AtMost (now (file .entry)) t (length (now (out .entry))))
+        r (now (count .entry)) (now (count .exit)) (now (refusal .exit)) ⌝ }
     ensures words { λ _. ⌜ now (out .exit) ≡ thresholdWords AtMost (now (file .entry)) t (now (out .entry)) ⌝ }
 {
     tell_number(threshold(file, Comparison::AtMost, t, out), count, refusal)
@@ -57,7 +63,8 @@ pub extern "C" fn pciv_mask_above(
     count: &mut usize,
     refusal: &mut [usize; 3],
 ) -> usize
-    ensures told { λ r. ⌜ ToldNumber (thresholdOutcome Above (now (file .entry)) t (length (now (out .entry)))) r (now (count .entry)) (now (count .exit)) (now (refusal .exit)) ⌝ }
+    ensures told { λ r. ⌜ ToldNumber (thresholdOutcome Above (now (file .entry)) t (length (now (out .entry))))
+        r (now (count .entry)) (now (count .exit)) (now (refusal .exit)) ⌝ }
     ensures words { λ _. ⌜ now (out .exit) ≡ thresholdWords Above (now (file .entry)) t (now (out .entry)) ⌝ }
 {
     tell_number(threshold(file, Comparison::Above, t, out), count, refusal)
@@ -71,7 +78,8 @@ pub extern "C" fn pciv_mask_at_least(
     count: &mut usize,
     refusal: &mut [usize; 3],
 ) -> usize
-    ensures told { λ r. ⌜ ToldNumber (thresholdOutcome AtLeast (now (file .entry)) t (length (now (out .entry)))) r (now (count .entry)) (now (count .exit)) (now (refusal .exit)) ⌝ }
+    ensures told { λ r. ⌜ ToldNumber (thresholdOutcome AtLeast (now (file .entry)) t (length (now (out .entry))))
+        r (now (count .entry)) (now (count .exit)) (now (refusal .exit)) ⌝ }
     ensures words { λ _. ⌜ now (out .exit) ≡ thresholdWords AtLeast (now (file .entry)) t (now (out .entry)) ⌝ }
 {
     tell_number(threshold(file, Comparison::AtLeast, t, out), count, refusal)
@@ -85,7 +93,8 @@ pub extern "C" fn pciv_near_mask(
     count: &mut usize,
     refusal: &mut [usize; 3],
 ) -> usize
-    ensures told { λ r. ⌜ ToldNumber (nearMaskOutcome (now (file .entry)) t (length (now (out .entry)))) r (now (count .entry)) (now (count .exit)) (now (refusal .exit)) ⌝ }
+    ensures told { λ r. ⌜ ToldNumber (nearMaskOutcome (now (file .entry)) t (length (now (out .entry))))
+        r (now (count .entry)) (now (count .exit)) (now (refusal .exit)) ⌝ }
     ensures words { λ _. ⌜ now (out .exit) ≡ nearMaskWords (now (file .entry)) t (now (out .entry)) ⌝ }
 {
     tell_number(near_mask(file, t, out), count, refusal)
@@ -102,8 +111,11 @@ pub extern "C" fn pciv_mask_and(
     count: &mut usize,
     refusal: &mut [usize; 3],
 ) -> usize
-    ensures told { λ r. ⌜ ToldNumber (combineOutcome And n (now (a .entry)) (now (b .entry)) (length (now (out .entry)))) r (now (count .entry)) (now (count .exit)) (now (refusal .exit)) ⌝ }
-    ensures words { λ _. ⌜ now (out .exit) ≡ combineWords And n (now (a .entry)) (now (b .entry)) (now (out .entry)) ⌝ }
+    ensures told { λ r. ⌜ ToldNumber
+        (combineOutcome And n (now (a .entry)) (now (b .entry)) (length (now (out .entry))))
+        r (now (count .entry)) (now (count .exit)) (now (refusal .exit)) ⌝ }
+    ensures words { λ _. ⌜ now (out .exit)
+        ≡ combineWords And n (now (a .entry)) (now (b .entry)) (now (out .entry)) ⌝ }
 {
     tell_number(and(n, a, b, out), count, refusal)
 }
@@ -117,8 +129,11 @@ pub extern "C" fn pciv_mask_or(
     count: &mut usize,
     refusal: &mut [usize; 3],
 ) -> usize
-    ensures told { λ r. ⌜ ToldNumber (combineOutcome Or n (now (a .entry)) (now (b .entry)) (length (now (out .entry)))) r (now (count .entry)) (now (count .exit)) (now (refusal .exit)) ⌝ }
-    ensures words { λ _. ⌜ now (out .exit) ≡ combineWords Or n (now (a .entry)) (now (b .entry)) (now (out .entry)) ⌝ }
+    ensures told { λ r. ⌜ ToldNumber
+        (combineOutcome Or n (now (a .entry)) (now (b .entry)) (length (now (out .entry))))
+        r (now (count .entry)) (now (count .exit)) (now (refusal .exit)) ⌝ }
+    ensures words { λ _. ⌜ now (out .exit)
+        ≡ combineWords Or n (now (a .entry)) (now (b .entry)) (now (out .entry)) ⌝ }
 {
     tell_number(or(n, a, b, out), count, refusal)
 }
@@ -132,8 +147,11 @@ pub extern "C" fn pciv_mask_xor(
     count: &mut usize,
     refusal: &mut [usize; 3],
 ) -> usize
-    ensures told { λ r. ⌜ ToldNumber (combineOutcome Xor n (now (a .entry)) (now (b .entry)) (length (now (out .entry)))) r (now (count .entry)) (now (count .exit)) (now (refusal .exit)) ⌝ }
-    ensures words { λ _. ⌜ now (out .exit) ≡ combineWords Xor n (now (a .entry)) (now (b .entry)) (now (out .entry)) ⌝ }
+    ensures told { λ r. ⌜ ToldNumber
+        (combineOutcome Xor n (now (a .entry)) (now (b .entry)) (length (now (out .entry))))
+        r (now (count .entry)) (now (count .exit)) (now (refusal .exit)) ⌝ }
+    ensures words { λ _. ⌜ now (out .exit)
+        ≡ combineWords Xor n (now (a .entry)) (now (b .entry)) (now (out .entry)) ⌝ }
 {
     tell_number(xor(n, a, b, out), count, refusal)
 }
@@ -146,7 +164,8 @@ pub extern "C" fn pciv_mask_not(
     count: &mut usize,
     refusal: &mut [usize; 3],
 ) -> usize
-    ensures told { λ r. ⌜ ToldNumber (complementOutcome n (now (mask .entry)) (length (now (out .entry)))) r (now (count .entry)) (now (count .exit)) (now (refusal .exit)) ⌝ }
+    ensures told { λ r. ⌜ ToldNumber (complementOutcome n (now (mask .entry)) (length (now (out .entry))))
+        r (now (count .entry)) (now (count .exit)) (now (refusal .exit)) ⌝ }
     ensures words { λ _. ⌜ now (out .exit) ≡ complementWords n (now (mask .entry)) (now (out .entry)) ⌝ }
 {
     tell_number(complement(n, mask, out), count, refusal)
@@ -159,7 +178,8 @@ pub extern "C" fn pciv_set_bits(
     count: &mut usize,
     refusal: &mut [usize; 3],
 ) -> usize
-    ensures told { λ r. ⌜ ToldNumber (setBitsOutcome n (now (mask .entry))) r (now (count .entry)) (now (count .exit)) (now (refusal .exit)) ⌝ }
+    ensures told { λ r. ⌜ ToldNumber (setBitsOutcome n (now (mask .entry)))
+        r (now (count .entry)) (now (count .exit)) (now (refusal .exit)) ⌝ }
 {
     tell_number(set_bits(n, mask), count, refusal)
 }
@@ -174,7 +194,8 @@ pub extern "C" fn pciv_map_of_mask(
     summary: &mut [usize; 5],
     refusal: &mut [usize; 3],
 ) -> usize
-    ensures told { λ r. ⌜ ToldFile (mapOfMaskOutcome n (now (mask .entry)) (length (now (out .entry)))) r (now (summary .entry)) (now (summary .exit)) (now (refusal .exit)) ⌝ }
+    ensures told { λ r. ⌜ ToldFile (mapOfMaskOutcome n (now (mask .entry)) (length (now (out .entry))))
+        r (now (summary .entry)) (now (summary .exit)) (now (refusal .exit)) ⌝ }
     ensures buffer { λ _. ⌜ now (out .exit) ≡ mapOfMaskBuffer n (now (mask .entry)) (now (out .entry)) ⌝ }
 {
     tell_file(map_of_mask(n, mask, out), summary, refusal)
@@ -188,8 +209,11 @@ pub extern "C" fn pciv_keep_masked(
     summary: &mut [usize; 5],
     refusal: &mut [usize; 3],
 ) -> usize
-    ensures told { λ r. ⌜ ToldFile (keepMaskedOutcome (now (file .entry)) (now (mask .entry)) (length (now (out .entry)))) r (now (summary .entry)) (now (summary .exit)) (now (refusal .exit)) ⌝ }
-    ensures buffer { λ _. ⌜ now (out .exit) ≡ keepMaskedBuffer (now (file .entry)) (now (mask .entry)) (now (out .entry)) ⌝ }
+    ensures told { λ r. ⌜ ToldFile
+        (keepMaskedOutcome (now (file .entry)) (now (mask .entry)) (length (now (out .entry))))
+        r (now (summary .entry)) (now (summary .exit)) (now (refusal .exit)) ⌝ }
+    ensures buffer { λ _. ⌜ now (out .exit)
+        ≡ keepMaskedBuffer (now (file .entry)) (now (mask .entry)) (now (out .entry)) ⌝ }
 {
     tell_file(keep_masked(file, mask, out), summary, refusal)
 }
@@ -202,8 +226,11 @@ pub extern "C" fn pciv_increment_masked(
     summary: &mut [usize; 5],
     refusal: &mut [usize; 3],
 ) -> usize
-    ensures told { λ r. ⌜ ToldFile (incrementMaskedOutcome (now (file .entry)) (now (mask .entry)) (length (now (out .entry)))) r (now (summary .entry)) (now (summary .exit)) (now (refusal .exit)) ⌝ }
-    ensures buffer { λ _. ⌜ now (out .exit) ≡ incrementMaskedBuffer (now (file .entry)) (now (mask .entry)) (now (out .entry)) ⌝ }
+    ensures told { λ r. ⌜ ToldFile
+        (incrementMaskedOutcome (now (file .entry)) (now (mask .entry)) (length (now (out .entry))))
+        r (now (summary .entry)) (now (summary .exit)) (now (refusal .exit)) ⌝ }
+    ensures buffer { λ _. ⌜ now (out .exit)
+        ≡ incrementMaskedBuffer (now (file .entry)) (now (mask .entry)) (now (out .entry)) ⌝ }
 {
     tell_file(increment_masked(file, mask, out), summary, refusal)
 }

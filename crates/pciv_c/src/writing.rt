@@ -1,4 +1,4 @@
-// Writing (include/pciv.h).
+// The header's section "Writing".
 ghost use mathlib.Core.Path.{_≡_};
 ghost use lib.ListN.{length};
 ghost use Rattle.pciv_format.specs.Write.{writeOutcome, writeBuffer, closeOutcome, closeBuffer};
@@ -10,8 +10,6 @@ use pciv_close_entries::close_entries;
 use pciv_format::Entry;
 use pciv_write::write;
 
-// ---- writing
-
 #[no_mangle]
 pub extern "C" fn pciv_write(
     distances: &[u32],
@@ -19,7 +17,8 @@ pub extern "C" fn pciv_write(
     summary: &mut [usize; 5],
     refusal: &mut [usize; 3],
 ) -> usize
-    ensures told { λ r. ⌜ ToldFile (writeOutcome (now (distances .entry)) (length (now (out .entry)))) r (now (summary .entry)) (now (summary .exit)) (now (refusal .exit)) ⌝ }
+    ensures told { λ r. ⌜ ToldFile (writeOutcome (now (distances .entry)) (length (now (out .entry))))
+        r (now (summary .entry)) (now (summary .exit)) (now (refusal .exit)) ⌝ }
     ensures buffer { λ _. ⌜ now (out .exit) ≡ writeBuffer (now (distances .entry)) (now (out .entry)) ⌝ }
 {
     tell_file(write(distances, out), summary, refusal)
@@ -34,8 +33,12 @@ pub extern "C" fn pciv_close(
     summary: &mut [usize; 5],
     refusal: &mut [usize; 3],
 ) -> usize
-    ensures told { λ r. ⌜ ToldFile (closeOutcome (now (primary .entry)) (now (slots .entry)) (now (distances .entry)) (length (now (out .entry)))) r (now (summary .entry)) (now (summary .exit)) (now (refusal .exit)) ⌝ }
-    ensures buffer { λ _. ⌜ now (out .exit) ≡ closeBuffer (now (primary .entry)) (now (slots .entry)) (now (distances .entry)) (now (out .entry)) ⌝ }
+    ensures told { λ r. ⌜ ToldFile
+        (closeOutcome (now (primary .entry)) (now (slots .entry))
+        (now (distances .entry)) (length (now (out .entry))))
+        r (now (summary .entry)) (now (summary .exit)) (now (refusal .exit)) ⌝ }
+    ensures buffer { λ _. ⌜ now (out .exit)
+        ≡ closeBuffer (now (primary .entry)) (now (slots .entry)) (now (distances .entry)) (now (out .entry)) ⌝ }
 {
     tell_file(close(primary, slots, distances, out), summary, refusal)
 }
@@ -49,8 +52,13 @@ pub extern "C" fn pciv_close_entries(
     summary: &mut [usize; 5],
     refusal: &mut [usize; 3],
 ) -> usize
-    ensures told { λ r. ⌜ ToldFile (closeOutcome (now (primary .entry)) (slotsOf (now (entries .entry))) (distancesOf (now (entries .entry))) (length (now (out .entry)))) r (now (summary .entry)) (now (summary .exit)) (now (refusal .exit)) ⌝ }
-    ensures buffer { λ _. ⌜ now (out .exit) ≡ closeBuffer (now (primary .entry)) (slotsOf (now (entries .entry))) (distancesOf (now (entries .entry))) (now (out .entry)) ⌝ }
+    ensures told { λ r. ⌜ ToldFile
+        (closeOutcome (now (primary .entry)) (slotsOf (now (entries .entry)))
+        (distancesOf (now (entries .entry))) (length (now (out .entry))))
+        r (now (summary .entry)) (now (summary .exit)) (now (refusal .exit)) ⌝ }
+    ensures buffer { λ _. ⌜ now (out .exit)
+        ≡ closeBuffer (now (primary .entry)) (slotsOf (now (entries .entry)))
+        (distancesOf (now (entries .entry))) (now (out .entry)) ⌝ }
 {
     tell_file(close_entries(primary, entries, out), summary, refusal)
 }

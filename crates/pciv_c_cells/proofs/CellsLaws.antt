@@ -1,5 +1,8 @@
 -- The outcome that an answer stands for is the one that it was made of, so a call tells the outcome that its routine's
--- contract names: told-file, told-number, told-distance, told-figure.
+-- contract names.
+--   file-outcome                  the outcome of such an answer
+--   told-file, told-number, told-distance, told-figure    what a call tells
+-- Axioms: none.
 use mathlib.Core.Path.{_≡_, refl, ap, _∙_}
 use mathlib.Core.List.{List}
 use lib.Ieee.{Float}
@@ -10,7 +13,8 @@ use Rattle.pciv_format.specs.declared.FileAnswer.{FileAnswer}
 use Rattle.pciv_format.specs.declared.NumberAnswer.{NumberAnswer}
 use Rattle.pciv_format.specs.declared.DistanceAnswer.{DistanceAnswer}
 use Rattle.pciv_format.specs.declared.FigureAnswer.{FigureAnswer}
-use Rattle.pciv_c_cells.specs.Cells.{ToldFile, ToldNumber, fileOutcome, numberOutcome, distanceOutcome, figureOutcome}
+use Rattle.pciv_c_cells.specs.Cells.{ToldFile, ToldNumber, fileOutcome, numberOutcome}
+use Rattle.pciv_c_cells.specs.Cells.{distanceOutcome, figureOutcome}
 
 pub file-outcome : (a : FileAnswer) (o : Outcome Summary) → a ≡ fileAnswer o → fileOutcome a ≡ o
 file-outcome a o e = ap fileOutcome e ∙ back o
@@ -19,21 +23,21 @@ file-outcome a o e = ap fileOutcome e ∙ back o
     back (done s) = refl
     back (refused r) = refl
 
-pub number-outcome : (a : NumberAnswer) (o : Outcome ℕ) → a ≡ numberAnswer o → numberOutcome a ≡ o
+number-outcome : (a : NumberAnswer) (o : Outcome ℕ) → a ≡ numberAnswer o → numberOutcome a ≡ o
 number-outcome a o e = ap numberOutcome e ∙ back o
   where
     back : (o : Outcome ℕ) → numberOutcome (numberAnswer o) ≡ o
     back (done x) = refl
     back (refused r) = refl
 
-pub distance-outcome : (a : DistanceAnswer) (o : Outcome ℕ) → a ≡ distanceAnswer o → distanceOutcome a ≡ o
+distance-outcome : (a : DistanceAnswer) (o : Outcome ℕ) → a ≡ distanceAnswer o → distanceOutcome a ≡ o
 distance-outcome a o e = ap distanceOutcome e ∙ back o
   where
     back : (o : Outcome ℕ) → distanceOutcome (distanceAnswer o) ≡ o
     back (done x) = refl
     back (refused r) = refl
 
-pub figure-outcome : (a : FigureAnswer) (o : Outcome Float) → a ≡ figureAnswer o → figureOutcome a ≡ o
+figure-outcome : (a : FigureAnswer) (o : Outcome Float) → a ≡ figureAnswer o → figureOutcome a ≡ o
 figure-outcome a o e = ap figureOutcome e ∙ back o
   where
     back : (o : Outcome Float) → figureOutcome (figureAnswer o) ≡ o

@@ -4,10 +4,10 @@
 --   refusalCells o        the same for an outcome o
 --   cellAfter o old       a number's cell: the result when done, else as it was
 --   summaryCells o old    the cells of pciv_summary: the counts when done, else as they were
---   spanCells o           where the primary part starts, and its length; 0 and 0 for a refused file
+--   spanCells o, spanLength o    where the primary part starts, and its length; 0 and 0 for a refused file
 --   ToldNumber, ToldFile  all three of a call: its answer, the result's cells, the refusal's cells
 --   fileOutcome, numberOutcome, distanceOutcome, figureOutcome    the outcome that an answer stands for
--- Axioms: none.
+-- Laws are in proofs/CellsLaws.antt. Axioms: none.
 use mathlib.Core.Path.{_≡_}
 use Prim.Native.Nat.{ℕ}
 use mathlib.Core.List.{List, [], _∷_}

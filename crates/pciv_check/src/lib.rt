@@ -5,13 +5,11 @@ pub mod pair;
 ghost use mathlib.Core.Path.{_≡_};
 ghost use mathlib.Core.Bool.{false};
 ghost use Prim.Native.Nat.{_<_};
-ghost use lib.ListN.{length};
 ghost use Rattle.pciv_format.specs.Refusals.{fileAnswer};
 ghost use Rattle.pciv_format.specs.Check.{checkHeader, checkWith, checkFile, checkBuffer};
 ghost use Rattle.pciv_check.specs.Length.{wrongLength};
 use pciv_bytes::little_endian::get64;
 use pciv_check_parts::check_parts;
-use pciv_check_parts::refused;
 use pciv_format::BAD_COUNTS;
 use pciv_format::BAD_LENGTH;
 use pciv_format::BAD_MAGIC;
@@ -19,46 +17,37 @@ use pciv_format::FileAnswer;
 use pciv_format::HEADER_LEN;
 use pciv_format::MAGIC;
 use pciv_format::MAX_SLOTS;
-use pciv_format::Summary;
 use pciv_format::TOO_MANY_SLOTS;
 use pciv_format::TRUNCATED_HEADER;
-use pciv_layout::file_len;
-use pciv_layout::index_len;
-use pciv_layout::index_step;
+use pciv_layout::refusals::refuse_file;
+use pciv_layout::summary_of;
 
 // Refusals 1 to 4, else the counts of the header.
 fn check_header(file: &[u8], map: usize) -> FileAnswer
     ensures { λ r. ⌜ r ≡ fileAnswer (checkHeader map (now (file .entry))) ⌝ }
 {
     if file.len() < HEADER_LEN {
-        return refused(TRUNCATED_HEADER, map, 0);
+        return refuse_file(TRUNCATED_HEADER, map, 0);
     }
     if get64(file, 0) != MAGIC {
-        return refused(BAD_MAGIC, map, 0);
+        return refuse_file(BAD_MAGIC, map, 0);
     }
     let n = get64(file, 8);
     if MAX_SLOTS < n {
-        return refused(TOO_MANY_SLOTS, map, 0);
+        return refuse_file(TOO_MANY_SLOTS, map, 0);
     }
     let k = get64(file, 16);
     if n < k {
-        return refused(BAD_COUNTS, map, 0);
+        return refuse_file(BAD_COUNTS, map, 0);
     }
-    let step = index_step(k);
-    if get64(file, 32) != step {
-        return refused(BAD_COUNTS, map, 0);
+    let counts = summary_of(n, k);
+    if get64(file, 32) != counts.step {
+        return refuse_file(BAD_COUNTS, map, 0);
     }
-    let m = index_len(k);
-    if get64(file, 24) != m {
-        return refused(BAD_COUNTS, map, 0);
+    if get64(file, 24) != counts.m {
+        return refuse_file(BAD_COUNTS, map, 0);
     }
-    FileAnswer::Done(Summary {
-        n,
-        k,
-        m,
-        step,
-        len: file_len(n, k),
-    })
+    FileAnswer::Done(counts)
 }
 
 // A file of `len` bytes is wrong in a slice of `have`: a whole file has exactly its length, and a buffer to be edited
@@ -85,7 +74,7 @@ pub(crate) fn check_with(file: &[u8], map: usize, whole: bool) -> FileAnswer
             let k = s.k;
             let len = s.len;
             if wrong_length(whole, file.len(), len) {
-                return refused(BAD_LENGTH, map, 0);
+                return refuse_file(BAD_LENGTH, map, 0);
             }
             check_parts(file, map, n, k)
         }

@@ -1,5 +1,6 @@
--- What the header has shown before the parts of a file are looked at: they lie within the bytes.
-use mathlib.Core.Path.{_≡_}
+-- What the header has shown before the parts of a file are looked at.
+--   PartsInside b n k    n and k are within their limits, and the parts lie within the bytes b
+-- Axioms: none.
 use Prim.Native.Nat.{ℕ, _+_, _*_, _≤_}
 use mathlib.Core.List.{List}
 use lib.ListN.{length}

@@ -3,12 +3,10 @@
 // One pass over the overflow entries and a count of the bytes 255 decide refusals 6 and 7; only where the
 // count is off does a walk over the slots look for the least one without an entry.
 ghost use mathlib.Core.Path.{_≡_};
-ghost use mathlib.Core.Bool.{false};
-ghost use Prim.Native.Nat.{ℕ, _+_, _*_, _<_};
 ghost use Rattle.pciv_bytes.specs.Ranges.{firstBelow};
 ghost use Rattle.pciv_format.specs.Layout.{indexLen};
-ghost use Rattle.pciv_format.specs.Refusals.{refuse, fileAnswer};
-ghost use Rattle.pciv_format.specs.Parts.{lowestSlot, badEntry, badSlot};
+ghost use Rattle.pciv_format.specs.Refusals.{fileAnswer};
+ghost use Rattle.pciv_format.specs.Parts.{badEntry, badSlot, EntriesRight};
 ghost use Rattle.pciv_format.specs.Check.{fileParts, badIndexEntry, checkParts};
 ghost use Rattle.pciv_check_parts.specs.Inside.{PartsInside};
 use pciv_bytes::little_endian::get32;
@@ -18,53 +16,30 @@ use pciv_format::BAD_OVERFLOW_ENTRY;
 use pciv_format::FileAnswer;
 use pciv_format::HEADER_LEN;
 use pciv_format::MISSING_OVERFLOW_ENTRY;
-use pciv_format::Refusal;
 use pciv_format::SENTINEL;
-use pciv_format::Summary;
-use pciv_layout::file_len;
+use pciv_layout::entries::wrong_entry;
 use pciv_layout::index_len;
 use pciv_layout::index_step;
+use pciv_layout::refusals::refuse_file;
+use pciv_layout::summary_of;
 use pciv_passes::counts::count_byte;
-
-// A refusal as an answer.
-pub fn refused(number: usize, map: usize, place: usize) -> FileAnswer
-    ensures { λ r. ⌜ r ≡ fileAnswer (refuse number map place) ⌝ }
-{
-    FileAnswer::Refused(Refusal { number, map, place })
-}
-
-// Overflow entry j is wrong; its slot may be `lowest` at the least.
-fn bad_entry(file: &[u8], n: usize, k: usize, lowest: usize, j: usize) -> bool
-    requires { ⌜ PartsInside (now file) n k ⌝ }
-    requires { ⌜ (j < k) × (lowest ≡ lowestSlot (fileParts (now file) n k) j) ⌝ }
-    ensures { λ r. ⌜ r ≡ badEntry (fileParts (now (file .entry)) n k) j ⌝ }
-{
-    let at = HEADER_LEN + n + 12 * j;
-    let slot = get64(file, at);
-    if n <= slot {
-        return true;
-    }
-    if slot < lowest {
-        return true;
-    }
-    if get32(file, at + 8) < 255 {
-        return true;
-    }
-    file[HEADER_LEN + slot] != SENTINEL
-}
 
 // The least overflow entry that is wrong, or k.
 fn first_bad_entry(file: &[u8], n: usize, k: usize) -> usize
     requires { ⌜ PartsInside (now file) n k ⌝ }
     ensures { λ r. ⌜ r ≡ firstBelow (badEntry (fileParts (now (file .entry)) n k)) k ⌝ }
 {
+    let end = HEADER_LEN + n;
     let mut lowest: usize = 0;
     let mut j: usize = 0;
     while j < k {
-        if bad_entry(file, n, k, lowest, j) {
+        let at = end + 12 * j;
+        let slot = get64(file, at);
+        let distance = get32(file, at + 8);
+        if wrong_entry(&file[HEADER_LEN..end], lowest, slot, distance) {
             return j;
         }
-        lowest = get64(file, HEADER_LEN + n + 12 * j) + 1;
+        lowest = slot + 1;
         j += 1;
     }
     k
@@ -73,7 +48,7 @@ fn first_bad_entry(file: &[u8], n: usize, k: usize) -> usize
 // The least slot with byte 255 and no overflow entry, or n, by a walk over all slots.
 fn walk_slots(file: &[u8], n: usize, k: usize) -> usize
     requires { ⌜ PartsInside (now file) n k ⌝ }
-    requires { ⌜ ((j : ℕ) → j < k → badEntry (fileParts (now file) n k) j ≡ false) ⌝ }
+    requires { ⌜ EntriesRight (fileParts (now file) n k) ⌝ }
     ensures { λ r. ⌜ r ≡ firstBelow (badSlot (fileParts (now (file .entry)) n k)) n ⌝ }
 {
     let mut j: usize = 0;
@@ -96,7 +71,7 @@ fn walk_slots(file: &[u8], n: usize, k: usize) -> usize
 // The same; where the bytes 255 are as many as the entries, each has one.
 fn first_bad_slot(file: &[u8], n: usize, k: usize) -> usize
     requires { ⌜ PartsInside (now file) n k ⌝ }
-    requires { ⌜ ((j : ℕ) → j < k → badEntry (fileParts (now file) n k) j ≡ false) ⌝ }
+    requires { ⌜ EntriesRight (fileParts (now file) n k) ⌝ }
     ensures { λ r. ⌜ r ≡ firstBelow (badSlot (fileParts (now (file .entry)) n k)) n ⌝ }
 {
     let end = HEADER_LEN + n;
@@ -135,22 +110,15 @@ pub fn check_parts(file: &[u8], map: usize, n: usize, k: usize) -> FileAnswer
 {
     let entry = first_bad_entry(file, n, k);
     if entry < k {
-        return refused(BAD_OVERFLOW_ENTRY, map, entry);
+        return refuse_file(BAD_OVERFLOW_ENTRY, map, entry);
     }
     let slot = first_bad_slot(file, n, k);
     if slot < n {
-        return refused(MISSING_OVERFLOW_ENTRY, map, slot);
+        return refuse_file(MISSING_OVERFLOW_ENTRY, map, slot);
     }
-    let m = index_len(k);
     let index = first_bad_index_entry(file, n, k);
-    if index < m {
-        return refused(BAD_INDEX_ENTRY, map, index);
+    if index < index_len(k) {
+        return refuse_file(BAD_INDEX_ENTRY, map, index);
     }
-    FileAnswer::Done(Summary {
-        n,
-        k,
-        m,
-        step: index_step(k),
-        len: file_len(n, k),
-    })
+    FileAnswer::Done(summary_of(n, k))
 }

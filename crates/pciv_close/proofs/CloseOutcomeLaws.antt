@@ -1,4 +1,8 @@
--- What close answers and leaves in the buffer, case by case: the refusals 3, 6 and 7, else the file of sound parts.
+-- What close answers and leaves in the buffer, case by case.
+--   Ends o buffer                close answers o, and leaves this buffer
+--   close-many, -entry, -slot    the refusals 3, 6 and 7
+--   close-sound                  else the file of sound parts
+-- Axioms: none.
 use mathlib.Core.Path.{_≡_, ap, _∙_}
 use Prim.Native.Nat.{ℕ, _≤_, _<_}
 use mathlib.Core.List.{List}
@@ -7,53 +11,53 @@ use borrow.Author.Tests.{lt-ltb, le-ltb}
 use Rattle.pciv_bytes.specs.Ranges.{firstBelow}
 use Rattle.pciv_format.specs.Layout.{maxSlots}
 use Rattle.pciv_format.specs.Refusals.{Outcome, refuse}
-use Rattle.pciv_format.specs.Parts.{Parts, badEntry, badSlot, valueOf, SoundParts}
+use Rattle.pciv_format.specs.Parts.{Parts, badEntry, badSlot, valueOf, EntriesRight, SoundParts}
 use Rattle.pciv_format.specs.Write.{fileBuffer, closeParts, closeOutcome, closeBuffer}
 use Rattle.pciv_format.specs.declared.Summary.{Summary}
 use Rattle.pciv_format.proofs.RefusalsLaws.{refuseFirst-none, refuseFirst-some}
-use Rattle.pciv_close.specs.Close.{EntriesRight, partsOutcome, partsBuffer}
+use Rattle.pciv_close.specs.Close.{partsOutcome, partsBuffer}
 
 module _ (bytes slots distances out : List ℕ) where
-  -- the outcome o, and the buffer that goes with it
-  with-buffer : (o : Outcome Summary) → closeOutcome bytes slots distances (length out) ≡ o
-      → (closeOutcome bytes slots distances (length out) ≡ o)
-      × (closeBuffer bytes slots distances out ≡ fileBuffer o (length bytes) (valueOf (closeParts bytes slots distances)) out)
-  unfolding closeBuffer
-  with-buffer o e =
-      (e, ap (λ (o : Outcome Summary). fileBuffer o (length bytes) (valueOf (closeParts bytes slots distances)) out) e)
+  abbrev parts : Parts
+  parts = closeParts bytes slots distances
 
-  pub close-many : maxSlots < length bytes
-      → (closeOutcome bytes slots distances (length out) ≡ refuse 3 1 0) × (closeBuffer bytes slots distances out ≡ out)
+  abbrev pub Ends : Outcome Summary → List ℕ → Type 0
+  Ends o buffer =
+      (closeOutcome bytes slots distances (length out) ≡ o) × (closeBuffer bytes slots distances out ≡ buffer)
+
+  -- the buffer that goes with an outcome
+  abbrev left : Outcome Summary → List ℕ
+  left o = fileBuffer o (length bytes) (valueOf parts) out
+
+  ends : (o : Outcome Summary) → closeOutcome bytes slots distances (length out) ≡ o → Ends o (left o)
+  unfolding closeBuffer
+  ends o e = (e, ap left e)
+
+  pub close-many : maxSlots < length bytes → Ends (refuse 3 1 0) out
   unfolding closeOutcome
-  close-many many = with-buffer (refuse 3 1 0) (rw (lt-ltb maxSlots (length bytes) many))
+  close-many many = ends (refuse 3 1 0) (rw (lt-ltb maxSlots (length bytes) many))
 
   module _ (few : length bytes ≤ maxSlots) where
-    pub close-entry : (place : ℕ)
-        → place ≡ firstBelow (badEntry (closeParts bytes slots distances)) (closeParts bytes slots distances .k)
-        → place < closeParts bytes slots distances .k
-        → (closeOutcome bytes slots distances (length out) ≡ refuse 6 1 place) × (closeBuffer bytes slots distances out ≡ out)
+    pub close-entry : (place : ℕ) → place ≡ firstBelow (badEntry parts) (parts .k) → place < parts .k
+        → Ends (refuse 6 1 place) out
     unfolding closeOutcome
     close-entry place e h =
-        let P : Parts = closeParts bytes slots distances in
-        with-buffer (refuse 6 1 place)
-        (rw (le-ltb maxSlots (length bytes) few) (refuseFirst-some 6 1 (badEntry P) (P .k) place _ e h))
+        ends (refuse 6 1 place)
+        (rw (le-ltb maxSlots (length bytes) few) (refuseFirst-some 6 1 (badEntry parts) (parts .k) place _ e h))
 
-    pub close-slot : EntriesRight (closeParts bytes slots distances) → (place : ℕ)
-        → place ≡ firstBelow (badSlot (closeParts bytes slots distances)) (length bytes) → place < length bytes
-        → (closeOutcome bytes slots distances (length out) ≡ refuse 7 1 place) × (closeBuffer bytes slots distances out ≡ out)
+    pub close-slot : EntriesRight parts → (place : ℕ) → place ≡ firstBelow (badSlot parts) (length bytes)
+        → place < length bytes → Ends (refuse 7 1 place) out
     unfolding closeOutcome
     close-slot right place e h =
-        let P : Parts = closeParts bytes slots distances in
-        with-buffer (refuse 7 1 place)
+        ends (refuse 7 1 place)
         (rw (le-ltb maxSlots (length bytes) few)
-        (refuseFirst-none 6 1 (badEntry P) (P .k) _ right ∙ refuseFirst-some 7 1 (badSlot P) (P .n) place _ e h))
+        (refuseFirst-none 6 1 (badEntry parts) (parts .k) _ right
+        ∙ refuseFirst-some 7 1 (badSlot parts) (parts .n) place _ e h))
 
-    pub close-sound : SoundParts (closeParts bytes slots distances)
-        → (closeOutcome bytes slots distances (length out) ≡ partsOutcome (closeParts bytes slots distances) (length out))
-        × (closeBuffer bytes slots distances out ≡ partsBuffer (closeParts bytes slots distances) out)
+    pub close-sound : SoundParts parts → Ends (partsOutcome parts (length out)) (partsBuffer parts out)
     unfolding closeOutcome
     close-sound sound =
-        let P : Parts = closeParts bytes slots distances in
-        with-buffer (partsOutcome P (length out))
+        ends (partsOutcome parts (length out))
         (rw (le-ltb maxSlots (length bytes) few)
-        (refuseFirst-none 6 1 (badEntry P) (P .k) _ (sound .entries) ∙ refuseFirst-none 7 1 (badSlot P) (P .n) _ (sound .slots)))
+        (refuseFirst-none 6 1 (badEntry parts) (parts .k) _ (sound .entries)
+        ∙ refuseFirst-none 7 1 (badSlot parts) (parts .n) _ (sound .slots)))

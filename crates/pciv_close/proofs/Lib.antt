@@ -1,4 +1,3 @@
 pub mod CloseLaws
-pub mod FullSearchLaws
 pub mod SoundLaws
 pub mod CloseOutcomeLaws

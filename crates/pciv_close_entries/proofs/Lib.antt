@@ -1,5 +1,5 @@
 pub mod PassesLaws
 pub mod StepLaws
 pub mod Facts
-mod Again
+mod Reborrow
 mod Rest

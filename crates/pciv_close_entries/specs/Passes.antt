@@ -5,10 +5,12 @@
 --   Checking, Searching, Writing
 --                                where a call stands in each pass, before its next entry
 --   Finished                     its answer and its buffer are right
---   Doing bytes call job out     the one or the other; `out` is the buffer now
---   left k job                   how much is left to do, at the most
---   Ready, Advances              what a step asks of the next entry e, and what it does: whatever the call is
---   Right, Sound                 every entry was found right, and every byte 255 has one
+--   Going, Doing bytes call job out    the one or the other; `out` is the buffer now
+--   endedJob, onwardJob          a call that has ended; the same pass one entry on
+--   passesLeft pass, left k job  how much is left to do, at the most
+--   Starts                       what the first step of a call does
+--   Next, Ready, Advances        what a step asks of the next entry e, and what it does: whatever the call is
+--   AllRight, AllSound, Right, Sound    every entry was found right, and every byte 255 has one
 --   OpensRight, OpensSound       what the first step of the next pass does then
 -- Laws are in proofs/PassesLaws.antt. Axioms: none.
 use mathlib.Core.Path.{_≡_}
@@ -19,11 +21,11 @@ use lib.ListN.{length, getD}
 use lib.Seq.{sets}
 use Rattle.pciv_format.specs.Layout.{maxSlots, fileLen, header, countsOf, at}
 use Rattle.pciv_format.specs.Refusals.{done, fileAnswer}
-use Rattle.pciv_format.specs.Parts.{Parts, lowestSlot, badEntry, badSlot, SoundParts}
+use Rattle.pciv_format.specs.Parts.{Parts, lowestSlot, badEntry, badSlot, EntriesRight, SoundParts}
 use Rattle.pciv_format.specs.Write.{closeParts, closeOutcome, closeBuffer}
 use Rattle.pciv_format.specs.declared.Entry.{Entry}
 use Rattle.pciv_format.specs.declared.FileAnswer.{FileAnswer}
-use Rattle.pciv_close.specs.Close.{EntriesRight, EntriesLeft}
+use Rattle.pciv_close.specs.Close.{EntriesLeft}
 use Rattle.pciv_close_entries.specs.declared.Job.{Job}
 use Rattle.pciv_close_entries.specs.declared.Pass.{Pass}
 use Rattle.pciv_close_entries.specs.declared.Pass.the-variants.{Check, Search, Write}

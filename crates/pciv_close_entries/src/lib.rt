@@ -8,15 +8,15 @@ ghost use lib.ListN.{length};
 ghost use Rattle.pciv_format.specs.Refusals.{fileAnswer};
 ghost use Rattle.pciv_format.specs.Write.{closeOutcome, closeBuffer};
 ghost use Rattle.pciv_close_entries.specs.declared.Pass.the-variants as InPass;
-ghost use Rattle.pciv_close_entries.specs.Passes.{slotsOf, distancesOf, endedJob, onwardJob, Starts, Ready, Advances, Right, OpensRight, Sound, OpensSound};
+ghost use Rattle.pciv_close_entries.specs.Passes.{slotsOf, distancesOf, endedJob, onwardJob, Starts};
+ghost use Rattle.pciv_close_entries.specs.Passes.{Ready, Advances, Right, OpensRight, Sound};
+ghost use Rattle.pciv_close_entries.specs.Passes.{OpensSound};
 use pciv_build::begin;
 use pciv_build::finish;
 use pciv_build::put_entry;
 use pciv_bytes::copies::copy_bytes;
-use pciv_close::bad_entry;
+use pciv_bytes::find::find_byte;
 use pciv_close::close;
-use pciv_close::first_full;
-use pciv_close::refused;
 use pciv_format::BAD_OVERFLOW_ENTRY;
 use pciv_format::Entry;
 use pciv_format::FileAnswer;
@@ -25,6 +25,8 @@ use pciv_format::MAX_SLOTS;
 use pciv_format::MISSING_OVERFLOW_ENTRY;
 use pciv_format::SENTINEL;
 use pciv_format::TOO_MANY_SLOTS;
+use pciv_layout::entries::wrong_entry;
+use pciv_layout::refusals::refuse_file;
 use pciv_passes::counts::count_byte;
 
 // What is done with the entries.
@@ -114,7 +116,7 @@ fn checked(out: &mut [u8], primary: &[u8], k: usize) -> Job
         next: 0,
         lowest: 0,
         pass: Pass::Search,
-        answer: refused(MISSING_OVERFLOW_ENTRY, 0),
+        answer: refuse_file(MISSING_OVERFLOW_ENTRY, 1, 0),
     }
 }
 
@@ -125,8 +127,8 @@ fn check_next(out: &mut [u8], primary: &[u8], k: usize, job: Job, e: Entry) -> J
     ensures { λ r. ⌜ Advances (now (primary .entry)) k job e (now (out .entry)) r (now (out .exit)) ⌝ }
 {
     let slot = e.slot as usize;
-    if bad_entry(primary, job.lowest, slot, e.distance) {
-        return ended(k, refused(BAD_OVERFLOW_ENTRY, job.next));
+    if wrong_entry(primary, job.lowest, slot, e.distance) {
+        return ended(k, refuse_file(BAD_OVERFLOW_ENTRY, 1, job.next));
     }
     let then = onward(job, k, slot + 1);
     if then.next < k {
@@ -142,18 +144,18 @@ fn search_next(out: &mut [u8], primary: &[u8], k: usize, job: Job, e: Entry) -> 
     ensures { λ r. ⌜ Advances (now (primary .entry)) k job e (now (out .entry)) r (now (out .exit)) ⌝ }
 {
     let slot = e.slot as usize;
-    let full = first_full(primary, job.lowest, slot);
+    let full = find_byte(primary, job.lowest, slot, SENTINEL);
     if full < slot {
-        return ended(k, refused(MISSING_OVERFLOW_ENTRY, full));
+        return ended(k, refuse_file(MISSING_OVERFLOW_ENTRY, 1, full));
     }
     let then = onward(job, k, slot + 1);
     if then.next < k {
         return then;
     }
     let n = primary.len();
-    let last = first_full(primary, slot + 1, n);
+    let last = find_byte(primary, slot + 1, n, SENTINEL);
     if last < n {
-        return ended(k, refused(MISSING_OVERFLOW_ENTRY, last));
+        return ended(k, refuse_file(MISSING_OVERFLOW_ENTRY, 1, last));
     }
     open(out, primary, k)
 }
@@ -198,7 +200,7 @@ fn start(out: &mut [u8], primary: &[u8], k: usize) -> Job
     ensures { λ r. ⌜ Starts (now (primary .entry)) k (now (out .entry)) r (now (out .exit)) ⌝ }
 {
     if MAX_SLOTS < primary.len() {
-        return ended(k, refused(TOO_MANY_SLOTS, 0));
+        return ended(k, refuse_file(TOO_MANY_SLOTS, 1, 0));
     }
     if k == 0 {
         let slots: [usize; 0] = [0; 0];
@@ -209,7 +211,7 @@ fn start(out: &mut [u8], primary: &[u8], k: usize) -> Job
         next: 0,
         lowest: 0,
         pass: Pass::Check,
-        answer: refused(BAD_OVERFLOW_ENTRY, 0),
+        answer: refuse_file(BAD_OVERFLOW_ENTRY, 1, 0),
     }
 }
 

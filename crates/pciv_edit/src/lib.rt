@@ -24,9 +24,7 @@ pub fn edit(buffer: &mut [u8], slot: usize, distance: u32) -> EditAnswer
         FileAnswer::Done(s) => {
             let n = s.n;
             let k = s.k;
-            EditAnswer {
-                outcome: edit_checked(buffer, n, k, slot, distance),
-            }
+            edit_checked(buffer, n, k, slot, distance)
         }
     }
 }

@@ -1,7 +1,11 @@
--- The test of an index entry, case by case.
-use mathlib.Core.Path.{_≡_, refl}
+-- The test of an index entry, case by case (docs/FORMAT.md, "Refusals", 8).
+--   slotField, placeField    what index entry i states
+--   slotThere                the slot that it should state
+--   badIndexEntry-slot, -place, -good    another slot, another place, or neither
+-- Axioms: none.
+use mathlib.Core.Path.{_≡_}
 use Prim.Native.Nat.{ℕ, _+_, _*_}
-use mathlib.Core.Bool.{Bool, true, false, not}
+use mathlib.Core.Bool.{true, false, not}
 use mathlib.Core.List.{List}
 use lib.Dec.{eqb}
 use Rattle.pciv_bytes.specs.LittleEndian.{get}
@@ -10,14 +14,12 @@ use Rattle.pciv_format.specs.Check.{badIndexEntry}
 use Rattle.pciv_format.proofs.PartsLaws.{or-true, eqb-not, neb-not}
 
 module _ (b : List ℕ) (n k i : ℕ) where
-  -- the slot and the place that index entry i states
   abbrev pub slotField : ℕ
   slotField = get 8 b (40 + n + 12 * k + 16 * i)
 
   abbrev pub placeField : ℕ
   placeField = get 8 b (40 + n + 12 * k + 16 * i + 8)
 
-  -- the slot that it should state
   abbrev pub slotThere : ℕ
   slotThere = get 8 b (40 + n + 12 * (i * indexStep k))
 

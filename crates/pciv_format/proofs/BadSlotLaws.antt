@@ -1,22 +1,22 @@
--- A walk over the slots with the next overflow entry at hand, where every entry is right.
--- At slot i, entry j is the next one: the entries before j have slots below i, the others not.
-use mathlib.Core.Path.{_≡_, refl, sym, ap, _∙_}
-use Prim.Native.Nat.{ℕ, suc, _+_, _≤_, _<_}
+-- The slots with byte 255 and no entry, and a walk over the slots with the next overflow entry at hand, where
+-- every entry is right.
+--   badSlot-inline, -none, -entry    a slot that needs no entry, that no entry has, that entry j has
+--   Walk P i j     at slot i, entry j is the next one: the entries before j have slots below i, the others not
+--   walk-start, -take, -skip    before slot 0, and one slot on: past its entry, or without one
+--   badSlot-next   a slot with byte 255, where the next entry is another slot's
+-- Axioms: none.
+use mathlib.Core.Path.{_≡_, sym, ap, _∙_}
+use Prim.Native.Nat.{ℕ, _+_, _≤_, _<_}
 use native.Mathlib.Nat.{le-refl}
 use native.Mathlib.Omega.{arith}
 use native.Mathlib.Decide.{decLe}
 use mathlib.Core.Bool.{Bool, true, false}
-use lib.Dec.{leb, eqb}
+use lib.Dec.{eqb}
 use borrow.Author.Tests.{le-leb, lt-leb, eq-eqb, ne-eqb}
 use Rattle.pciv_bytes.specs.Ranges.{firstBelow}
 use Rattle.pciv_bytes.proofs.RangesLaws.{firstBelow-none, firstBelow-lt}
-use Rattle.pciv_bytes.proofs.PositionsLaws.{rises}
-use Rattle.pciv_format.specs.Parts.{Parts, badEntry, entryOf, badSlot}
-use Rattle.pciv_format.proofs.PartsLaws.{GoodEntry, goodEntry-of-test, and-false}
-
--- every entry of P is right
-abbrev pub EntriesRight : Parts → Type 0
-EntriesRight P = (j : ℕ) → j < P .k → badEntry P j ≡ false
+use Rattle.pciv_format.specs.Parts.{Parts, entryOf, badSlot, EntriesRight}
+use Rattle.pciv_format.proofs.PartsLaws.{and-false, entry-at, entries-rise}
 
 pub record Walk (P : Parts) (i j : ℕ) : Type 0 where
   pub below : (t : ℕ) → t < j → P .slot t < i
@@ -43,23 +43,20 @@ pub badSlot-entry : (P : Parts) (i j : ℕ) → j < P .k → P .slot j ≡ i →
 unfolding badSlot entryOf
 badSlot-entry P i j h e =
     let p : ℕ → Bool = λ t. eqb (P .slot t) i in
-    rw (lt-leb (P .k) (firstBelow p (P .k)) (firstBelow-lt p (P .k) j h (eq-eqb (P .slot j) i e))) (and-false (eqb (P .byte i) 255))
+    let has = firstBelow-lt p (P .k) j h (eq-eqb (P .slot j) i e) in
+    rw (lt-leb (P .k) (firstBelow p (P .k)) has) (and-false (eqb (P .byte i) 255))
 
 module _ (P : Parts) (right : EntriesRight P) where
-  pub entry-at : (j : ℕ) → j < P .k → GoodEntry P j
-  entry-at j h = goodEntry-of-test P j (right j h)
-
-  pub slots-rise : (j t : ℕ) → j < t → t < P .k → P .slot j < P .slot t
-  slots-rise = rises (P .slot) (P .k) (λ j h. omega (arith, entry-at (suc j) h .above))
-
   -- slot i has entry j
   pub walk-take : (i j : ℕ) → Walk P i j → j < P .k → P .slot j ≡ i → Walk P (i + 1) (j + 1)
   walk-take i j w h e =
       record {
         below = λ t ht.
-            elim (decLe j t)
-            [ yes d ↦ (let q : t ≡ j = omega arith in omega (arith, ap (P .slot) q)) | no d ↦ omega (arith, w .below t (omega arith)) ];
-        above = λ t h₁ h₂. omega (arith, slots-rise j t (omega arith) h₂);
+            elim (decLe j t) [
+              | yes d ↦ (let q : t ≡ j = omega arith in omega (arith, ap (P .slot) q))
+              | no d ↦ omega (arith, w .below t (omega arith))
+            ];
+        above = λ t h₁ h₂. omega (arith, entries-rise P right j t (omega arith) h₂);
       }
 
   -- slot i is stored inline
@@ -70,7 +67,7 @@ module _ (P : Parts) (right : EntriesRight P) where
         above = λ t h₁ h₂.
             elim (decLe (P .slot t) i) [
               | yes d ↦ (let q : P .slot t ≡ i = omega (arith, w .above t h₁ h₂) in
-                  absurd (inline (ap (P .byte) (sym q) ∙ entry-at t h₂ .marked)))
+                  absurd (inline (ap (P .byte) (sym q) ∙ entry-at P right t h₂ .marked)))
               | no d ↦ omega arith
             ];
       }
@@ -85,7 +82,7 @@ module _ (P : Parts) (right : EntriesRight P) where
             | yes d ↦
                 elim (decLe t j) [
                   | yes d' ↦ (let z : t ≡ j = omega arith in other (omega arith) (ap (P .slot) (sym z) ∙ q))
-                  | no d' ↦ omega (arith, slots-rise j t (omega arith) h, w .above j (le-refl j) (omega arith))
+                  | no d' ↦ omega (arith, entries-rise P right j t (omega arith) h, w .above j (le-refl j) (omega arith))
                 ]
             | no d ↦ omega (arith, w .below t (omega arith))
           ]

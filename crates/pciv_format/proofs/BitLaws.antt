@@ -1,23 +1,30 @@
 -- Laws of the bits of a number, and of the word made of given bits.
+--   eqb-flag, flag-bitAt   a bit and its test;  bitAt-le  a bit is 0 or 1
 --   bitAt-lowest, -suc     the lowest bit, and the others one by one
---   bitAt-shr, -shl, -mod, -and, -or, -xor
---                          the bits of a shifted, cut or combined number
---   bitAt-past             a number below 2 ^ c has no bits from c on
+--   bitAt-shr, -shl, -mod, -and, -or, -xor    the bits of a shifted, cut or combined number
+--   bitAt-past, -none      a number below 2 ^ c has no bits from c on, and 0 has none
 --   bits-inj, bits-none    numbers below 2 ^ c with the same c bits are equal
---   bitAt-word, word-unique
---                          the bits of a word, and that no other number below 2 ^ c has them
+--   word-lt, word-cong     the word of c bits is below 2 ^ c, and the same where they are
+--   bitAt-word, -past      its bits;  word-unique  no other number below 2 ^ c has them
+--   trailing-bit, -lt      the bit above the trailing zeros is set, and its place is below the number of bits
+--   half-pos               where the lowest bit is not set, it is one of the half
+--   less-lt, -lowest, -other    x & (x - 1) is less than x: the lowest set bit is not left, and all others are
+--   less-even, -odd        x & (x - 1) by halves
 --   ones-bits              the count of ones is the sum of the bits
+-- Axioms: none.
 use mathlib.Core.Path.{_≡_, refl, sym, ap, _∙_}
 use mathlib.Core.Bool.{Bool, true, false}
 use Prim.Native.Nat.{ℕ, zero, suc, _+_, _-_, _*_, _/_, _%_, _^_, _≤_, _<_, min, max}
 use native.Mathlib.Nat.{pow-suc, add-zero, zero-add, div-one, div-eq-of-lt}
 use native.Mathlib.Omega.{arith}
-use lib.Bits.{bitAnd, bitOr, bitXor, differ, and-step, or-step, xor-step, and-shr, or-shr, xor-shr}
-use lib.Count.{ones, ones-step, ones-le}
+use native.Mathlib.Decide.{decLe}
+use lib.Bits.{bitAnd, bitOr, bitXor, differ, and-step, and-self, and-le-r, or-step, xor-step, and-shr, or-shr, xor-shr}
+use lib.Count.{ones, ones-step, ones-le, trailingZeros, under}
 use lib.Dec.{eqb, lit<}
 use lib.Pow.{shr-shr, shl-shr, field, mod-mod-pow, pow-mono}
 use Rattle.pciv_bytes.specs.Ranges.{flag, sumFrom}
-use Rattle.pciv_bytes.proofs.SumLaws.{flag-le, sumFrom-shift}
+use Rattle.pciv_bytes.proofs.RangesLaws.{flag-le}
+use Rattle.pciv_bytes.proofs.SumLaws.{sumFrom-shift}
 use Rattle.pciv_format.specs.Mask.{bitAt, word}
 
 -- ---- bits and flags
@@ -78,8 +85,8 @@ differ-le (suc x) (suc y) h k = differ-le x y (omega arith) (omega arith)
 pub bitAt-xor : (x y j : ℕ) → bitAt (bitXor x y) j ≡ differ (bitAt x j) (bitAt y j)
 unfolding bitAt
 bitAt-xor x y j =
-    rw (xor-shr x y j)
-    (omega (arith, xor-step (x / 2 ^ j) (y / 2 ^ j), differ-le (x / 2 ^ j % 2) (y / 2 ^ j % 2) (omega arith) (omega arith)))
+    let low = differ-le (x / 2 ^ j % 2) (y / 2 ^ j % 2) (omega arith) (omega arith) in
+    rw (xor-shr x y j) (omega (arith, xor-step (x / 2 ^ j) (y / 2 ^ j), low))
 
 -- a number below 2 ^ c has no bits from c on
 pub bitAt-past : (x c j : ℕ) → x < 2 ^ c → c ≤ j → bitAt x j ≡ 0
@@ -95,7 +102,8 @@ bits-inj zero x y hx hy same = omega arith
 bits-inj (suc c) x y hx hy same =
     let p : 2 ^ suc c ≡ 2 ^ c * 2 = pow-suc 2 c in
     let high =
-    bits-inj c (x / 2) (y / 2) (omega arith) (omega arith) (λ j h. sym (bitAt-suc x j) ∙ same (suc j) (omega arith) ∙ bitAt-suc y j) in
+    bits-inj c (x / 2) (y / 2) (omega arith) (omega arith)
+    (λ j h. sym (bitAt-suc x j) ∙ same (suc j) (omega arith) ∙ bitAt-suc y j) in
     let low : x % 2 ≡ y % 2 = sym (bitAt-lowest x) ∙ same 0 (omega arith) ∙ bitAt-lowest y in
     omega arith
 
@@ -127,7 +135,8 @@ pub bitAt-word-past : (p : ℕ → Bool) (i c j : ℕ) → c ≤ j → bitAt (wo
 bitAt-word-past p i c j past = bitAt-past (word p i c) c j (word-lt p i c) past
 
 -- the only number below 2 ^ c with these bits
-pub word-unique : (p : ℕ → Bool) (i c x : ℕ) → x < 2 ^ c → ((j : ℕ) → j < c → bitAt x j ≡ flag (p (i + j))) → x ≡ word p i c
+pub word-unique : (p : ℕ → Bool) (i c x : ℕ) → x < 2 ^ c → ((j : ℕ) → j < c → bitAt x j ≡ flag (p (i + j)))
+    → x ≡ word p i c
 word-unique p i c x small same =
     bits-inj c x (word p i c) small (word-lt p i c) (λ j h. same j h ∙ sym (bitAt-word p i c j h))
 
@@ -135,6 +144,89 @@ pub word-cong : (p q : ℕ → Bool) (i c : ℕ) → ((j : ℕ) → i ≤ j → 
 word-cong p q i c same =
     word-unique q i c (word p i c) (word-lt p i c)
     (λ j h. bitAt-word p i c j h ∙ ap flag (same (i + j) (omega arith) (omega arith)))
+
+-- ---- the lowest set bit: the number of zeros below it is its place
+
+pub half-pos : (c x : ℕ) → 0 < x → x < 2 ^ suc c → x % 2 ≡ 0 → (0 < x / 2) × (x / 2 < 2 ^ c)
+half-pos c x pos small even = let p : 2 ^ suc c ≡ 2 ^ c * 2 = pow-suc 2 c in (omega arith, omega arith)
+
+pub trailing-bit : (c x : ℕ) → 0 < x → x < 2 ^ c → bitAt x (trailingZeros c x) ≡ 1
+unfolding trailingZeros
+trailing-bit zero x pos small = absurd (omega arith)
+trailing-bit (suc c) x pos small = go (x % 2) refl (trailing-bit c (x / 2))
+  where
+    go : (d : ℕ) → x % 2 ≡ d → (0 < x / 2 → x / 2 < 2 ^ c → bitAt (x / 2) (trailingZeros c (x / 2)) ≡ 1)
+        → bitAt x (under d (trailingZeros c (x / 2))) ≡ 1
+    go zero e rest =
+        let h = half-pos c x pos small e in
+        bitAt-suc x (trailingZeros c (x / 2)) ∙ rest (h .0) (h .1)
+    go (suc d) e rest = bitAt-lowest x ∙ omega arith
+
+pub trailing-lt : (c x : ℕ) → 0 < x → x < 2 ^ c → trailingZeros c x < c
+trailing-lt c x pos small =
+    elim (decLe c (trailingZeros c x)) [
+      | yes past ↦ absurd (omega (arith, trailing-bit c x pos small, bitAt-past x c (trailingZeros c x) small past))
+      | no d ↦ omega arith
+    ]
+
+-- x & (x - 1) is x without it; as a number less
+pub less-lt : (x : ℕ) → 0 < x → bitAnd x (x - 1) < x
+less-lt x pos = omega (arith, and-le-r x (x - 1))
+
+-- halved: the same of x / 2 where x is even, else x / 2
+pub less-even : (x : ℕ) → 0 < x → x % 2 ≡ 0
+    → (bitAnd x (x - 1) % 2 ≡ 0) × (bitAnd x (x - 1) / 2 ≡ bitAnd (x / 2) (x / 2 - 1))
+less-even x pos even =
+    let below : (x - 1) / 2 ≡ x / 2 - 1 = omega arith in
+    let step : bitAnd x (x - 1) ≡ bitAnd (x / 2) ((x - 1) / 2) * 2 + min (x % 2) ((x - 1) % 2) = and-step x (x - 1) in
+    let is : bitAnd x (x - 1) ≡ bitAnd (x / 2) (x / 2 - 1) * 2 + min (x % 2) ((x - 1) % 2) = step ∙ rw below in
+    (omega arith, omega arith)
+
+pub less-odd : (x : ℕ) → x % 2 ≡ 1 → (bitAnd x (x - 1) % 2 ≡ 0) × (bitAnd x (x - 1) / 2 ≡ x / 2)
+less-odd x odd =
+    let below : (x - 1) / 2 ≡ x / 2 = omega arith in
+    let step : bitAnd x (x - 1) ≡ bitAnd (x / 2) ((x - 1) / 2) * 2 + min (x % 2) ((x - 1) % 2) = and-step x (x - 1) in
+    let is : bitAnd x (x - 1) ≡ x / 2 * 2 + min (x % 2) ((x - 1) % 2) = step ∙ rw (below, and-self (x / 2)) in
+    (omega arith, omega arith)
+
+-- the lowest set bit is not left
+pub less-lowest : (c x : ℕ) → 0 < x → x < 2 ^ c → bitAt (bitAnd x (x - 1)) (trailingZeros c x) ≡ 0
+unfolding trailingZeros
+less-lowest zero x pos small = absurd (omega arith)
+less-lowest (suc c) x pos small = go (x % 2) refl (less-lowest c (x / 2))
+  where
+    go : (d : ℕ) → x % 2 ≡ d
+        → (0 < x / 2 → x / 2 < 2 ^ c → bitAt (bitAnd (x / 2) (x / 2 - 1)) (trailingZeros c (x / 2)) ≡ 0)
+        → bitAt (bitAnd x (x - 1)) (under d (trailingZeros c (x / 2))) ≡ 0
+    go zero e rest =
+        let h = half-pos c x pos small e in
+        let t : ℕ = trailingZeros c (x / 2) in
+        bitAt-suc (bitAnd x (x - 1)) t ∙ ap (λ (y : ℕ). bitAt y t) (less-even x pos e .1) ∙ rest (h .0) (h .1)
+    go (suc d) e rest = bitAt-lowest (bitAnd x (x - 1)) ∙ less-odd x (omega arith) .0
+
+-- all other bits are
+pub less-other : (c x j : ℕ) → 0 < x → x < 2 ^ c → (j ≡ trailingZeros c x → ⊥) → bitAt (bitAnd x (x - 1)) j ≡ bitAt x j
+unfolding trailingZeros
+less-other zero x j pos small other = absurd (omega arith)
+less-other (suc c) x j pos small other = go (x % 2) refl j other (less-other c (x / 2))
+  where
+    go : (d : ℕ) → x % 2 ≡ d → (j : ℕ) → (j ≡ under d (trailingZeros c (x / 2)) → ⊥)
+        → ((k : ℕ) → 0 < x / 2 → x / 2 < 2 ^ c → (k ≡ trailingZeros c (x / 2) → ⊥)
+        → bitAt (bitAnd (x / 2) (x / 2 - 1)) k ≡ bitAt (x / 2) k)
+        → bitAt (bitAnd x (x - 1)) j ≡ bitAt x j
+    go zero e zero other rest =
+        bitAt-lowest (bitAnd x (x - 1)) ∙ less-even x pos e .0 ∙ sym (bitAt-lowest x ∙ e)
+    go zero e (suc k) other rest =
+        let h = half-pos c x pos small e in
+        bitAt-suc (bitAnd x (x - 1)) k
+        ∙ ap (λ (y : ℕ). bitAt y k) (less-even x pos e .1)
+        ∙ rest k (h .0) (h .1) (λ q. other (ap suc q))
+        ∙ sym (bitAt-suc x k)
+    go (suc d) e zero other rest = absurd (other refl)
+    go (suc d) e (suc k) other rest =
+        bitAt-suc (bitAnd x (x - 1)) k
+        ∙ ap (λ (y : ℕ). bitAt y k) (less-odd x (omega arith) .1)
+        ∙ sym (bitAt-suc x k)
 
 -- ---- the count of ones
 

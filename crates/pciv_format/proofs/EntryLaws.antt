@@ -5,6 +5,9 @@
 --   slots-sorted       the slots of the entries do not fall
 --   slot-below         entries before entry j have smaller slots
 --   gap-inline         a slot past entry j - 1 and before entry j is inline
+--   entryOf-there      a slot with byte 255 has its entry, and valueOf-entryOf its distance there
+--   entryOf-from, -above, -unique
+--                      a search for that entry: not before entry t, past an entry with a smaller slot, found
 --   sum-entries        the sum of all distances: that of the bytes and of the excesses; sum-entries-of for any f
 --   readings-bytes     as many distances as bytes are not 0
 -- Axioms: none.
@@ -21,8 +24,9 @@ use lib.Dec.{eqb}
 use Rattle.pciv_bytes.specs.Ranges.{flag, sumFrom}
 use Rattle.pciv_bytes.specs.ByteAt.{byteAt, byteIs}
 use Rattle.pciv_bytes.proofs.SumLaws.{sumFrom-none, sumFrom-more, sumFrom-split, sumFrom-cong, sumFrom-rest}
-use Rattle.pciv_format.specs.Parts.{Parts, lowestSlot, valueOf, SoundParts}
-use Rattle.pciv_format.proofs.PartsLaws.{entry-good, slots-rise, valueOf-slot, valueOf-inline, slot-cases, neb-not}
+use Rattle.pciv_format.specs.Parts.{Parts, lowestSlot, entryOf, valueOf, SoundParts}
+use Rattle.pciv_format.proofs.PartsLaws.{entry-good, slots-rise, entryOf-slot, slot-entry}
+use Rattle.pciv_format.proofs.PartsLaws.{valueOf-slot, valueOf-inline, slot-cases, neb-not}
 
 abbrev pub excess : Parts → ℕ → ℕ
 excess P j = P .distance j - 255
@@ -59,6 +63,43 @@ module _ (P : Parts) (s : SoundParts P) (bytes : (i : ℕ) → P .byte i < 256) 
   pub gap-value : (j i : ℕ) → j ≤ P .k → lowestSlot P j ≤ i → (j < P .k → i < P .slot j) → i < P .n
       → valueOf P i ≡ P .byte i
   gap-value j i few low high inside = valueOf-inline P s i (gap-inline j i few low high inside)
+
+  -- ---- the entry of a slot with byte 255
+
+  module _ (i : ℕ) (inside : i < P .n) (full : P .byte i ≡ 255) where
+    pub entryOf-there : (entryOf P i < P .k) × (P .slot (entryOf P i) ≡ i)
+    entryOf-there =
+        let q = slot-entry P s i inside full in
+        let at : entryOf P i ≡ q .0 = ap (entryOf P) (sym (q .2)) ∙ entryOf-slot P s (q .0) (q .1) in
+        (omega (arith, q .1), ap (P .slot) at ∙ q .2)
+
+    pub valueOf-entryOf : valueOf P i ≡ P .distance (entryOf P i)
+    unfolding valueOf
+    valueOf-entryOf = rw full
+
+    pub entryOf-from : (t : ℕ) → t ≤ P .k → lowestSlot P t ≤ i → t ≤ entryOf P i
+    entryOf-from t few low =
+        let there = entryOf-there in
+        elim (decLe t (entryOf P i)) [
+          | yes d ↦ d
+          | no d ↦ absurd (omega (arith, slot-below t (entryOf P i) (omega arith) few, there .1))
+        ]
+
+    pub entryOf-above : (j : ℕ) → j ≤ entryOf P i → P .slot j < i → j + 1 ≤ entryOf P i
+    entryOf-above j h below =
+        let there = entryOf-there in
+        elim (decLe (entryOf P i) j) [
+          | yes d ↦ (let same : j ≡ entryOf P i = omega arith in absurd (omega (arith, ap (P .slot) same, there .1)))
+          | no d ↦ omega arith
+        ]
+
+    pub entryOf-unique : (j : ℕ) → j ≤ entryOf P i → i ≤ P .slot j → j ≡ entryOf P i
+    entryOf-unique j h above =
+        let there = entryOf-there in
+        elim (decLe (entryOf P i) j) [
+          | yes d ↦ omega arith
+          | no d ↦ absurd (omega (arith, slots-rise P s j (entryOf P i) (omega arith) (there .0), there .1))
+        ]
 
   -- ---- sums
 

@@ -1,6 +1,7 @@
 pub mod PrimaryLaws
 pub mod BadSlotLaws
 pub mod FullCountLaws
+pub mod FullSearchLaws
 pub mod BadEntryLaws
 pub mod BadIndexLaws
 pub mod PartsLaws
@@ -8,14 +9,16 @@ pub mod RefusalsLaws
 pub mod LayoutLaws
 pub mod CheckLaws
 pub mod FileLaws
-pub mod ExactLaws
+pub mod CheckedFileLaws
 pub mod ReadLaws
 pub mod Acceptance
 pub mod Cases
+pub mod SamePartsLaws
 pub mod FrontLaws
 pub mod RunLaws
 pub mod EditLaws
 pub mod LimitLaws
+pub mod EditCaseLaws
 pub mod ListLaws
 pub mod EntryLaws
 pub mod PatchLaws
@@ -23,3 +26,5 @@ pub mod MapLaws
 pub mod ReadCaseLaws
 pub mod BitLaws
 pub mod MaskLaws
+pub mod QuotientLaws
+pub mod ReportLaws

@@ -1,7 +1,8 @@
 -- Laws of a checked map: where its primary bytes and overflow entries stand, and what they add up to.
---   primaryOf b n    the primary bytes, as the part of b that is lent to other routines
---   primary-at       byte i of them
---   value-lt         every distance fits 32 bits
+--   primaryOf b n    the primary bytes, as the part of b that other routines are given
+--   primary-inside, -length, -at, -over    they lie within b; how many they are; byte i; as a list of distances
+--   entry-inside     entry j lies within b
+--   value-lt, sum-lt, excess-lt    every distance fits 32 bits, and sums of them 52
 --   sum-primary      what the primary bytes and the entries add up to; readings-primary likewise for readings
 -- Axioms: none.
 use mathlib.Core.Path.{_≡_, sym, ap, _∙_}

@@ -1,20 +1,23 @@
 -- Laws of masks, over any number of words.
---   maskHas-bit            slot 64 w + j is bit j of word w
+--   maskHas-bit, -at, flag-maskHas    slot 64 w + j is bit j of word w, as a test and as a number
+--   maskHas-past           slots past the last word are not set
+--   bit-of-word, slot-bit  a slot as a number, and bit by bit;  word-of-mask  a word is 64 slots
 --   words-ext              lists of words with the same slots are equal
---   maskHas-maskOf, -past  the slots of a mask made of a property
---   maskOf-unique          it is the only mask with these slots
+--   isMask, mask-covers    how to tell a mask; its words have all of its slots
+--   sum-slots              a sum over all slots of its words, where those past n do not count
+--   maskWord n p w         word w of the mask made of p;  -lt, -full, -last
+--   maskOf-table, length-maskOf, getD-maskOf, maskOf-words    it has these words, to be written one by one
+--   maskHas-maskOf, -past  its slots;  maskOf-good  it is a mask
+--   maskOf-unique, -cong   it is the only mask with these slots
 --   setBits-maskOf         it has as many set bits as there are slots with the property
---   maskOf-table, maskWord-full, maskWord-last
---                          its words, to be written one by one
 --   table-maskOf           words with these bits are its words
 --   ones-maskHas           the count of ones of a word is that of its slots
---   badMask-good, good-badMask
---                          what is not bad is a mask, and conversely
---   badMask-count, -whole, -last
---                          how to tell: by the number of words, and by the bits past n of the last
+--   badMask-good, good-badMask    what is not bad is a mask, and conversely;  or-false  neither of two tests
+--   badMask-count, -whole, -last    how to tell: by the number of words, and by the bits past n of the last
+-- Axioms: none.
 use mathlib.Core.Path.{_≡_, refl, sym, ap, _∙_}
 use Prim.Native.Nat.{ℕ, zero, suc, _+_, _-_, _*_, _/_, _%_, _^_, _≤_, _<_, min}
-use native.Mathlib.Nat.{zero-add}
+use native.Mathlib.Nat.{zero-add, sub-zero}
 use native.Mathlib.Omega.{arith}
 use native.Mathlib.Decide.{decLe}
 use mathlib.Core.Bool.{Bool, true, false, not, cond, _||_}
@@ -26,11 +29,12 @@ use lib.Dec.{ltb, eqb}
 use lib.Pow.{pow-mono, shr-lt}
 use borrow.Author.Tests.{le-ltb, ltb-false, eq-eqb, ne-eqb, eqb-true, not-true, not-false}
 use Rattle.pciv_bytes.specs.Ranges.{flag, firstFrom, table, sumFrom}
-use Rattle.pciv_bytes.proofs.RangesLaws.{true-false, length-table, getD-table, table-cong}
-use Rattle.pciv_bytes.proofs.SumLaws.{flag-zero, sumFrom-cong, sumFrom-shift}
-use Rattle.pciv_format.specs.Mask.{maskLen, bitAt, maskHas, word, maskOf, badMask, setBits}
+use Rattle.pciv_bytes.proofs.RangesLaws.{true-false, length-table, getD-table, table-cong, table-shift, flag-zero}
+use Rattle.pciv_bytes.proofs.SumLaws.{sumFrom-cong, sumFrom-shift, sumFrom-split, sumFrom-le}
+use Rattle.pciv_format.specs.Mask.{maskLen, bitAt, maskHas, maskValue, word, maskOf, badMask, setBits}
 use Rattle.pciv_format.specs.Words.{Words, IsMask}
-use Rattle.pciv_format.proofs.BitLaws.{eqb-flag, flag-bitAt, bitAt-none, bitAt-shr, bits-inj, bits-none, word-lt, bitAt-word, bitAt-word-past, ones-bits}
+use Rattle.pciv_format.proofs.BitLaws.{eqb-flag, flag-bitAt, bitAt-none, bitAt-shr, bits-inj}
+use Rattle.pciv_format.proofs.BitLaws.{bits-none, word-lt, bitAt-word, bitAt-word-past, ones-bits}
 
 -- ---- slots and bits
 
@@ -49,6 +53,25 @@ maskHas-at ws i x b e g = rw (e, g)
 -- as a number
 pub flag-maskHas : (ws : List ℕ) (w j : ℕ) → j < 64 → flag (maskHas ws (64 * w + j)) ≡ bitAt (getD ws w 0) j
 flag-maskHas ws w j h = ap flag (maskHas-bit ws w j h) ∙ flag-bitAt (getD ws w 0) j
+
+-- slot i as a number, by its word and bit
+pub bit-of-word : (ws : List ℕ) (i : ℕ) → getD ws (i / 64) 0 / 2 ^ (i % 64) % 2 ≡ maskValue ws i
+unfolding bitAt
+bit-of-word ws i =
+    let e : 64 * (i / 64) + i % 64 ≡ i = omega arith in
+    sym (flag-maskHas ws (i / 64) (i % 64) (omega arith)) ∙ ap (maskValue ws) e
+
+-- the bits of the word that has the slots from i on
+pub slot-bit : (ws : List ℕ) (i t : ℕ) → i % 64 ≡ 0 → t < 64 → bitAt (getD ws (i / 64) 0) t ≡ maskValue ws (i + t)
+slot-bit ws i t whole h =
+    let e : 64 * (i / 64) + t ≡ i + t = omega arith in
+    sym (flag-maskHas ws (i / 64) t h) ∙ ap (maskValue ws) e
+
+pub word-of-mask : (ws : List ℕ) (i : ℕ) → i % 64 ≡ 0
+    → table (bitAt (getD ws (i / 64) 0)) 0 64 ≡ table (maskValue ws) i 64
+word-of-mask ws i whole =
+    let x : ℕ = getD ws (i / 64) 0 in
+    table-shift (bitAt x) (maskValue ws) 0 i 64 (λ t h. ap (bitAt x) (zero-add t) ∙ slot-bit ws i t whole h)
 
 -- past the last word
 pub maskHas-past : (ws : List ℕ) (i : ℕ) → 64 * length ws ≤ i → maskHas ws i ≡ false
@@ -76,6 +99,24 @@ isMask n ws count past =
             | no d ↦ past i h (omega arith)
           ];
     }
+
+-- its words have all of its slots
+pub mask-covers : {n : ℕ} {ws : List ℕ} → IsMask n ws → n ≤ 64 * length ws
+mask-covers m = omega (arith, m .count)
+
+-- a sum over all slots of its words, where those past n do not count
+pub sum-slots : {n : ℕ} {ws : List ℕ} → IsMask n ws → (f : ℕ → ℕ) → ((i : ℕ) → n ≤ i → f i ≡ 0)
+    → sumFrom f 0 (64 * length ws) ≡ sumFrom f 0 n
+sum-slots {n} {ws} mask f past =
+    let c : ℕ = 64 * length ws - n in
+    let split = simp sub-zero at (sumFrom-split f 0 n (64 * length ws) (omega arith) (mask-covers mask)) in
+    let none : ℕ → ℕ = λ i. 0 in
+    omega (
+      arith,
+      split,
+      sumFrom-cong f none n c (λ i h₁ h₂. past i h₁),
+      sumFrom-le none 0 (λ i. omega arith) n c,
+    )
 
 -- ---- a mask made of a property
 
@@ -110,7 +151,9 @@ module _ (n : ℕ) (p : ℕ → Bool) where
   pub maskOf-words : Words (maskOf n p)
   maskOf-words w =
       elim (decLe (maskLen n) w) [
-        | yes d ↦ (let e : getD (maskOf n p) w 0 ≡ 0 = List·getD-eq-default (maskOf n p) 0 (omega (arith, length-maskOf)) in omega arith)
+        | yes d ↦ (let e : getD (maskOf n p) w 0 ≡ 0 =
+            List·getD-eq-default (maskOf n p) 0 (omega (arith, length-maskOf)) in
+            omega arith)
         | no d ↦ rw (getD-maskOf w (omega arith)) (maskWord-lt w)
       ]
 
@@ -151,7 +194,8 @@ pub table-maskOf : (n : ℕ) (p : ℕ → Bool) (f : ℕ → ℕ) → ((w : ℕ)
     → ((w j : ℕ) → j < 64 → 64 * w + j < n → bitAt (f w) j ≡ flag (p (64 * w + j)))
     → ((w j : ℕ) → j < 64 → n ≤ 64 * w + j → bitAt (f w) j ≡ 0)
     → table f 0 (maskLen n) ≡ maskOf n p
-table-maskOf n p f small inside past = table-cong f (maskWord n p) 0 (maskLen n) (λ w h. word-is w) ∙ sym (maskOf-table n p)
+table-maskOf n p f small inside past =
+    table-cong f (maskWord n p) 0 (maskLen n) (λ w h. word-is w) ∙ sym (maskOf-table n p)
   where
     word-is : (w : ℕ) → f w ≡ maskWord n p w
     word-is w =

@@ -3,6 +3,7 @@
 --   plain             the f of a list that has the numbers themselves
 --   patched f P j     f of the primary bytes, and of the distances at the slots of the first j entries
 --   over f P j d      d with these at its front
+--   length-patched, over-sets, over-again    as a list; once more; over-at  what stands at the next entry's slot
 --   -start, -more, -end    before the first entry, one entry on, and after the last
 -- Axioms: none.
 use mathlib.Core.Path.{_≡_, sym, ap, _∙_}

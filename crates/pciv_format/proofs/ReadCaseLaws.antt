@@ -1,39 +1,37 @@
 -- What each reading routine answers, case by case: the file is refused, or it is a checked map with counts s.
-use mathlib.Core.Path.{_≡_, refl, sym, ap, ap₂, _∙_}
-use Prim.Native.Nat.{ℕ, suc, _+_, _≤_, _<_}
-use native.Mathlib.Omega.{arith}
-use mathlib.Core.Bool.{Bool, false, not}
-use mathlib.Core.List.{List, [], _∷_, map}
+--   primary-refused, place-refused, lookup-refused, list-refused, scan-refused, sum-refused, readings-refused
+--                                      the file is refused, and so is the call
+--   checked                            the file is a checked map
+--   primary-done, place-done           its primary part, and where it starts
+--   lookup-outside, lookup-inside      one slot: refusal 9, or the distance
+--   list-outside, list-short, list-done    a list of slots: refusals 9 and 12, or how many
+--   list-inside, list-buffer           where no slot is outside: each is below n, and what is written
+--   scan-short, scan-done, scan-buffer    all slots: refusal 12, or n, and what is written
+--   sum-done, readings-done            the totals
+-- Axioms: none.
+use mathlib.Core.Path.{_≡_, ap, _∙_}
+use Prim.Native.Nat.{ℕ, _≤_, _<_}
+use mathlib.Core.Bool.{false, not}
+use mathlib.Core.List.{List, [], map}
 use lib.ListN.{length, getD, take, drop, length-map}
 use lib.Seq.{sets}
-use lib.Dec.{ltb, leb, eqb}
-use borrow.Author.Tests.{lt-ltb, le-ltb, le-leb, lt-leb, leb-false}
+use lib.Dec.{leb, eqb}
+use borrow.Author.Tests.{le-leb, lt-leb, leb-false}
 use Rattle.pciv_bytes.specs.Ranges.{flag, firstBelow, table, sumFrom}
-use Rattle.pciv_bytes.proofs.RangesLaws.{firstBelow-all, length-table}
+use Rattle.pciv_bytes.proofs.RangesLaws.{map-cong, firstBelow-all, length-table}
 use Rattle.pciv_bytes.proofs.WriteLaws.{sets-front}
-use Rattle.pciv_format.specs.Layout.{fileLen, countsOf, at}
-use Rattle.pciv_format.specs.Refusals.{done, refused, refuse, refuseFirst, written}
+use Rattle.pciv_format.specs.Layout.{at}
+use Rattle.pciv_format.specs.Refusals.{done, refused, refuse}
 use Rattle.pciv_format.specs.Parts.{valueOf}
-use Rattle.pciv_format.specs.Check.{nField, fileParts, checkFile, CheckedMap}
-use Rattle.pciv_format.specs.Read.{listOf, primaryPart, behind, primaryPlace, lookupOutcome, itemsInto, lookupListOutcome, lookupListBuffer, scanOutcome, scanBuffer, sumOutcome, readingsOutcome}
+use Rattle.pciv_format.specs.Check.{fileParts, checkFile, CheckedMap}
+use Rattle.pciv_format.specs.Read.{listOf, primaryPart, behind, primaryPlace, lookupOutcome}
+use Rattle.pciv_format.specs.Read.{itemsInto, lookupListOutcome, lookupListBuffer, scanOutcome}
+use Rattle.pciv_format.specs.Read.{scanBuffer, sumOutcome, readingsOutcome}
 use Rattle.pciv_format.specs.declared.Summary.{Summary}
 use Rattle.pciv_format.specs.declared.Refusal.{Refusal}
 use Rattle.pciv_format.proofs.RefusalsLaws.{refuseFirst-none, refuseFirst-some}
 use Rattle.pciv_format.proofs.CheckLaws.{done-counts}
-use Rattle.pciv_format.proofs.ReadLaws.{listOf-is, at-list, total-is, readings-is}
-
-pub map-cong : (f g : ℕ → ℕ) (xs : List ℕ) → ((i : ℕ) → i < length xs → f (getD xs i 0) ≡ g (getD xs i 0)) → map f xs ≡ map g xs
-map-cong f g [] same = refl
-map-cong f g (x ∷ xs) same =
-    ap₂ (λ (y : ℕ) (l : List ℕ). y ∷ l) (same 0 (omega arith)) (map-cong f g xs (λ i h. same (suc i) (omega arith)))
-
--- ---- items that fit
-
-pub items-fit : (c capacity : ℕ) → c ≤ capacity → itemsInto c capacity ≡ done c
-items-fit c capacity h = rw (le-ltb capacity c h)
-
-pub items-short : (c capacity : ℕ) → capacity < c → itemsInto c capacity ≡ refuse 12 0 0
-items-short c capacity h = rw (lt-ltb capacity c h)
+use Rattle.pciv_format.proofs.ReadLaws.{listOf-is, at-list, total-is, readings-is, items-fit, items-short}
 
 -- ---- the file is refused
 
@@ -87,13 +85,15 @@ module _ (b : List ℕ) (s : Summary) (e : checkFile 1 b ≡ done s) where
   unfolding lookupOutcome
   lookup-outside slot h = rw (e, le-leb (s .n) slot h)
 
-  pub lookup-inside : (slot : ℕ) → slot < s .n → lookupOutcome b slot ≡ done (valueOf (fileParts b (s .n) (s .k)) slot)
+  pub lookup-inside : (slot : ℕ) → slot < s .n
+      → lookupOutcome b slot ≡ done (valueOf (fileParts b (s .n) (s .k)) slot)
   unfolding lookupOutcome
   lookup-inside slot h = rw (e, lt-leb (s .n) slot h, at-slot slot h)
 
   -- a list of slots
   module _ (slots : List ℕ) where
-    pub list-outside : (capacity place : ℕ) → place ≡ firstBelow (λ (i : ℕ). leb (s .n) (getD slots i 0)) (length slots)
+    pub list-outside : (capacity place : ℕ)
+        → place ≡ firstBelow (λ (i : ℕ). leb (s .n) (getD slots i 0)) (length slots)
         → place < length slots → lookupListOutcome b slots capacity ≡ refuse 9 0 place
     unfolding lookupListOutcome
     list-outside capacity place is h =
@@ -113,7 +113,8 @@ module _ (b : List ℕ) (s : Summary) (e : checkFile 1 b ≡ done s) where
       pub list-short : (capacity : ℕ) → capacity < length slots → lookupListOutcome b slots capacity ≡ refuse 12 0 0
       list-short capacity h = items capacity ∙ items-short (length slots) capacity h
 
-      pub list-done : (capacity : ℕ) → length slots ≤ capacity → lookupListOutcome b slots capacity ≡ done (length slots)
+      pub list-done : (capacity : ℕ) → length slots ≤ capacity
+          → lookupListOutcome b slots capacity ≡ done (length slots)
       list-done capacity h = items capacity ∙ items-fit (length slots) capacity h
 
       pub list-buffer : (out : List ℕ) → length slots ≤ length out
@@ -147,6 +148,7 @@ module _ (b : List ℕ) (s : Summary) (e : checkFile 1 b ≡ done s) where
   unfolding sumOutcome
   sum-done = rw (e, total-is b (s .n) (s .k) (checked .header .nIs) (checked .header .kIs))
 
-  pub readings-done : readingsOutcome b ≡ done (sumFrom (λ (i : ℕ). flag (not (eqb (valueOf (fileParts b (s .n) (s .k)) i) 0))) 0 (s .n))
+  pub readings-done : readingsOutcome b
+      ≡ done (sumFrom (λ (i : ℕ). flag (not (eqb (valueOf (fileParts b (s .n) (s .k)) i) 0))) 0 (s .n))
   unfolding readingsOutcome
   readings-done = rw (e, readings-is b (s .n) (s .k) (checked .header .nIs) (checked .header .kIs))

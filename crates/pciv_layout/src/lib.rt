@@ -1,5 +1,6 @@
 // What the layout derives from n slots and k overflow entries: counts, lengths, the summary (docs/FORMAT.md, "Derived
-// counts"); the primary byte of a distance; refusals as answers.
+// counts"); the primary byte of a distance; the test of an overflow entry; refusals as answers.
+pub mod entries;
 pub mod refusals;
 
 ghost use mathlib.Core.Path.{_≡_};

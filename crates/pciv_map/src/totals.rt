@@ -40,7 +40,8 @@ pub fn sum_of(file: &[u8], n: usize, k: usize) -> usize
 
 // How many of a map's primary bytes are not 0, which is how many of its distances are.
 pub fn readings_of(bytes: &[u8]) -> usize
-    ensures { λ r. ⌜ r ≡ sumFrom (λ (i : ℕ). flag (not (eqb (getD (now (bytes .entry)) i 0) 0))) 0 (length (now (bytes .entry))) ⌝ }
+    ensures { λ r. ⌜ r
+        ≡ sumFrom (λ (i : ℕ). flag (not (eqb (getD (now (bytes .entry)) i 0) 0))) 0 (length (now (bytes .entry))) ⌝ }
 {
     bytes.len() - count_byte(bytes, 0)
 }

@@ -1,9 +1,10 @@
 -- Laws of a search for the entry of a slot that keeps the part where it may stand, and of places that are filled.
 --   flag-leb                      a test that is computed without a branch
---   holds-halve, holds-value      the search goes on, and ends with the slot's distance
+--   holds-halve                   the search goes on
+--   overflow-some, holds-value    there is an entry, and the search ends with the slot's distance
 --   eight-start                   eight searches begin
 --   Halving, halving-more         a turn of them, which the first q have had
---   setsAt-none/-more/-end        no place; the next place is filled; none is left
+--   setsAt-none, -more, -end      no place; the next place is filled; none is left
 --   setsAt-last, setsAt-sets      one place more; a list that is written behind the places
 -- Axioms: none.
 use mathlib.Core.Path.{_≡_, refl, sym, ap, _∙_}

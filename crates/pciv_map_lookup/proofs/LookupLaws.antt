@@ -1,15 +1,16 @@
 -- Laws of the overflow entries below a slot, and of the two tables of a checked map that a lookup searches.
+--   entriesBelow-past               past the last slot they are all entries
 --   valueOf-entry                   a slot in overflow has its distance at entry `entriesBelow`
 --   entriesBelow-count              as many slots below are in overflow
 --   entries-table, index-table      the overflow entries and the index are sorted by their slots
 --   entriesBelow-part, index-block  the index names a part of the entries, and a search there finds the entry
+-- Axioms: none.
 use mathlib.Core.Path.{_≡_, sym, ap, _∙_}
 use mathlib.Core.Bool.{Bool}
 use mathlib.Core.List.{List, _++_}
 use Prim.Native.Nat.{ℕ, _+_, _-_, _*_, _^_, _≤_, _<_}
 use native.Mathlib.Nat.{le-refl, zero-add}
 use native.Mathlib.Omega.{arith}
-use native.Mathlib.Decide.{decLe}
 use lib.ListN.{length, getD, length-append, List·getD-append}
 use lib.Seq.{getD-append-add}
 use Rattle.pciv_bytes.specs.Ranges.{table, positions}
@@ -19,11 +20,15 @@ use Rattle.pciv_bytes.proofs.PositionsLaws.{positions-at, positions-append}
 use Rattle.pciv_format.specs.Layout.{indexStep, indexLen, inOverflow, overflowSlots, overflowCount}
 use Rattle.pciv_format.specs.Parts.{Parts, valueOf, SoundParts}
 use Rattle.pciv_format.specs.Check.{mField, stepField, fileParts, badIndexEntry, CheckedMap}
-use Rattle.pciv_format.proofs.PartsLaws.{or-false, not-eqb, entry-good, slots-rise, slot-entry, valueOf-slot, overflowSlots-are}
-use Rattle.pciv_format.proofs.LayoutLaws.{index-inside, fileLen-is}
-use Rattle.pciv_map_lookup.specs.Lookup.{lowerBound, entriesBelow, blockStart, blockEnd, keyAt, Sorted, KeyTable}
+use Rattle.pciv_format.proofs.PartsLaws.{or-false, not-eqb, entry-good, slots-rise, slot-entry}
+use Rattle.pciv_format.proofs.PartsLaws.{valueOf-slot, overflowSlots-are}
+use Rattle.pciv_format.proofs.LayoutLaws.{index-inside}
+use Rattle.pciv_format.proofs.CheckLaws.{checked-length}
+use Rattle.pciv_map_lookup.specs.Lookup.{lowerBound, entriesBelow, blockStart, blockEnd, keyAt, Sorted}
+use Rattle.pciv_map_lookup.specs.Lookup.{KeyTable}
 use Rattle.pciv_format.proofs.EntryLaws.{slots-sorted}
-use Rattle.pciv_map_lookup.proofs.SearchLaws.{Between, lowerBound-is, between-part, Sample, sample-sorted, block-between}
+use Rattle.pciv_map_lookup.proofs.SearchLaws.{Between, lowerBound-is, between-part, Sample}
+use Rattle.pciv_map_lookup.proofs.SearchLaws.{sample-sorted, block-between}
 
 -- ---- the entry of a slot
 
@@ -35,7 +40,7 @@ module _ (P : Parts) (sound : SoundParts P) where
       (λ j hj. omega (arith, entry-good P sound j hj .inside)) (λ j h₁ h₂. absurd (omega arith))
 
   -- as many entries stand before entry j
-  pub entriesBelow-slot : (j : ℕ) → j < P .k → entriesBelow P (P .slot j) ≡ j
+  entriesBelow-slot : (j : ℕ) → j < P .k → entriesBelow P (P .slot j) ≡ j
   entriesBelow-slot j h =
       lowerBound-is (P .slot) (P .slot j) (P .k) j (omega arith) (λ t ht. slots-rise P sound t j ht h)
       (λ t ht hk. slots-sorted P sound j t ht hk)
@@ -49,7 +54,8 @@ module _ (P : Parts) (sound : SoundParts P) where
       (omega (arith, q .1), rw at (ap (valueOf P) (sym (q .2)) ∙ valueOf-slot P sound (q .0) (q .1)))
 
   -- they are the slots in overflow below i
-  pub entriesBelow-count : ((i : ℕ) → P .byte i < 256) → (i : ℕ) → i ≤ P .n → entriesBelow P i ≡ overflowCount i (valueOf P)
+  pub entriesBelow-count : ((i : ℕ) → P .byte i < 256) → (i : ℕ) → i ≤ P .n
+      → entriesBelow P i ≡ overflowCount i (valueOf P)
   unfolding overflowCount overflowSlots
   entriesBelow-count bytes i h =
       let p : ℕ → Bool = λ s. inOverflow (valueOf P s) in
@@ -63,7 +69,11 @@ module _ (P : Parts) (sound : SoundParts P) where
       let count : P .k ≡ length low + length high =
       sym (length-table (P .slot) 0 (P .k)) ∙ ap length all ∙ length-append low high in
       let slot-is : (j : ℕ) → j < P .k → P .slot j ≡ getD (low ++ high) j 0 =
-      λ j hj. sym (ap (λ (l : List ℕ). getD l j 0) (sym all) ∙ getD-table (P .slot) 0 0 (P .k) j hj ∙ ap (P .slot) (zero-add j)) in
+      λ j hj.
+      sym
+      (ap (λ (l : List ℕ). getD l j 0) (sym all)
+      ∙ getD-table (P .slot) 0 0 (P .k) j hj
+      ∙ ap (P .slot) (zero-add j)) in
       lowerBound-is (P .slot) i (P .k) (length low) (omega arith)
       (λ j hj.
       omega (arith, slot-is j (omega arith), List·getD-append low high 0 j hj, positions-at p 0 i j hj .high))
@@ -80,8 +90,8 @@ module _ (P : Parts) (sound : SoundParts P) where
 -- ---- the two tables of a checked map
 
 module _ (b : List ℕ) (n k : ℕ) (map : CheckedMap b n k) where
-  pub checked-fits : 40 + n + 12 * k + 16 * indexLen k ≤ length b
-  checked-fits = omega (arith, map .fits, fileLen-is n k)
+  inside : 40 + n + 12 * k + 16 * indexLen k ≤ length b
+  inside = checked-length b n k map
 
   entries-sorted : Sorted (fileParts b n k .slot) k
   entries-sorted = slots-sorted (fileParts b n k) (map .parts)
@@ -98,7 +108,7 @@ module _ (b : List ℕ) (n k : ℕ) (map : CheckedMap b n k) where
   entries-table lo hi h₁ h₂ =
       record {
         apart = omega arith;
-        inside = omega (arith, checked-fits);
+        inside = omega (arith, inside);
         sorted = λ i j h hj.
             (let rise = entries-sorted (lo + i) (lo + j) (omega arith) (omega arith) in
             omega (arith, entry-key lo i, entry-key lo j));
@@ -129,7 +139,7 @@ module _ (b : List ℕ) (n k : ℕ) (map : CheckedMap b n k) where
     index-table =
         record {
           apart = omega arith;
-          inside = omega (arith, checked-fits, counts .0);
+          inside = omega (arith, inside, counts .0);
           sorted = sample-sorted _ k _ m step index-sample;
           small = λ i h. omega (arith, index-key i h, slot-small (i * step) (index-points i h));
         }

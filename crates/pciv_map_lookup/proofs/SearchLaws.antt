@@ -1,9 +1,15 @@
 -- Laws of a search among numbers that do not fall, and of the blocks that a sample of them divides them into.
 --   Between f s c lo hi          the lower bound of s among the c first numbers of f lies from lo to hi
+--   between-same                 by equal bounds
 --   flag-ltb                     a test that is computed without a branch
---   between-start/-halve/-end    a search by halves begins, goes on and ends
+--   between-start, between-halve, between-end    a search by halves begins, goes on and ends
+--   lowerBound-is, lowerBound-le    the lower bound, from what lies below and above; it is at most c
 --   between-part                 a search in the part from lo to hi finds the lower bound
---   Sample, block-between        the block that a sparse index names is such a part
+--   key-inside                   a key of a table is inside of its bytes
+--   blockEnd-inner, blockEnd-last    the end of a block that is not the last, and of the last
+--   Sample, sample-sorted        every `step`th number, which do not fall either
+--   block-between                the block that a sparse index names is such a part
+-- Axioms: none.
 use mathlib.Core.Path.{_≡_, sym, ap, _∙_}
 use mathlib.Core.Bool.{Bool, true, false}
 use mathlib.Core.List.{List}
@@ -15,7 +21,8 @@ use lib.ListN.{length}
 use lib.Dec.{ltb, leb}
 use borrow.Author.Tests.{le-leb, lt-leb, leb-true, leb-false, lt-ltb, le-ltb}
 use Rattle.pciv_bytes.specs.Ranges.{flag, firstBelow}
-use Rattle.pciv_bytes.proofs.RangesLaws.{firstBelow-none, firstBelow-at, firstBelow-le, firstBelow-clear, firstBelow-has}
+use Rattle.pciv_bytes.proofs.RangesLaws.{firstBelow-none, firstBelow-at, firstBelow-le, firstBelow-clear}
+use Rattle.pciv_bytes.proofs.RangesLaws.{firstBelow-has}
 use Rattle.pciv_map_lookup.specs.Lookup.{lowerBound, blockStart, blockEnd, Sorted, KeyTable}
 
 pub record Between (f : ℕ → ℕ) (s c lo hi : ℕ) : Type 0 where
@@ -115,11 +122,11 @@ pub lowerBound-le : (f : ℕ → ℕ) (s c : ℕ) → lowerBound f s c ≤ c
 unfolding lowerBound
 lowerBound-le f s c = firstBelow-le (λ (j : ℕ). leb s (f j)) c
 
-pub lowerBound-below : (f : ℕ → ℕ) (s c j : ℕ) → j < lowerBound f s c → f j < s
+lowerBound-below : (f : ℕ → ℕ) (s c j : ℕ) → j < lowerBound f s c → f j < s
 unfolding lowerBound
 lowerBound-below f s c j h = leb-false s (f j) (firstBelow-clear (λ (j : ℕ). leb s (f j)) c j h)
 
-pub lowerBound-at : (f : ℕ → ℕ) (s c : ℕ) → lowerBound f s c < c → s ≤ f (lowerBound f s c)
+lowerBound-at : (f : ℕ → ℕ) (s c : ℕ) → lowerBound f s c < c → s ≤ f (lowerBound f s c)
 unfolding lowerBound
 lowerBound-at f s c h =
     let p : ℕ → Bool = λ j. leb s (f j) in

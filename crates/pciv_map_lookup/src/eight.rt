@@ -2,19 +2,16 @@
 // a turn of a search leaves as many entries whatever the slot, and the loads of a turn do not wait for each other.
 // Searches and places are defined in specs/Eight.antt.
 ghost use mathlib.Core.Path.{_≡_};
-ghost use Prim.Native.Nat.{ℕ, _-_, _/_, _^_, _≤_, _<_};
+ghost use Prim.Native.Nat.{_-_, _/_, _^_, _≤_, _<_};
 ghost use lib.Dec.{leb};
-ghost use lib.ListN.{length, getD, take};
+ghost use lib.ListN.{length, take};
 ghost use Rattle.pciv_bytes.specs.Ranges.{flag};
-ghost use Rattle.pciv_format.specs.Parts.{valueOf};
 ghost use Rattle.pciv_format.specs.Check.{fileParts, CheckedMap};
-ghost use Rattle.pciv_map_lookup.specs.Eight.{Eight, OverflowPlaces, setsAt};
+ghost use Rattle.pciv_map_lookup.specs.Eight.{Eight, OverflowPlaces, distanceAt, setsAt};
+use crate::HALF_RANGE;
 use crate::distance_at;
 use pciv_map::entries::entry_distance;
 use pciv_map::entries::entry_slot;
-
-// Slots are below half of the numbers that fit.
-const HALF_RANGE: usize = 0x8000_0000_0000_0000;
 
 // 1 where x is at most y, else 0. Computed without a branch, which a search would guess wrong every other time.
 fn is_at_most(x: usize, y: usize) -> usize
@@ -37,7 +34,8 @@ fn halve8(
     requires { ⌜ CheckedMap (now file) n k ⌝ }
     requires { ⌜ OverflowPlaces (fileParts (now file) n k) (now slots) (length (now slots)) (now places) 8 ⌝ }
     requires { ⌜ (0 < len) × Eight (fileParts (now file) n k) (now slots) (now places) (now first) len ⌝ }
-    ensures { λ _. ⌜ Eight (fileParts (now (file .entry)) n k) (now (slots .entry)) (now (places .entry)) (now (first .exit)) (len - len / 2) ⌝ }
+    ensures { λ _. ⌜ Eight (fileParts (now (file .entry)) n k) (now (slots .entry)) (now (places .entry))
+        (now (first .exit)) (len - len / 2) ⌝ }
 {
     let half = len / 2;
     let mut q = 0;
@@ -65,7 +63,7 @@ fn entries8(file: &[u8], n: usize, k: usize, slots: &[usize], places: &[usize; 8
 }
 
 // The distances at eight slots in overflow, to their places in the caller's list.
-pub fn distances8(
+pub(crate) fn distances8(
     out: &mut [u32],
     file: &[u8],
     n: usize,
@@ -76,7 +74,9 @@ pub fn distances8(
     requires { ⌜ CheckedMap (now file) n k ⌝ }
     requires { ⌜ OverflowPlaces (fileParts (now file) n k) (now slots) (length (now slots)) (now places) 8 ⌝ }
     requires { ⌜ length (now slots) ≤ length (now out) ⌝ }
-    ensures { λ _. ⌜ now (out .exit) ≡ setsAt (λ (p : ℕ). valueOf (fileParts (now (file .entry)) n k) (getD (now (slots .entry)) p 0)) (take 8 (now (places .entry))) (now (out .entry)) ⌝ }
+    ensures { λ _. ⌜ now (out .exit)
+        ≡ setsAt (distanceAt (fileParts (now (file .entry)) n k) (now (slots .entry)))
+        (take 8 (now (places .entry))) (now (out .entry)) ⌝ }
 {
     let found = entries8(file, n, k, slots, places);
     let mut q = 0;
@@ -88,7 +88,7 @@ pub fn distances8(
 }
 
 // The same for fewer than eight, each on its own: those at the first `count` places.
-pub fn distances_few(
+pub(crate) fn distances_few(
     out: &mut [u32],
     file: &[u8],
     n: usize,
@@ -98,9 +98,12 @@ pub fn distances_few(
     count: usize,
 )
     requires { ⌜ CheckedMap (now file) n k ⌝ }
-    requires { ⌜ (count ≤ 8) × OverflowPlaces (fileParts (now file) n k) (now slots) (length (now slots)) (now places) count ⌝ }
+    requires { ⌜ (count ≤ 8)
+        × OverflowPlaces (fileParts (now file) n k) (now slots) (length (now slots)) (now places) count ⌝ }
     requires { ⌜ length (now slots) ≤ length (now out) ⌝ }
-    ensures { λ _. ⌜ now (out .exit) ≡ setsAt (λ (p : ℕ). valueOf (fileParts (now (file .entry)) n k) (getD (now (slots .entry)) p 0)) (take count (now (places .entry))) (now (out .entry)) ⌝ }
+    ensures { λ _. ⌜ now (out .exit)
+        ≡ setsAt (distanceAt (fileParts (now (file .entry)) n k) (now (slots .entry)))
+        (take count (now (places .entry))) (now (out .entry)) ⌝ }
 {
     let mut q = 0;
     while q < count {

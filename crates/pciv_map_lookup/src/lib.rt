@@ -1,6 +1,7 @@
-// The distance at a slot of a checked map, through the sparse index where there is one.
+// The distance at a slot of a checked map, through the sparse index where there is one; at a list of slots in `list`.
 // What is counted is defined in specs/Lookup.antt, and a slot's distance in pciv_format, specs/Parts.antt.
-pub mod eight;
+mod eight;
+pub mod list;
 
 ghost use mathlib.Core.Path.{_≡_};
 ghost use Prim.Native.Nat.{_^_, _<_};
@@ -14,8 +15,8 @@ use pciv_format::HEADER_LEN;
 use pciv_format::SENTINEL;
 use pciv_map::entries::entry_distance;
 
-// Keys are below half of the numbers that fit.
-const HALF_RANGE: usize = 0x8000_0000_0000_0000;
+// Keys and slots are below half of the numbers that fit.
+pub(crate) const HALF_RANGE: usize = 0x8000_0000_0000_0000;
 
 // 1 where x is below y, else 0. Computed without a branch, which a search would guess wrong every other time.
 fn is_below(x: usize, y: usize) -> usize

@@ -6,8 +6,8 @@ ghost use lib.Seq.{sets};
 ghost use Rattle.pciv_format.specs.Layout.{overflowCount, overflowPart};
 ghost use Rattle.pciv_format.specs.Check.{fileParts, CheckedMap};
 ghost use Rattle.pciv_format.specs.Words.{IsMask};
-ghost use Rattle.pciv_mask_bytes.specs.Masked.{maskedAt};
-ghost use Rattle.pciv_mask_bytes.specs.declared.primary.MaskedOp.the-variants.{Keep};
+ghost use Rattle.pciv_mask_primary.specs.Masked.{maskedDistance};
+ghost use Rattle.pciv_mask_primary.specs.declared.MaskedOp.the-variants.{Keep};
 use pciv_build::put_entry;
 use pciv_format::HEADER_LEN;
 use pciv_map::entries::entry_distance;
@@ -18,7 +18,7 @@ use pciv_mask_bytes::bits::bit_of;
 pub(crate) fn count_kept(file: &[u8], n: usize, k: usize, words: &[u64]) -> usize
     requires { ⌜ CheckedMap (now file) n k ⌝ }
     requires { ⌜ IsMask n (now words) ⌝ }
-    ensures { λ r. ⌜ r ≡ overflowCount n (maskedAt Keep (fileParts (now (file .entry)) n k) (now (words .entry))) ⌝ }
+    ensures { λ r. ⌜ r ≡ overflowCount n (maskedDistance Keep (fileParts (now (file .entry)) n k) (now (words .entry))) ⌝ }
 {
     let mut count: usize = 0;
     let mut j = 0;
@@ -34,9 +34,9 @@ pub(crate) fn count_kept(file: &[u8], n: usize, k: usize, words: &[u64]) -> usiz
 pub(crate) fn put_kept(out: &mut [u8], file: &[u8], n: usize, k: usize, words: &[u64], count: usize)
     requires { ⌜ CheckedMap (now file) n k ⌝ }
     requires { ⌜ IsMask n (now words) ⌝ }
-    requires { ⌜ count ≡ overflowCount n (maskedAt Keep (fileParts (now file) n k) (now words)) ⌝ }
+    requires { ⌜ count ≡ overflowCount n (maskedDistance Keep (fileParts (now file) n k) (now words)) ⌝ }
     requires { ⌜ 40 + n + 12 * count ≤ length (now out) ⌝ }
-    ensures { λ _. ⌜ now (out .exit) ≡ sets (now (out .entry)) (40 + n) (overflowPart n (maskedAt Keep (fileParts (now (file .entry)) n k) (now (words .entry)))) ⌝ }
+    ensures { λ _. ⌜ now (out .exit) ≡ sets (now (out .entry)) (40 + n) (overflowPart n (maskedDistance Keep (fileParts (now (file .entry)) n k) (now (words .entry)))) ⌝ }
 {
     let mut at = HEADER_LEN + n;
     let end = at + 12 * count;

@@ -8,9 +8,11 @@ ghost use lib.ListN.{length};
 ghost use Rattle.pciv_format.specs.Layout.{maxSlots};
 ghost use Rattle.pciv_format.specs.Refusals.{fileAnswer};
 ghost use Rattle.pciv_format.specs.Write.{fileInto, fileBuffer};
-ghost use Rattle.pciv_format.specs.Mask.{maskValue, mapOfMaskOutcome, mapOfMaskBuffer, maskedOutcome, maskedBuffer, keepMaskedOutcome, keepMaskedBuffer, incrementMaskedOutcome, incrementMaskedBuffer};
+ghost use Rattle.pciv_format.specs.Mask.{maskValue, mapOfMaskOutcome, mapOfMaskBuffer, maskedOutcome};
+ghost use Rattle.pciv_format.specs.Mask.{maskedBuffer, keepMaskedOutcome, keepMaskedBuffer};
+ghost use Rattle.pciv_format.specs.Mask.{incrementMaskedOutcome, incrementMaskedBuffer};
 ghost use Rattle.pciv_format.specs.Words.{IsMask};
-ghost use Rattle.pciv_mask_bytes.specs.Masked.{maskedOf};
+ghost use Rattle.pciv_mask_primary.specs.Masked.{maskedOf};
 use crate::masked::masked_into;
 use pciv_bits::masks::is_mask;
 use pciv_build::begin;
@@ -18,10 +20,10 @@ use pciv_check::check;
 use pciv_format::BAD_MASK;
 use pciv_format::FileAnswer;
 use pciv_format::MAX_SLOTS;
-use pciv_format::Refusal;
 use pciv_format::TOO_MANY_SLOTS;
+use pciv_layout::refusals::refuse_file;
 use pciv_mask_bytes::bits::put_bits;
-use pciv_mask_bytes::primary::MaskedOp;
+use pciv_mask_primary::MaskedOp;
 
 // Writes the file of a mask as a map of 0 and 1, which has no overflow entry and no index. Refusal: 12.
 fn bits_into(n: usize, words: &[u64], out: &mut [u8]) -> FileAnswer
@@ -47,18 +49,10 @@ pub fn map_of_mask(n: usize, words: &[u64], out: &mut [u8]) -> FileAnswer
     ensures buffer { λ _. ⌜ now (out .exit) ≡ mapOfMaskBuffer n (now (words .entry)) (now (out .entry)) ⌝ }
 {
     if MAX_SLOTS < n {
-        return FileAnswer::Refused(Refusal {
-            number: TOO_MANY_SLOTS,
-            map: 1,
-            place: 0,
-        });
+        return refuse_file(TOO_MANY_SLOTS, 1, 0);
     }
     if !is_mask(n, words) {
-        return FileAnswer::Refused(Refusal {
-            number: BAD_MASK,
-            map: 0,
-            place: 0,
-        });
+        return refuse_file(BAD_MASK, 0, 0);
     }
     bits_into(n, words, out)
 }
@@ -75,11 +69,7 @@ fn mask_map(op: MaskedOp, file: &[u8], words: &[u64], out: &mut [u8]) -> FileAns
             let n = s.n;
             let k = s.k;
             if !is_mask(n, words) {
-                return FileAnswer::Refused(Refusal {
-                    number: BAD_MASK,
-                    map: 0,
-                    place: 0,
-                });
+                return refuse_file(BAD_MASK, 0, 0);
             }
             masked_into(op, file, n, k, words, out)
         }

@@ -10,9 +10,9 @@ ghost use Rattle.pciv_format.specs.Refusals.{fileAnswer};
 ghost use Rattle.pciv_format.specs.Check.{fileParts, CheckedMap};
 ghost use Rattle.pciv_format.specs.Write.{mapInto, fileBuffer};
 ghost use Rattle.pciv_format.specs.Words.{IsMask};
+ghost use Rattle.pciv_build.specs.Build.{Fits};
 ghost use Rattle.pciv_build.specs.Slots.{HoldsPrimary};
-ghost use Rattle.pciv_arith_add.specs.Addition.{Fits};
-ghost use Rattle.pciv_mask_bytes.specs.Masked.{maskedAt};
+ghost use Rattle.pciv_mask_primary.specs.Masked.{maskedDistance};
 use crate::kept::count_kept;
 use crate::kept::put_kept;
 use pciv_build::begin;
@@ -20,17 +20,18 @@ use pciv_build::finish;
 use pciv_format::DISTANCE_OVERFLOW;
 use pciv_format::FileAnswer;
 use pciv_format::Refusal;
-use pciv_mask_bytes::primary::MaskedOp;
-use pciv_mask_bytes::primary::put_primary;
+use pciv_layout::refusals::refuse_file;
 use pciv_mask_increment::count_incremented;
 use pciv_mask_increment::first_too_large;
 use pciv_mask_increment::put_incremented;
+use pciv_mask_primary::MaskedOp;
+use pciv_mask_primary::put_primary;
 
 // The least slot where the result is above what a file can hold, or n.
 fn first_large(op: MaskedOp, file: &[u8], n: usize, k: usize, words: &[u64]) -> usize
     requires { ⌜ CheckedMap (now file) n k ⌝ }
     requires { ⌜ IsMask n (now words) ⌝ }
-    ensures { λ r. ⌜ r ≡ firstBelow (λ (i : ℕ). ltb maxDistance (maskedAt op (fileParts (now (file .entry)) n k) (now (words .entry)) i)) n ⌝ }
+    ensures { λ r. ⌜ r ≡ firstBelow (λ (i : ℕ). ltb maxDistance (maskedDistance op (fileParts (now (file .entry)) n k) (now (words .entry)) i)) n ⌝ }
 {
     match op {
         MaskedOp::Keep => n,
@@ -42,7 +43,7 @@ fn first_large(op: MaskedOp, file: &[u8], n: usize, k: usize, words: &[u64]) -> 
 fn count_overflow(op: MaskedOp, file: &[u8], n: usize, k: usize, words: &[u64]) -> usize
     requires { ⌜ CheckedMap (now file) n k ⌝ }
     requires { ⌜ IsMask n (now words) ⌝ }
-    ensures { λ r. ⌜ r ≡ overflowCount n (maskedAt op (fileParts (now (file .entry)) n k) (now (words .entry))) ⌝ }
+    ensures { λ r. ⌜ r ≡ overflowCount n (maskedDistance op (fileParts (now (file .entry)) n k) (now (words .entry))) ⌝ }
 {
     match op {
         MaskedOp::Keep => count_kept(file, n, k, words),
@@ -62,11 +63,11 @@ fn put_entries(
 )
     requires { ⌜ CheckedMap (now file) n k ⌝ }
     requires { ⌜ IsMask n (now words) ⌝ }
-    requires { ⌜ Fits n (maskedAt op (fileParts (now file) n k) (now words)) ⌝ }
-    requires { ⌜ HoldsPrimary n (maskedAt op (fileParts (now file) n k) (now words)) (now out) ⌝ }
-    requires { ⌜ count ≡ overflowCount n (maskedAt op (fileParts (now file) n k) (now words)) ⌝ }
+    requires { ⌜ Fits n (maskedDistance op (fileParts (now file) n k) (now words)) ⌝ }
+    requires { ⌜ HoldsPrimary n (maskedDistance op (fileParts (now file) n k) (now words)) (now out) ⌝ }
+    requires { ⌜ count ≡ overflowCount n (maskedDistance op (fileParts (now file) n k) (now words)) ⌝ }
     requires { ⌜ 40 + n + 12 * count ≤ length (now out) ⌝ }
-    ensures { λ _. ⌜ now (out .exit) ≡ sets (now (out .entry)) (40 + n) (overflowPart n (maskedAt op (fileParts (now (file .entry)) n k) (now (words .entry)))) ⌝ }
+    ensures { λ _. ⌜ now (out .exit) ≡ sets (now (out .entry)) (40 + n) (overflowPart n (maskedDistance op (fileParts (now (file .entry)) n k) (now (words .entry)))) ⌝ }
 {
     match op {
         MaskedOp::Keep => put_kept(out, file, n, k, words, count),
@@ -85,16 +86,12 @@ pub(crate) fn masked_into(
 ) -> FileAnswer
     requires { ⌜ CheckedMap (now file) n k ⌝ }
     requires { ⌜ IsMask n (now words) ⌝ }
-    ensures answer { λ r. ⌜ r ≡ fileAnswer (mapInto n (maskedAt op (fileParts (now (file .entry)) n k) (now (words .entry))) (length (now (out .entry)))) ⌝ }
-    ensures buffer { λ _. ⌜ now (out .exit) ≡ fileBuffer (mapInto n (maskedAt op (fileParts (now (file .entry)) n k) (now (words .entry))) (length (now (out .entry)))) n (maskedAt op (fileParts (now (file .entry)) n k) (now (words .entry))) (now (out .entry)) ⌝ }
+    ensures answer { λ r. ⌜ r ≡ fileAnswer (mapInto n (maskedDistance op (fileParts (now (file .entry)) n k) (now (words .entry))) (length (now (out .entry)))) ⌝ }
+    ensures buffer { λ _. ⌜ now (out .exit) ≡ fileBuffer (mapInto n (maskedDistance op (fileParts (now (file .entry)) n k) (now (words .entry))) (length (now (out .entry)))) n (maskedDistance op (fileParts (now (file .entry)) n k) (now (words .entry))) (now (out .entry)) ⌝ }
 {
     let large = first_large(op, file, n, k, words);
     if large < n {
-        return FileAnswer::Refused(Refusal {
-            number: DISTANCE_OVERFLOW,
-            map: 0,
-            place: large,
-        });
+        return refuse_file(DISTANCE_OVERFLOW, 0, large);
     }
     let count = count_overflow(op, file, n, k, words);
     let begun = begin(out, n, count);

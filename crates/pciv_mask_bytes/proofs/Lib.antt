@@ -1,3 +1,2 @@
 pub mod RowLaws
-pub mod SetBitLaws
-pub mod ByteLaws
+pub mod SlotLaws

@@ -1,9 +1,8 @@
--- Laws of rows and bits: eight bits at once, and a mask's bits as bytes.
---   bitRows-at, bitsRow-table       a row of the table, byte by byte
---   bit-of-word, slot-bit           one bit of a word is one slot
---   row-of-word, word-of-mask       a row is eight bits of a word, a word 64 slots;  word-bit  a word as 64 bytes
---   no-bytes, last-bit              the word after the last whole one as 64 bytes, and its slots;  sets-whole  an array filled
---   primary-bits                    bits are primary bytes
+-- Laws of a mask as bytes: eight bits at once through the table, 64 bits of a word, and the map of 0 and 1.
+--   bitRows-at, bitsRow-table    a row of the table, byte by byte
+--   row-of-word          a row is eight bits of a word;  word-bit  a word as 64 bytes
+--   no-bytes, last-bit   the word after the last whole one as 64 bytes, and its slots;  sets-whole  an array filled
+--   primary-bits         bits are primary bytes
 --   count-none, part-none, index-none    a map below 255 has no overflow entry, and its file no index
 -- Axioms: none.
 use mathlib.Core.Path.{_≡_, refl, sym, ap, ap₂, _∙_}
@@ -15,8 +14,7 @@ use lib.ListN.{length, getD, replicate, drop-of-length-le, List·getD-eq-default
 use lib.Seq.{sets}
 use Rattle.pciv_bytes.specs.Ranges.{table, joined}
 use Rattle.pciv_bytes.specs.ByteAt.{byteAt}
-use Rattle.pciv_bytes.proofs.RangesLaws.{length-table, getD-table, table-cong, table-shift}
-use Rattle.pciv_bytes.proofs.SumLaws.{flag-le}
+use Rattle.pciv_bytes.proofs.RangesLaws.{length-table, getD-table, table-cong, table-shift, flag-le}
 use Rattle.pciv_bytes.proofs.WriteLaws.{sets-front, sets-at}
 use Rattle.pciv_format.specs.Layout.{primaryByte, primary, overflowCount, overflowSlots, overflowPart}
 use Rattle.pciv_format.specs.Mask.{bitAt, bitsRow, maskHas, maskValue}
@@ -42,13 +40,7 @@ pub bitsRow-table : (b : ℕ) → bitsRow b ≡ table (bitAt b) 0 8
 unfolding bitsRow
 bitsRow-table b = refl
 
--- ---- the slots of a word
-
-pub bit-of-word : (ws : List ℕ) (i : ℕ) → getD ws (i / 64) 0 / 2 ^ (i % 64) % 2 ≡ maskValue ws i
-unfolding bitAt
-bit-of-word ws i =
-    let e : 64 * (i / 64) + i % 64 ≡ i = omega arith in
-    sym (flag-maskHas ws (i / 64) (i % 64) (omega arith)) ∙ ap (maskValue ws) e
+-- ---- a word as bytes
 
 -- eight bits of a word, from bit j on
 pub row-of-word : (x j : ℕ) → bitsRow (x / 2 ^ j % 256) ≡ table (bitAt x) j 8
@@ -59,24 +51,14 @@ row-of-word x j =
     (λ t h. ap (bitAt b) (zero-add t) ∙ bitAt-mod (x / 2 ^ j) 8 t h ∙ bitAt-shr x j t)
 
 -- the bits of a word as they stand in 64 bytes
-pub word-bit : (d b : List ℕ) (x j : ℕ) → 64 ≤ length d → b ≡ sets d 0 (table (bitAt x) 0 64) → j < 64 → byteAt b j ≡ bitAt x j
+pub word-bit : (d b : List ℕ) (x j : ℕ) → 64 ≤ length d → b ≡ sets d 0 (table (bitAt x) 0 64) → j < 64
+    → byteAt b j ≡ bitAt x j
 word-bit d b x j space is h =
     let l : length (table (bitAt x) 0 64) ≡ 64 = length-table (bitAt x) 0 64 in
     ap₂ byteAt is (sym (zero-add j))
     ∙ sets-at d (table (bitAt x) 0 64) 0 j 0 (omega arith) (omega arith)
     ∙ getD-table (bitAt x) 0 0 64 j h
     ∙ ap (bitAt x) (zero-add j)
-
--- the bits of the word that has the slots from i on
-pub slot-bit : (ws : List ℕ) (i t : ℕ) → i % 64 ≡ 0 → t < 64 → bitAt (getD ws (i / 64) 0) t ≡ maskValue ws (i + t)
-slot-bit ws i t whole h =
-    let e : 64 * (i / 64) + t ≡ i + t = omega arith in
-    sym (flag-maskHas ws (i / 64) t h) ∙ ap (maskValue ws) e
-
-pub word-of-mask : (ws : List ℕ) (i : ℕ) → i % 64 ≡ 0 → table (bitAt (getD ws (i / 64) 0)) 0 64 ≡ table (maskValue ws) i 64
-word-of-mask ws i whole =
-    let x : ℕ = getD ws (i / 64) 0 in
-    table-shift (bitAt x) (maskValue ws) 0 i 64 (λ t h. ap (bitAt x) (zero-add t) ∙ slot-bit ws i t whole h)
 
 -- ---- the slots after the last whole word
 

@@ -42,7 +42,7 @@ fn few_set(words: &[u64], from: usize) -> bool
 
 // Whether few slots are set in the block of word w: asked at its first word, else the answer for the word before. It is a
 // guess at which way is quicker and no promise; one answer for a whole block is one that the processor foresees.
-pub(crate) fn few_at(words: &[u64], w: usize, before: bool) -> bool
+pub fn few_at(words: &[u64], w: usize, before: bool) -> bool
     requires { ⌜ w ≤ length (now words) ⌝ }
 {
     if w % BLOCK == 0 {
@@ -60,7 +60,7 @@ fn eight_bits(word: u64, j: usize) -> usize
 }
 
 // Writes the 64 bits of a word from `at` on, eight at once through the table.
-pub(crate) fn put_word(out: &mut [u8], at: usize, rows: &[u8; 2048], word: u64)
+pub fn put_word(out: &mut [u8], at: usize, rows: &[u8; 2048], word: u64)
     requires { ⌜ (now rows ≡ bitRows) × (at + 64 ≤ length (now out)) ⌝ }
     ensures { λ _. ⌜ now (out .exit) ≡ sets (now (out .entry)) at (table (bitAt word) 0 64) ⌝ }
 {
@@ -72,7 +72,7 @@ pub(crate) fn put_word(out: &mut [u8], at: usize, rows: &[u8; 2048], word: u64)
 }
 
 // The bits of the word after the last whole one of n slots, through the table; 0 where there is none.
-pub(crate) fn last_bits(words: &[u64], n: usize, rows: &[u8; 2048]) -> [u8; 64]
+pub fn last_bits(words: &[u64], n: usize, rows: &[u8; 2048]) -> [u8; 64]
     requires { ⌜ now rows ≡ bitRows ⌝ }
     ensures { λ r. ⌜ r ≡ table (bitAt (getD (now (words .entry)) (n / 64) 0)) 0 64 ⌝ }
 {

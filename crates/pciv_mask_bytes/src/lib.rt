@@ -1,4 +1,3 @@
-// A mask as bytes, and the primary bytes of a map to which a mask is applied (docs/FORMAT.md, "Masks").
+// A mask as bytes 0 and 1, one for each slot (docs/FORMAT.md, "Masks"), eight bits at once through a table.
 pub mod bits;
-pub mod primary;
-mod rows;
+pub mod rows;

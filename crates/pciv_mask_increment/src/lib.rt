@@ -10,30 +10,27 @@ ghost use Rattle.pciv_format.specs.Layout.{maxDistance, overflowCount, overflow
 ghost use Rattle.pciv_format.specs.Check.{fileParts, CheckedMap};
 ghost use Rattle.pciv_format.specs.Words.{IsMask};
 ghost use Rattle.pciv_build.specs.Slots.{HoldsPrimary};
-ghost use Rattle.pciv_arith_add.specs.Addition.{Fits};
-ghost use Rattle.pciv_mask_bytes.specs.Masked.{maskedAt, raisedAt, picked, SetBelow};
-ghost use Rattle.pciv_mask_bytes.specs.declared.primary.MaskedOp.the-variants.{Increment};
+ghost use Rattle.pciv_build.specs.Build.{Fits};
+ghost use Rattle.pciv_mask_primary.specs.Masked.{maskedDistance};
+ghost use Rattle.pciv_mask_increment.specs.Raised.{raisedAt, picked, SetBelow};
+ghost use Rattle.pciv_mask_primary.specs.declared.MaskedOp.the-variants.{Increment};
 use pciv_build::put_entry;
 use pciv_build::slots::put_slots;
 use pciv_bytes::find::any_byte;
 use pciv_bytes::little_endian::get64;
 use pciv_format::HEADER_LEN;
+use pciv_format::INLINE_MAX;
+use pciv_format::MAX_DISTANCE;
 use pciv_map::cursor::take_at;
 use pciv_map::entries::entry_distance;
 use pciv_map::entries::entry_slot;
 use pciv_mask_bytes::bits::bit_of;
 
-// The largest distance.
-const MAX_DISTANCE: u32 = 4294967295;
-
-// The largest distance that is stored inline.
-const INLINE_MAX: u8 = 254;
-
 // The least slot where the result is above what a file can hold, or n: only a slot in overflow can be it.
 pub fn first_too_large(file: &[u8], n: usize, k: usize, words: &[u64]) -> usize
     requires { ⌜ CheckedMap (now file) n k ⌝ }
     requires { ⌜ IsMask n (now words) ⌝ }
-    ensures { λ r. ⌜ r ≡ firstBelow (λ (i : ℕ). ltb maxDistance (maskedAt Increment (fileParts (now (file .entry)) n k) (now (words .entry)) i)) n ⌝ }
+    ensures { λ r. ⌜ r ≡ firstBelow (λ (i : ℕ). ltb maxDistance (maskedDistance Increment (fileParts (now (file .entry)) n k) (now (words .entry)) i)) n ⌝ }
 {
     let mut j = 0;
     while j < k {
@@ -95,7 +92,7 @@ fn count_raised(bytes: &[u8], words: &[u64]) -> usize
 pub fn count_incremented(file: &[u8], n: usize, k: usize, words: &[u64]) -> usize
     requires { ⌜ CheckedMap (now file) n k ⌝ }
     requires { ⌜ IsMask n (now words) ⌝ }
-    ensures { λ r. ⌜ r ≡ overflowCount n (maskedAt Increment (fileParts (now (file .entry)) n k) (now (words .entry))) ⌝ }
+    ensures { λ r. ⌜ r ≡ overflowCount n (maskedDistance Increment (fileParts (now (file .entry)) n k) (now (words .entry))) ⌝ }
 {
     let end = HEADER_LEN + n;
     k + count_raised(&file[HEADER_LEN..end], words)
@@ -106,11 +103,11 @@ pub fn count_incremented(file: &[u8], n: usize, k: usize, words: &[u64]) -> usiz
 pub fn put_incremented(out: &mut [u8], file: &[u8], n: usize, k: usize, words: &[u64], count: usize)
     requires { ⌜ CheckedMap (now file) n k ⌝ }
     requires { ⌜ IsMask n (now words) ⌝ }
-    requires { ⌜ Fits n (maskedAt Increment (fileParts (now file) n k) (now words)) ⌝ }
-    requires { ⌜ HoldsPrimary n (maskedAt Increment (fileParts (now file) n k) (now words)) (now out) ⌝ }
-    requires { ⌜ count ≡ overflowCount n (maskedAt Increment (fileParts (now file) n k) (now words)) ⌝ }
+    requires { ⌜ Fits n (maskedDistance Increment (fileParts (now file) n k) (now words)) ⌝ }
+    requires { ⌜ HoldsPrimary n (maskedDistance Increment (fileParts (now file) n k) (now words)) (now out) ⌝ }
+    requires { ⌜ count ≡ overflowCount n (maskedDistance Increment (fileParts (now file) n k) (now words)) ⌝ }
     requires { ⌜ 40 + n + 12 * count ≤ length (now out) ⌝ }
-    ensures { λ _. ⌜ now (out .exit) ≡ sets (now (out .entry)) (40 + n) (overflowPart n (maskedAt Increment (fileParts (now (file .entry)) n k) (now (words .entry)))) ⌝ }
+    ensures { λ _. ⌜ now (out .exit) ≡ sets (now (out .entry)) (40 + n) (overflowPart n (maskedDistance Increment (fileParts (now (file .entry)) n k) (now (words .entry)))) ⌝ }
 {
     put_slots(out, n);
     let mut at = HEADER_LEN + n;

@@ -1,7 +1,12 @@
--- What the word operations are on masks: the words of `combined`, of `not`, and the number of set bits.
+-- What the word operations are on masks.
+--   combined-words, flipped-words    the words of and, or, exclusive or, and of not, are those of a mask
+--   flip-full, -last    not, of a word that the slots fill, and of the last one where they do not
+--   one-bit-pos         a single bit is not 0
+--   setBits-all         the set bits of all words are those of the slots
+-- Axioms: none.
 use mathlib.Core.Path.{_≡_, refl, sym, ap, ap₂, _∙_}
 use Prim.Native.Nat.{ℕ, zero, suc, _+_, _-_, _*_, _/_, _%_, _^_, _≤_, _<_, min, max}
-use native.Mathlib.Nat.{pow-suc, one-mul, mod-eq-of-lt, sub-zero, add-zero}
+use native.Mathlib.Nat.{pow-suc, one-mul, mod-eq-of-lt}
 use native.Mathlib.Omega.{arith}
 use mathlib.Core.Bool.{Bool, true, false, not, xor}
 use mathlib.Core.List.{List}
@@ -9,13 +14,12 @@ use lib.ListN.{length, getD}
 use lib.Bits.{bitXor, differ, and-lt, or-lt, xor-lt}
 use lib.Pow.{pow-pos, pow-lt, pow-mono}
 use Rattle.pciv_bytes.specs.Ranges.{flag, table, sumFrom}
-use Rattle.pciv_bytes.proofs.SumLaws.{sumFrom-split, sumFrom-cong}
 use Rattle.pciv_format.specs.Mask.{maskLen, bitAt, maskHas, word, maskOf, combined, setBits}
 use Rattle.pciv_format.specs.declared.MaskOp.{MaskOp}
 use Rattle.pciv_format.specs.declared.MaskOp.the-variants.{And, Or, Xor}
 use Rattle.pciv_format.specs.Words.{Words, IsMask}
 use Rattle.pciv_format.proofs.BitLaws.{bitAt-and, bitAt-or, bitAt-xor, bitAt-word, bitAt-word-past}
-use Rattle.pciv_format.proofs.MaskLaws.{flag-maskHas, table-maskOf}
+use Rattle.pciv_format.proofs.MaskLaws.{flag-maskHas, sum-slots, table-maskOf}
 use Rattle.pciv_mask_logic.specs.Logic.{bitOp, opAt, lowBits, flipAt}
 
 -- ---- and, or, exclusive or
@@ -67,7 +71,8 @@ combined-words op n xs ys words-x words-y mask-x mask-y =
     bit w j h ∙ ap₂ (λ (p q : Bool). flag (combined op p q)) (mask-x .past (64 * w + j) l) (mask-y .past (64 * w + j) l)
     ∙ ap flag (combined-none op))
   where
-    bit : (w j : ℕ) → j < 64 → bitAt (opAt op xs ys w) j ≡ flag (combined op (maskHas xs (64 * w + j)) (maskHas ys (64 * w + j)))
+    bit : (w j : ℕ) → j < 64
+        → bitAt (opAt op xs ys w) j ≡ flag (combined op (maskHas xs (64 * w + j)) (maskHas ys (64 * w + j)))
     bit w j h =
         bitAt-op op (getD xs w 0) (getD ys w 0) j
         ∙ ap₂ (flagOp op) (sym (flag-maskHas xs w j h)) (sym (flag-maskHas ys w j h))
@@ -109,7 +114,8 @@ flipped-words n ws words mask =
         bitAt-xor (getD ws w 0) (lowBits (min 64 (n - 64 * w))) j ∙ ap₂ differ (sym (flag-maskHas ws w j h)) e
 
 -- a word that the slots fill
-pub flip-full : (n : ℕ) (ws : List ℕ) (w : ℕ) → 64 * w + 64 ≤ n → bitXor (getD ws w 0) 0xFFFFFFFFFFFFFFFF ≡ flipAt n ws w
+pub flip-full : (n : ℕ) (ws : List ℕ) (w : ℕ) → 64 * w + 64 ≤ n
+    → bitXor (getD ws w 0) 0xFFFFFFFFFFFFFFFF ≡ flipAt n ws w
 flip-full n ws w full =
     let e : 64 ≡ min 64 (n - 64 * w) = omega arith in ap (λ (c : ℕ). bitXor (getD ws w 0) (lowBits c)) e
 
@@ -130,20 +136,8 @@ flip-last n ws w last =
 
 -- ---- set bits
 
-sumFrom-zeros : (i c : ℕ) → sumFrom (λ (j : ℕ). 0) i c ≡ 0
-unfolding sumFrom
-sumFrom-zeros i zero = refl
-sumFrom-zeros i (suc c) = rw (sumFrom-zeros (suc i) c)
-
 -- the bits past n do not count
 pub setBits-all : (n : ℕ) (ws : List ℕ) → IsMask n ws
     → sumFrom (λ (i : ℕ). flag (maskHas ws i)) 0 (64 * length ws) ≡ setBits n ws
 unfolding setBits
-setBits-all n ws mask =
-    let f : ℕ → ℕ = λ i. flag (maskHas ws i) in
-    let all : ℕ = 64 * length ws in
-    let past : sumFrom f n (all - n) ≡ 0 =
-    sumFrom-cong f (λ (j : ℕ). 0) n (all - n) (λ j h l. ap flag (mask .past j h)) ∙ sumFrom-zeros n (all - n) in
-    let split : sumFrom f 0 all ≡ sumFrom f 0 n + sumFrom f n (all - n) =
-    rw (sub-zero all, sub-zero n) at (sumFrom-split f 0 n all (omega arith) (omega (arith, mask .count))) in
-    split ∙ rw past (add-zero (sumFrom f 0 n))
+setBits-all n ws mask = sum-slots mask (λ (i : ℕ). flag (maskHas ws i)) (λ i h. ap flag (mask .past i h))

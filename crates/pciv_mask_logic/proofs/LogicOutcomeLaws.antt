@@ -1,4 +1,11 @@
 -- What the mask routines answer and write, case by case.
+--   masks-many, -bad, -good    too many slots, a mask at fault, or what follows
+--   mask-short, -done          a mask into a list of too few words, or enough
+--   combine-is, complement-is  the outcome by the test of the masks that the code makes
+--   combine-refused, complement-refused          a refused call changes no word
+--   combine-fits, -written, complement-fits, -written    where it is done the words fit, and are those that are written
+--   setBits-many, -bad, -done  the number of set bits
+-- Axioms: none.
 use mathlib.Core.Path.{_≡_, refl, sym, ap, _∙_}
 use Prim.Native.Nat.{ℕ, _*_, _≤_, _<_}
 use mathlib.Core.Bool.{Bool, true, false, not, _&&_, _||_}
@@ -12,7 +19,9 @@ use Rattle.pciv_bytes.proofs.WriteLaws.{sets-front}
 use Rattle.pciv_format.specs.Layout.{maxSlots}
 use Rattle.pciv_format.specs.Refusals.{Outcome, done, refused, refuse, refuseIf, written}
 use Rattle.pciv_format.specs.Read.{itemsInto}
-use Rattle.pciv_format.specs.Mask.{maskLen, maskHas, maskOf, badMask, combined, refuseMasks, combineOutcome, combineWords, complementOutcome, complementWords, setBits, setBitsOutcome}
+use Rattle.pciv_format.specs.Mask.{maskLen, maskHas, maskOf, badMask, combined, refuseMasks, combineOutcome}
+use Rattle.pciv_format.specs.Mask.{combineWords, complementOutcome, complementWords, setBits}
+use Rattle.pciv_format.specs.Mask.{setBitsOutcome}
 use Rattle.pciv_format.specs.declared.MaskOp.{MaskOp}
 use Rattle.pciv_format.specs.declared.Refusal.{Refusal}
 use Rattle.pciv_format.proofs.RefusalsLaws.{refuseIf-done}
@@ -77,7 +86,8 @@ module _ (op : MaskOp) (n : ℕ) (xs ys out : List ℕ) where
   combine-is =
       ap (λ (bad : Bool). refuseMasks n bad (itemsInto (maskLen n) (length out))) (or-not (badMask n xs) (badMask n ys))
 
-  pub combine-refused : (r : Refusal) → combineOutcome op n xs ys (length out) ≡ refused r → combineWords op n xs ys out ≡ out
+  pub combine-refused : (r : Refusal) → combineOutcome op n xs ys (length out) ≡ refused r
+      → combineWords op n xs ys out ≡ out
   unfolding combineWords
   combine-refused r e = rw e
 
@@ -116,7 +126,8 @@ module _ (n : ℕ) (ws out : List ℕ) where
   complement-is =
       ap (λ (bad : Bool). refuseMasks n bad (itemsInto (maskLen n) (length out))) (sym (not-not (badMask n ws)))
 
-  pub complement-refused : (r : Refusal) → complementOutcome n ws (length out) ≡ refused r → complementWords n ws out ≡ out
+  pub complement-refused : (r : Refusal) → complementOutcome n ws (length out) ≡ refused r
+      → complementWords n ws out ≡ out
   unfolding complementWords
   complement-refused r e = rw e
 
@@ -132,8 +143,8 @@ module _ (n : ℕ) (ws out : List ℕ) where
     pub complement-written : Words ws → sets out 0 (table (flipAt n ws) 0 (maskLen n)) ≡ complementWords n ws out
     unfolding complementOutcome complementWords
     complement-written words =
-        rw (flipped-words n ws words mask)
-        (mask-written n (badMask n ws) out x e (maskOf n (λ i. not (maskHas ws i))) (length-maskOf n (λ i. not (maskHas ws i))))
+        let p : ℕ → Bool = λ i. not (maskHas ws i) in
+        rw (flipped-words n ws words mask) (mask-written n (badMask n ws) out x e (maskOf n p) (length-maskOf n p))
 
 -- ---- set bits
 
@@ -147,7 +158,9 @@ module _ (n : ℕ) (ws : List ℕ) where
     unfolding setBitsOutcome
     setBits-bad bad = masks-bad n (badMask n ws) (done (setBits n ws)) few bad
 
-    pub setBits-done : IsMask n ws → setBitsOutcome n ws ≡ done (sumFrom (λ (i : ℕ). flag (maskHas ws i)) 0 (64 * length ws))
+    pub setBits-done : IsMask n ws
+        → setBitsOutcome n ws ≡ done (sumFrom (λ (i : ℕ). flag (maskHas ws i)) 0 (64 * length ws))
     unfolding setBitsOutcome
     setBits-done mask =
-        masks-good n (badMask n ws) (done (setBits n ws)) few (good-badMask n ws mask) ∙ ap done (sym (setBits-all n ws mask))
+        masks-good n (badMask n ws) (done (setBits n ws)) few (good-badMask n ws mask)
+        ∙ ap done (sym (setBits-all n ws mask))

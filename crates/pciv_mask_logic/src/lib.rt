@@ -8,33 +8,22 @@ ghost use lib.Count.{ones};
 ghost use lib.ListN.{length};
 ghost use lib.Seq.{sets};
 ghost use Rattle.pciv_bytes.specs.Ranges.{flag, table, sumFrom};
-ghost use Rattle.pciv_format.specs.Refusals.{refuse, numberAnswer};
+ghost use Rattle.pciv_format.specs.Refusals.{numberAnswer};
 ghost use Rattle.pciv_format.specs.Read.{itemsInto};
-ghost use Rattle.pciv_format.specs.Mask.{maskLen, maskHas, refuseMasks, combineOutcome, combineWords, complementOutcome, complementWords, setBitsOutcome};
+ghost use Rattle.pciv_format.specs.Mask.{maskLen, maskHas, refuseMasks, combineOutcome, combineWords};
+ghost use Rattle.pciv_format.specs.Mask.{complementOutcome, complementWords, setBitsOutcome};
 ghost use Rattle.pciv_format.specs.declared.MaskOp.the-variants.{And, Or, Xor};
 ghost use Rattle.pciv_mask_logic.specs.Logic.{bitOp, opAt, flipAt};
+use pciv_bits::masks::ALL_BITS;
 use pciv_bits::masks::is_mask;
 use pciv_format::BAD_MASK;
 use pciv_format::BUFFER_TOO_SMALL;
 use pciv_format::MAX_SLOTS;
 use pciv_format::MaskOp;
 use pciv_format::NumberAnswer;
-use pciv_format::Refusal;
 use pciv_format::TOO_MANY_SLOTS;
-
-// A word with all bits set.
-const ALL: u64 = 0xFFFFFFFFFFFFFFFF;
-
-// A refusal with place 0, as an answer.
-fn refused(number: usize, map: usize) -> NumberAnswer
-    ensures { λ r. ⌜ r ≡ numberAnswer (refuse number map 0) ⌝ }
-{
-    NumberAnswer::Refused(Refusal {
-        number,
-        map,
-        place: 0,
-    })
-}
+use pciv_layout::mask_len;
+use pciv_layout::refusals::refuse_number;
 
 // The answer of a routine that writes a mask of n slots to a list of `capacity` words; `good` says that the masks that
 // are read are masks of n slots.
@@ -42,14 +31,14 @@ fn mask_into(n: usize, good: bool, capacity: usize) -> NumberAnswer
     ensures { λ r. ⌜ r ≡ numberAnswer (refuseMasks n (not good) (itemsInto (maskLen n) capacity)) ⌝ }
 {
     if MAX_SLOTS < n {
-        return refused(TOO_MANY_SLOTS, 1);
+        return refuse_number(TOO_MANY_SLOTS, 1, 0);
     }
-    let count = (n + 63) / 64;
     if !good {
-        return refused(BAD_MASK, 0);
+        return refuse_number(BAD_MASK, 0, 0);
     }
+    let count = mask_len(n);
     if capacity < count {
-        return refused(BUFFER_TOO_SMALL, 0);
+        return refuse_number(BUFFER_TOO_SMALL, 0, 0);
     }
     NumberAnswer::Number(count)
 }
@@ -125,7 +114,7 @@ fn flip_words(n: usize, words: &[u64], out: &mut [u64])
     let full = n / 64;
     let mut i = 0;
     while i < full {
-        out[i] = words[i] ^ ALL;
+        out[i] = words[i] ^ ALL_BITS;
         i += 1;
     }
     if i < words.len() {
@@ -174,10 +163,10 @@ pub fn set_bits(n: usize, words: &[u64]) -> NumberAnswer
     ensures answer { λ r. ⌜ r ≡ numberAnswer (setBitsOutcome n (now (words .entry))) ⌝ }
 {
     if MAX_SLOTS < n {
-        return refused(TOO_MANY_SLOTS, 1);
+        return refuse_number(TOO_MANY_SLOTS, 1, 0);
     }
     if !is_mask(n, words) {
-        return refused(BAD_MASK, 0);
+        return refuse_number(BAD_MASK, 0, 0);
     }
     NumberAnswer::Number(count_bits(words))
 }

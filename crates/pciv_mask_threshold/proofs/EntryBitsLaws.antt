@@ -63,7 +63,8 @@ settled-above : (P : Parts) (limit : ℕ) (negated : Bool) (j i : ℕ) → lowes
     → settled P limit negated j i ≡ not negated
 settled-above P limit negated j i h = rw (le-ltb i (lowestSlot P j) h)
 
-module _ (P : Parts) (s : SoundParts P) (bytes : (i : ℕ) → P .byte i < 256) (limit : ℕ) (high : 255 ≤ limit) (negated : Bool) where
+module _ (P : Parts) (s : SoundParts P) (bytes : (i : ℕ) → P .byte i < 256)
+    (limit : ℕ) (high : 255 ≤ limit) (negated : Bool) where
   -- between two entries
   gap-selected : (j i : ℕ) → j ≤ P .k → lowestSlot P j ≤ i → (j < P .k → i < P .slot j) → i < P .n
       → selected P limit negated i ≡ settled P limit negated j i
@@ -129,9 +130,10 @@ module _ (P : Parts) (s : SoundParts P) (bytes : (i : ℕ) → P .byte i < 256) 
 
 -- ---- at the front of a list
 
-pub flip-front : (d : List ℕ) (n : ℕ) (p : ℕ → Bool) (s : ℕ) (b : Bool) (x : ℕ) → x ≡ flag b → maskLen n ≤ length d → s < n
-    → set (sets d 0 (maskOf n p)) (s / 64) (bitXor (getD (sets d 0 (maskOf n p)) (s / 64) 0) (x * 2 ^ (s % 64) % 2 ^ 64))
-    ≡ sets d 0 (maskOf n (flipAt p s b))
+pub flip-front : (d : List ℕ) (n : ℕ) (p : ℕ → Bool) (s : ℕ) (b : Bool) (x : ℕ) → x ≡ flag b → maskLen n ≤ length d
+    → s < n
+    → (let out = sets d 0 (maskOf n p) in
+    set out (s / 64) (bitXor (getD out (s / 64) 0) (x * 2 ^ (s % 64) % 2 ^ 64)) ≡ sets d 0 (maskOf n (flipAt p s b)))
 flip-front d n p s b x e long h =
     let ws : List ℕ = maskOf n p in
     let space : 0 + length ws ≤ length d = rw (zero-add (length ws), length-maskOf n p) long in
@@ -143,7 +145,8 @@ flip-front d n p s b x e long h =
     ∙ ap (sets d 0) (maskOf-flip n p s b h)
 
 -- a mask over another, at the front of d
-pub mask-over : (d o : List ℕ) (n : ℕ) (p q : ℕ → Bool) → o ≡ sets d 0 (maskOf n p) → sets o 0 (maskOf n q) ≡ sets d 0 (maskOf n q)
+pub mask-over : (d o : List ℕ) (n : ℕ) (p q : ℕ → Bool) → o ≡ sets d 0 (maskOf n p)
+    → sets o 0 (maskOf n q) ≡ sets d 0 (maskOf n q)
 mask-over d o n p q e =
     ap (λ (l : List ℕ). sets l 0 (maskOf n q)) e
     ∙ sets-over (maskOf n p) (maskOf n q) d 0 (simp length-maskOf (omega arith))

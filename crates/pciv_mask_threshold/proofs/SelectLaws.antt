@@ -1,6 +1,7 @@
--- Laws of the masks of a map: a comparison as a limit, what the primary bytes tell, and what `select` answers, case by case.
+-- Laws of the masks of a map: a comparison as a limit, what the primary bytes tell, and what `select` answers, case by
+-- case.
 --   holds-limit         a comparison with t is a test of a limit
---   byte-below          for a limit up to 255 a primary byte compares as its distance does
+--   bytes-selected      for a limit up to 255 the mask of the primary bytes is that of the distances
 --   select-refused, -short, -done      the outcome, where the file is refused, and where it is a map with counts s
 --   words-refused, -done, -cong        the caller's words afterwards
 -- Axioms: none.
@@ -27,9 +28,9 @@ use Rattle.pciv_format.specs.declared.Refusal.{Refusal}
 use Rattle.pciv_format.specs.declared.Comparison.{Comparison}
 use Rattle.pciv_format.specs.declared.Comparison.the-variants.{Below, AtMost, Above, AtLeast}
 use Rattle.pciv_format.proofs.PartsLaws.{slot-cases}
-use Rattle.pciv_format.proofs.ReadLaws.{length-listOf, at-list}
+use Rattle.pciv_format.proofs.ReadLaws.{length-listOf, at-list, items-fit, items-short}
 use Rattle.pciv_format.proofs.MapLaws.{primaryOf, primary-length, primary-at}
-use Rattle.pciv_format.proofs.ReadCaseLaws.{items-fit, items-short, checked}
+use Rattle.pciv_format.proofs.ReadCaseLaws.{checked}
 use Rattle.pciv_format.proofs.MaskLaws.{length-maskOf, maskOf-cong}
 use Rattle.pciv_bits.specs.Flags.{flipIf, passes, passesAt}
 use Rattle.pciv_mask_threshold.specs.Select.{limitOf, isNegated, selected}
@@ -98,7 +99,8 @@ module _ (p : ℕ → Bool) (b out : List ℕ) where
 
 -- ---- the file is refused
 
-pub select-refused : (b : List ℕ) (r : Refusal) → checkFile 1 b ≡ refused r → (capacity : ℕ) → selectOutcome b capacity ≡ refused r
+pub select-refused : (b : List ℕ) (r : Refusal) → checkFile 1 b ≡ refused r
+    → (capacity : ℕ) → selectOutcome b capacity ≡ refused r
 select-refused b r e capacity = rw e
 
 -- ---- the file is a map
@@ -118,6 +120,7 @@ module _ (b : List ℕ) (s : Summary) (e : checkFile 1 b ≡ done s) where
       let ours : ℕ → Bool = λ i. p (valueOf (fileParts b (s .n) (s .k)) i) in
       let same : maskOf (length (listOf b)) read ≡ maskOf (s .n) ours =
       ap (λ (c : ℕ). maskOf c read) (length-listOf b ∙ m .header .nIs)
-      ∙ maskOf-cong (s .n) read ours (λ i inside. ap p (at-list b (s .n) (s .k) (m .header .nIs) (m .header .kIs) i inside)) in
+      ∙ maskOf-cong (s .n) read ours
+      (λ i inside. ap p (at-list b (s .n) (s .k) (m .header .nIs) (m .header .kIs) i inside)) in
       sets-front (maskOf (s .n) ours) out (rw (length-maskOf (s .n) ours) h)
       ∙ sym (ap₂ (λ (o : Outcome ℕ) (ws : List ℕ). written o ws out) (select-done (length out) h) same)

@@ -1,9 +1,9 @@
--- How a mask of a map is made (docs/FORMAT.md, "Masks"). Every comparison of a distance with t asks that the distance is
--- below a limit, or that it is not.
+-- How a mask of a map is made (docs/FORMAT.md, "Masks"). Every comparison of a distance with t asks that the distance
+-- is below a limit, or that it is not.
 --   limitOf c t       the limit of the comparison c with t
 --   isNegated c       c asks for the distances that are not below it
 --   selected P limit negated i   the distance of slot i is below the limit; negated, it is not
--- Laws are in proofs/SelectLaws.antt. Axioms: none.
+-- Laws are in proofs/SelectLaws.antt and EntryBitsLaws.antt. Axioms: none.
 use Prim.Native.Nat.{ℕ, _+_}
 use mathlib.Core.Bool.{Bool, true, false}
 use Rattle.pciv_format.specs.Parts.{Parts, valueOf}

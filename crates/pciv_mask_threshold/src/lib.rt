@@ -9,7 +9,8 @@ ghost use lib.ListN.{length};
 ghost use lib.Seq.{sets};
 ghost use Rattle.pciv_format.specs.Refusals.{numberAnswer};
 ghost use Rattle.pciv_format.specs.Check.{fileParts, CheckedMap};
-ghost use Rattle.pciv_format.specs.Mask.{maskLen, maskOf, selectOutcome, selectWords, thresholdOutcome, thresholdWords, nearMaskOutcome, nearMaskWords};
+ghost use Rattle.pciv_format.specs.Mask.{maskLen, maskOf, selectOutcome, selectWords, thresholdOutcome};
+ghost use Rattle.pciv_format.specs.Mask.{thresholdWords, nearMaskOutcome, nearMaskWords};
 ghost use Rattle.pciv_bits.specs.Flags.{passes};
 ghost use Rattle.pciv_mask_threshold.specs.Select.{limitOf, isNegated, selected};
 use crate::entries::select_entries;
@@ -20,10 +21,12 @@ use pciv_format::Comparison;
 use pciv_format::FileAnswer;
 use pciv_format::HEADER_LEN;
 use pciv_format::NumberAnswer;
-use pciv_format::Refusal;
+use pciv_format::SENTINEL;
+use pciv_layout::mask_len;
+use pciv_layout::refusals::refuse_number;
 
 // The least limit that every inline distance is below.
-const INLINE_LIMIT: u64 = 255;
+const INLINE_LIMIT: u64 = SENTINEL as u64;
 
 // The limit that a comparison with t asks about.
 fn limit_of(comparison: Comparison, t: u32) -> u64
@@ -74,13 +77,9 @@ fn select(file: &[u8], limit: u64, negated: bool, out: &mut [u64]) -> NumberAnsw
         FileAnswer::Done(s) => {
             let n = s.n;
             let k = s.k;
-            let count = (n + 63) / 64;
+            let count = mask_len(n);
             if out.len() < count {
-                return NumberAnswer::Refused(Refusal {
-                    number: BUFFER_TOO_SMALL,
-                    map: 0,
-                    place: 0,
-                });
+                return refuse_number(BUFFER_TOO_SMALL, 0, 0);
             }
             select_into(file, n, k, limit, negated, out);
             NumberAnswer::Number(count)

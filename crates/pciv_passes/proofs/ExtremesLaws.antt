@@ -16,7 +16,8 @@ use Rattle.pciv_passes.specs.Extremes.{leastAt, mostAt, ExtremeSums}
 use Rattle.pciv_passes.specs.declared.counts.Test.{Test}
 use Rattle.pciv_passes.specs.declared.counts.Term.{Term}
 use Rattle.pciv_passes.specs.declared.counts.Term.the-variants.{Passing, Byte}
-use Rattle.pciv_bytes.proofs.SumLaws.{flag-le, sumFrom-le, sumFrom-flag-le, Added, added-none, added-one, added-part, added-all}
+use Rattle.pciv_bytes.proofs.RangesLaws.{flag-le}
+use Rattle.pciv_bytes.proofs.SumLaws.{sumFrom-le, sumFrom-flag-le, Added, added-none, added-one, added-part, added-all}
 
 -- ---- both sums, piece by piece
 

@@ -94,7 +94,8 @@ fn add_block(of: Term, a: &[u8], b: &[u8], from: usize, to: usize) -> Extremes
 pub fn add_extremes(of: Term, a: &[u8], b: &[u8]) -> Extremes
     requires { ⌜ length (now a) ≡ length (now b) ⌝ }
     requires { ⌜ length (now a) ≤ 4294967296 ⌝ }
-    ensures { λ r. ⌜ ExtremeSums of (now (a .entry)) (now (b .entry)) 0 (length (now (a .entry))) (r .least) (r .most) ⌝ }
+    ensures { λ r. ⌜ ExtremeSums of (now (a .entry)) (now (b .entry)) 0 (length (now (a .entry)))
+        (r .least) (r .most) ⌝ }
 {
     let n = a.len();
     let mut least: usize = 0;

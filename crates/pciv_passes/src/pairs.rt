@@ -1,7 +1,7 @@
 // Two lists of bytes, byte by byte: the smaller, the larger, the sum, at most 255, or the difference, at least 0.
 // At a constant operation the compiler works on many bytes at once.
 ghost use mathlib.Core.Path.{_≡_};
-ghost use Prim.Native.Nat.{ℕ, _+_, _-_, _≤_, min, max};
+ghost use Prim.Native.Nat.{_+_, _-_, _≤_};
 ghost use lib.ListN.{length};
 ghost use lib.Seq.{sets};
 ghost use Rattle.pciv_bytes.specs.Ranges.{table, sumFrom};
@@ -35,7 +35,9 @@ pub(crate) fn byte_op(op: ByteOp, x: u8, y: u8) -> u8
 pub fn zip_into(op: ByteOp, a: &[u8], b: &[u8], out: &mut [u8], at: usize)
     requires { ⌜ length (now a) ≡ length (now b) ⌝ }
     requires { ⌜ at + length (now a) ≤ length (now out) ⌝ }
-    ensures { λ _. ⌜ now (out .exit) ≡ sets (now (out .entry)) at (table (pairAt op (now (a .entry)) (now (b .entry))) 0 (length (now (a .entry)))) ⌝ }
+    ensures { λ _. ⌜ now (out .exit)
+        ≡ sets (now (out .entry)) at
+        (table (pairAt op (now (a .entry)) (now (b .entry))) 0 (length (now (a .entry)))) ⌝ }
 {
     let mut i = 0;
     while i < a.len() {
@@ -47,7 +49,8 @@ pub fn zip_into(op: ByteOp, a: &[u8], b: &[u8], out: &mut [u8], at: usize)
 // The operation on every byte and x, written from `at` on.
 pub fn map_into(op: ByteOp, a: &[u8], x: u8, out: &mut [u8], at: usize)
     requires { ⌜ at + length (now a) ≤ length (now out) ⌝ }
-    ensures { λ _. ⌜ now (out .exit) ≡ sets (now (out .entry)) at (table (oneAt op (now (a .entry)) x) 0 (length (now (a .entry)))) ⌝ }
+    ensures { λ _. ⌜ now (out .exit)
+        ≡ sets (now (out .entry)) at (table (oneAt op (now (a .entry)) x) 0 (length (now (a .entry)))) ⌝ }
 {
     let mut i = 0;
     while i < a.len() {

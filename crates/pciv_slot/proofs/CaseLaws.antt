@@ -1,66 +1,38 @@
--- What the editor answers on a checked map, case by case.
---   edit-refused       the buffer is refused;  edit-outside  the slot is none of the map's
---   edit-counted       else the answer is that of beginning a file with the new number of overflow entries
---   stays-inline, stays-overflow    an edit that stays inline, or in overflow
-use mathlib.Core.Bool.{Bool}
-use mathlib.Core.Path.{refl, _≡_, sym, ap, ap₂, _∙_}
-use Prim.Native.Nat.{_-_, ℕ, _+_, _*_, _≤_, _<_}
+-- An edit of a slot of a checked map: its old and new distance, and what the editor answers and leaves where it stays
+-- inline or in overflow. A slot that moves into or out of overflow: ChangeLaws.antt.
+--   holds                  the file at the front of the buffer
+--   new-at, file-edited    the list after the edit, at the slot, and its file
+--   edit-counted           the answer is that of beginning a file with the new number of overflow entries
+--   old-inline, -overflow  the slot's old distance, by its primary byte
+--   below-count            how many entries stand before the slot's;  entry-inside  in overflow, the slot has one
+--   stays-inline, -overflow    answer and buffer where the slot stays inline, or in overflow
+-- Axioms: none.
+use mathlib.Core.Path.{_≡_, sym, ap, ap₂, _∙_}
+use Prim.Native.Nat.{ℕ, _+_, _*_, _≤_, _<_}
 use native.Mathlib.Omega.{arith}
 use mathlib.Core.List.{List, _++_}
-use lib.ListN.{length, getD, drop, set, length-set}
-use lib.Seq.{sets, getD-set-same, getD-set-other}
+use lib.ListN.{length, getD, drop, set}
+use lib.Seq.{sets}
 use lib.Dec.{ltb, leb}
-use borrow.Author.Tests.{le-ltb, le-leb, lt-leb}
+use borrow.Author.Tests.{le-leb, lt-leb}
 use Rattle.pciv_bytes.specs.LittleEndian.{le, Bytes}
-use Rattle.pciv_format.specs.Layout.{Limits, fileLen, overflowCount, file, countsOf, summary, at, fileOf}
-use Rattle.pciv_format.specs.Refusals.{Outcome, done, refused, refuse, refuseIf}
+use Rattle.pciv_format.specs.Layout.{fileLen, overflowCount, file, countsOf, summary, at, fileOf}
+use Rattle.pciv_format.specs.Refusals.{done, refuse, refuseIf}
 use Rattle.pciv_format.specs.Parts.{valueOf}
-use Rattle.pciv_format.specs.Check.{fileParts, checkBuffer, CheckedMap}
-use Rattle.pciv_format.specs.Read.{listOf}
-use Rattle.pciv_format.specs.Edit.{Edit, edited, plainOutcome, editedFile, editOutcome, replaced, editBuffer, entryPlace}
+use Rattle.pciv_format.specs.Check.{fileParts}
+use Rattle.pciv_format.specs.Edit.{Edit, edited, plainOutcome, editOutcome, editBuffer, entryPlace}
 use Rattle.pciv_format.specs.declared.Summary.{Summary}
-use Rattle.pciv_format.specs.declared.Refusal.{Refusal}
 use Rattle.pciv_format.proofs.PartsLaws.{valueOf-inline, entry-good}
 use Rattle.pciv_format.proofs.LayoutLaws.{length-file, overflowCount-cong}
-use Rattle.pciv_format.proofs.CheckLaws.{checkWith-done}
 use Rattle.pciv_format.proofs.FrontLaws.{Holds, checked-front}
-use Rattle.pciv_format.proofs.EditLaws.{count-stays}
+use Rattle.pciv_format.proofs.EditLaws.{edited-at, edited-other, length-edited, count-stays}
 use Rattle.pciv_format.proofs.LimitLaws.{edit-stays-inline, edit-stays-overflow}
+use Rattle.pciv_format.proofs.EditCaseLaws.{held, edit-checked}
 use Rattle.pciv_map_lookup.specs.Lookup.{entriesBelow}
 use Rattle.pciv_map_lookup.proofs.LookupLaws.{valueOf-entry, entriesBelow-count}
 use Rattle.pciv_build.specs.Build.{beginOutcome}
 use Rattle.pciv_build.proofs.BuildLaws.{begin-fits}
 use Rattle.pciv_slot.specs.Change.{EditAt}
-
--- the list that the file at the front of a buffer is read as
-abbrev pub held : List ℕ → List ℕ
-held b = listOf (editedFile b)
-
--- ---- the buffer is refused
-
-module _ (b : List ℕ) (e : Edit) (r : Refusal) where
-  pub edit-refused : checkBuffer 1 b ≡ refused r → editOutcome b e ≡ refused r
-  unfolding editOutcome
-  edit-refused is = rw is
-
-  -- a refused edit changes no byte
-  pub buffer-refused : editOutcome b e ≡ refused r → editBuffer b e ≡ b
-  unfolding editBuffer
-  buffer-refused is = rw is
-
--- ---- the file is a map
-
-module _ (b : List ℕ) (n k : ℕ) (bytes : Bytes b) (c : CheckedMap b n k) (e : Edit) where
-  plain : editOutcome b e ≡ plainOutcome (held b) (length b) e
-  unfolding editOutcome
-  plain = rw (checkWith-done ltb 1 b n k c (le-ltb (length b) (fileLen n k) (c .fits)))
-
-  pub edit-outside : n ≤ e .slot → editOutcome b e ≡ refuse 9 0 0
-  unfolding plainOutcome
-  edit-outside h =
-      plain ∙ rw (le-leb (length (held b)) (e .slot) (omega (arith, checked-front b n k bytes c .slots)))
-
--- ---- a slot of the map
 
 module _ (b : List ℕ) (n k : ℕ) (bytes : Bytes b) (e : Edit) (p : EditAt b n k (e .slot)) where
   pub holds : Holds b n k (held b)
@@ -70,31 +42,25 @@ module _ (b : List ℕ) (n k : ℕ) (bytes : Bytes b) (e : Edit) (p : EditAt b n
   slot-in = omega (arith, holds .slots, p .inside)
 
   pub new-at : at (edited (held b) e) (e .slot) ≡ e .distance
-  new-at = getD-set-same (held b) (e .slot) (e .distance) 0 slot-in
+  new-at = edited-at (held b) e slot-in
 
-  pub others : (i : ℕ) → (i ≡ e .slot → ⊥) → at (held b) i ≡ at (edited (held b) e) i
-  others i ne = sym (getD-set-other (held b) (e .slot) i (e .distance) 0 ne)
-
-  pub length-edited : length (edited (held b) e) ≡ n
-  length-edited = length-set (held b) (e .slot) (e .distance) ∙ holds .slots
+  slots : length (edited (held b) e) ≡ n
+  slots = length-edited (held b) e ∙ holds .slots
 
   pub file-edited : fileOf (edited (held b) e) ≡ file n (at (edited (held b) e))
-  file-edited = ap (λ (m : ℕ). file m (at (edited (held b) e))) length-edited
-
-  pub buffer-done : (s : Summary) → editOutcome b e ≡ done s → editBuffer b e ≡ replaced b (held b) (edited (held b) e)
-  unfolding editBuffer
-  buffer-done s is = rw is
+  file-edited = ap (λ (m : ℕ). file m (at (edited (held b) e))) slots
 
   pub edit-counted : (count : ℕ) → count ≡ overflowCount n (at (edited (held b) e))
       → editOutcome b e ≡ beginOutcome n count (length b)
   unfolding plainOutcome beginOutcome summary
   edit-counted count is =
+      let w : ℕ → ℕ = at (edited (held b) e) in
       let len : length (fileOf (edited (held b) e)) ≡ fileLen n count =
-      ap length file-edited ∙ length-file n (at (edited (held b) e)) ∙ ap (fileLen n) (sym is) in
-      plain b n k bytes (p .checked) e
+      ap length file-edited ∙ length-file n w ∙ ap (fileLen n) (sym is) in
+      edit-checked b n k bytes (p .checked) e
       ∙ rw (lt-leb (length (held b)) (e .slot) slot-in, len)
       (ap (λ (s : Summary). refuseIf (ltb (length b) (fileLen n count)) (refuse 12 0 0) (done s))
-      (ap₂ (λ (m c : ℕ). countsOf m c) length-edited (ap (λ (m : ℕ). overflowCount m (at (edited (held b) e))) length-edited ∙ sym is)))
+      (ap₂ countsOf slots (ap (λ (m : ℕ). overflowCount m w) slots ∙ sym is)))
 
   -- ---- the slot's old distance
 
@@ -129,13 +95,14 @@ module _ (b : List ℕ) (n k : ℕ) (bytes : Bytes b) (e : Edit) (p : EditAt b n
   stays same =
       let count : k ≡ overflowCount n (at (edited (held b) e)) =
       sym
-      (count-stays n (at (held b)) (at (edited (held b) e)) (e .slot) (p .inside) others
+      (count-stays n (at (held b)) (at (edited (held b) e)) (e .slot) (p .inside) (edited-other (held b) e)
       (same ∙ ap (leb 255) (sym new-at))
       ∙ holds .count) in
       edit-counted k count ∙ begin-fits n k b (p .checked .fits) .0
 
   -- the same of the buffer taken apart
-  apart-done : (s : Summary) → editOutcome b e ≡ done s → editOutcome (fileOf (held b) ++ drop (fileLen n k) b) e ≡ done s
+  apart-done : (s : Summary) → editOutcome b e ≡ done s
+      → editOutcome (fileOf (held b) ++ drop (fileLen n k) b) e ≡ done s
   apart-done s is = ap (λ (l : List ℕ). editOutcome l e) (sym (holds .apart)) ∙ is
 
   pub stays-inline : getD b (40 + e .slot) 0 < 255 → e .distance < 255
@@ -149,7 +116,8 @@ module _ (b : List ℕ) (n k : ℕ) (bytes : Bytes b) (e : Edit) (p : EditAt b n
             ∙ ap (λ (l : List ℕ). set l (40 + e .slot) (e .distance)) (sym (holds .apart)),
       )
 
-  pub stays-overflow : getD b (40 + e .slot) 0 ≡ 255 → 255 ≤ e .distance → (j : ℕ) → j ≡ entriesBelow (fileParts b n k) (e .slot)
+  pub stays-overflow : getD b (40 + e .slot) 0 ≡ 255 → 255 ≤ e .distance
+      → (j : ℕ) → j ≡ entriesBelow (fileParts b n k) (e .slot)
       → (editOutcome b e ≡ done (countsOf n k)) × (editBuffer b e ≡ sets b (40 + n + 12 * j + 8) (le 4 (e .distance)))
   stays-overflow old new j at-j =
       let was = old-overflow old in

@@ -1,2 +1,2 @@
 pub mod CaseLaws
-pub mod CrossLaws
+pub mod ChangeLaws

@@ -5,8 +5,7 @@ ghost use Prim.Native.Nat.{_+_, _-_, _*_, _≤_, _<_};
 ghost use lib.ListN.{length, replicate};
 ghost use lib.Seq.{sets};
 ghost use Rattle.pciv_format.specs.Layout.{maxSlots, fileLen};
-ghost use Rattle.pciv_build.specs.Build.{indexFrom};
-ghost use Rattle.pciv_slot.specs.Change.{entryAt, putIn, takenOut, changed, Changes};
+ghost use Rattle.pciv_slot.specs.Change.{entryAt, putIn, takenOut, changed, finished, Changes};
 use pciv_build::finish;
 use pciv_build::put_entry;
 use pciv_bytes::copies::fill_zero;
@@ -72,7 +71,7 @@ fn clear_freed(buffer: &mut [u8], len: usize, old: usize)
 pub(crate) fn finish_change(buffer: &mut [u8], n: usize, k: usize, count: usize)
     requires { ⌜ (n ≤ maxSlots) × (k ≤ n) × (count ≤ n) ⌝ }
     requires { ⌜ (fileLen n k ≤ length (now buffer)) × (fileLen n count ≤ length (now buffer)) ⌝ }
-    ensures { λ _. ⌜ now (buffer .exit) ≡ sets (sets (now (buffer .entry)) (40 + n + 12 * count) (indexFrom (now (buffer .entry)) n count)) (fileLen n count) (replicate (fileLen n k - fileLen n count) 0) ⌝ }
+    ensures { λ _. ⌜ now (buffer .exit) ≡ finished (now (buffer .entry)) n k count ⌝ }
 {
     finish(buffer, n, count);
     clear_freed(buffer, file_len(n, count), file_len(n, k));

@@ -1,16 +1,13 @@
 -- Proves pciv_arith::shift.
 use mathlib.Core.Path.{_≡_, sym, ap, _∙_}
-use Prim.Native.Nat.{ℕ}
-use lib.ListN.{length}
 use mir.Syntax.{w32}
 use mir.Facts.{toZ-ofZ}
-use Rattle.pciv_format.specs.Refusals.{done, refused, fileAnswer}
+use Rattle.pciv_format.specs.Refusals.{done, refused}
 use Rattle.pciv_format.specs.Check.{checkFile}
-use Rattle.pciv_format.specs.Arith.{shiftBuffer}
 use Rattle.pciv_format.proofs.RefusalsLaws.{fileAnswer-done, fileAnswer-refused}
 use Rattle.pciv_arith.specs.Direction.{directionOf}
 use Rattle.pciv_arith.specs.declared.Direction.the-variants.{Down, Up}
-use Rattle.pciv_arith.proofs.ShiftLaws.{checked, up-small, down-is, up-is, shift-refused, shift-outcome, shift-buffer}
+use Rattle.pciv_arith.proofs.ShiftLaws.{checked, up-small, down-is, up-is, shift-refused, shift-written}
 use borrow.Author.Needs.{needs}
 use Rattle.pciv_arith.proofs.shift.Statement.{statement}
 use Rattle.pciv_arith.proofs.shift.Tie as tie
@@ -19,10 +16,12 @@ abbrev entry : tie.After-check → tie.Start
 entry c = c .before .before .before
 
 -- what the check has shown: why the file is refused, or its counts
-is-refused : (c : tie.After-checked) → checkFile 1 (entry (c .before .before) .args .file .now) ≡ refused (c .checked .given .0 .0)
+is-refused : (c : tie.After-checked)
+    → checkFile 1 (entry (c .before .before) .args .file .now) ≡ refused (c .checked .given .0 .0)
 is-refused c = fileAnswer-refused _ _ (sym (c .checked .given .1) ∙ c .before .before .check .ensures)
 
-is-map : (c : tie.After-checked2) → checkFile 1 (entry (c .before .before) .args .file .now) ≡ done (c .checked2 .given .0 .0)
+is-map : (c : tie.After-checked2)
+    → checkFile 1 (entry (c .before .before) .args .file .now) ≡ done (c .checked2 .given .0 .0)
 is-map c = fileAnswer-done _ _ (sym (c .checked2 .given .1) ∙ c .before .before .check .ensures)
 
 -- which way it goes
@@ -32,10 +31,12 @@ answered c =
     let s = entry (c .before .before .before .before) in
     c .which-way .ensures ∙ ap directionOf (toZ-ofZ {w = w32} {z = s .args .by} (s .fits .by))
 
-down : (c : tie.After-way) → Down (c .way .given .0 .0) ≡ directionOf (entry (c .before .before .before .before .before .before) .args .by)
+down : (c : tie.After-way)
+    → Down (c .way .given .0 .0) ≡ directionOf (entry (c .before .before .before .before .before .before) .args .by)
 down c = sym (c .way .given .1) ∙ answered (c .before .before)
 
-up : (c : tie.After-way2) → Up (c .way2 .given .0 .0) ≡ directionOf (entry (c .before .before .before .before .before .before) .args .by)
+up : (c : tie.After-way2)
+    → Up (c .way2 .given .0 .0) ≡ directionOf (entry (c .before .before .before .before .before .before) .args .by)
 up c = sym (c .way2 .given .1) ∙ answered (c .before .before)
 
 check-requires : tie.Need-check-requires
@@ -70,12 +71,10 @@ added-into-requires c κs =
     (record { first = map; second = map }, up-small (s .args .by) (w .way2 .given .0 .0) (s .fits .by) (up w))
 
 returns : tie.Need-returns
-unfolding shiftBuffer
 returns c =
     let k = c .before in
     let a = entry (k .before .before) .args in
-    let e = shift-refused (a .file .now) _ (is-refused k) (a .by) (length (a .out .now)) in
-    (ap fileAnswer (sym e), rw e)
+    shift-refused (a .file .now) _ (is-refused k) (a .by) (a .out .now)
 
 same-length : tie.Need-same-length
 same-length c = search needs
@@ -86,10 +85,9 @@ returns-2 c =
     let w = x .before .before .before in
     let k = w .before .before .before .before in
     let a = entry (k .before .before) .args in
-    let is = down-is (a .file .now) _ (is-map k) (a .by) (w .way .given .0 .0) (down w) in (
-      x .lowered-into .ensures .0 ∙ ap fileAnswer (shift-outcome (a .file .now) _ (is-map k) (a .by) _ is (length (a .out .now))),
-      x .lowered-into .ensures .1 ∙ shift-buffer (a .file .now) _ (is-map k) (a .by) _ is (a .out .now),
-    )
+    shift-written (a .file .now) _ (is-map k) (a .by) _
+    (down-is (a .file .now) _ (is-map k) (a .by) (w .way .given .0 .0) (down w))
+    (a .out .now) _ _ (x .lowered-into .ensures .0) (x .lowered-into .ensures .1)
 
 same-length-2 : tie.Need-same-length-2
 same-length-2 c = search needs
@@ -100,10 +98,9 @@ returns-3 c =
     let w = x .before .before .before in
     let k = w .before .before .before .before in
     let a = entry (k .before .before) .args in
-    let is = up-is (a .file .now) _ (is-map k) (a .by) (w .way2 .given .0 .0) (up w) in (
-      x .added-into .ensures .0 ∙ ap fileAnswer (shift-outcome (a .file .now) _ (is-map k) (a .by) _ is (length (a .out .now))),
-      x .added-into .ensures .1 ∙ shift-buffer (a .file .now) _ (is-map k) (a .by) _ is (a .out .now),
-    )
+    shift-written (a .file .now) _ (is-map k) (a .by) _
+    (up-is (a .file .now) _ (is-map k) (a .by) (w .way2 .given .0 .0) (up w))
+    (a .out .now) _ _ (x .added-into .ensures .0) (x .added-into .ensures .1)
 
 pub shift-spec : {M : Type 1} → statement M
 shift-spec =

@@ -1,12 +1,11 @@
 -- Proves pciv_arith::signed_difference.
 use mathlib.Core.Path.{_≡_, sym, ap, _∙_}
-use Prim.Native.Nat.{_≤_, _<_}
 use lib.ListN.{length}
 use Rattle.pciv_format.specs.Refusals.{done, refused, numberAnswer}
-use Rattle.pciv_format.specs.Arith.{signedDifferenceList}
 use Rattle.pciv_check.specs.Pair.{pairCounts}
 use Rattle.pciv_check.proofs.PairLaws.{pair-checked, pairAnswer-ready, pairAnswer-refused}
-use Rattle.pciv_arith.proofs.SignedDifferenceLaws.{difference-refused, difference-short, difference-done, difference-list}
+use Rattle.pciv_arith.proofs.SignedDifferenceLaws.{difference-refused, difference-short}
+use Rattle.pciv_arith.proofs.SignedDifferenceLaws.{difference-kept, difference-written}
 use borrow.Author.Needs.{needs}
 use Rattle.pciv_arith.proofs.signed_difference.Statement.{statement}
 use Rattle.pciv_arith.proofs.signed_difference.Tie as tie
@@ -16,11 +15,13 @@ entry c = c .before .before .before
 
 -- what the check has shown: why the pair is refused, or its counts
 is-refused : (c : tie.After-checked)
-    → pairCounts (entry (c .before .before) .args .a .now) (entry (c .before .before) .args .b .now) ≡ refused (c .checked .given .0 .0)
+    → pairCounts (entry (c .before .before) .args .a .now) (entry (c .before .before) .args .b .now)
+    ≡ refused (c .checked .given .0 .0)
 is-refused c = pairAnswer-refused _ _ (sym (c .checked .given .1) ∙ c .before .before .check-pair .ensures)
 
 are-maps : (c : tie.After-checked2)
-    → pairCounts (entry (c .before .before) .args .a .now) (entry (c .before .before) .args .b .now) ≡ done (c .checked2 .given .0 .0)
+    → pairCounts (entry (c .before .before) .args .a .now) (entry (c .before .before) .args .b .now)
+    ≡ done (c .checked2 .given .0 .0)
 are-maps c = pairAnswer-ready _ _ (sym (c .checked2 .given .1) ∙ c .before .before .check-pair .ensures)
 
 check-pair-requires : tie.Need-check-pair-requires
@@ -32,13 +33,16 @@ enum-known-checked c = search needs
 enum-known-checked-2 : tie.Need-enum-known-checked-2
 enum-known-checked-2 c = search needs
 
+refuse-number-requires : tie.Need-refuse-number-requires
+refuse-number-requires c κs = search needs
+
 returns : tie.Need-returns
-unfolding signedDifferenceList
 returns c =
-    let k = c .before .before in
+    let t = c .before in
+    let k = t .before .before in
     let a = entry (k .before .before) .args in
-    let short = difference-short (a .a .now) (a .b .now) _ (are-maps k) (length (a .out .now)) (c .if1 .taken) in
-    (ap numberAnswer (sym short), rw short)
+    let e = difference-short (a .a .now) (a .b .now) _ (are-maps k) (length (a .out .now)) (t .if1 .taken) in
+    (c .refuse-number .ensures ∙ ap numberAnswer (sym e), difference-kept (a .a .now) (a .b .now) _ (a .out .now) e)
 
 differences-into-requires : tie.Need-differences-into-requires
 differences-into-requires c κs =
@@ -46,12 +50,11 @@ differences-into-requires c κs =
     (pair-checked _ _ _ (are-maps k), c .before .if1 .left)
 
 returns-2 : tie.Need-returns-2
-unfolding signedDifferenceList
 returns-2 c =
     let k = c .before in
     let a = entry (k .before .before) .args in
     let e = difference-refused (a .a .now) (a .b .now) _ (is-refused k) (length (a .out .now)) in
-    (ap numberAnswer (sym e), rw e)
+    (ap numberAnswer (sym e), difference-kept (a .a .now) (a .b .now) _ (a .out .now) e)
 
 same-length : tie.Need-same-length
 same-length c = search needs
@@ -61,10 +64,8 @@ returns-3 c =
     let x = c .before in
     let k = x .before .before .before .before in
     let a = entry (k .before .before) .args in
-    let fits = x .before .before .if1 .left in (
-      ap numberAnswer (sym (difference-done (a .a .now) (a .b .now) _ (are-maps k) (length (a .out .now)) fits)),
-      x .differences-into .ensures ∙ difference-list (a .a .now) (a .b .now) _ (are-maps k) (a .out .now) fits,
-    )
+    difference-written (a .a .now) (a .b .now) _ (are-maps k) (a .out .now) _ (x .before .before .if1 .left)
+    (x .differences-into .ensures)
 
 pub signed-difference-spec : {M : Type 1} → statement M
 signed-difference-spec =
@@ -73,6 +74,7 @@ signed-difference-spec =
     check-pair-requires
     enum-known-checked
     enum-known-checked-2
+    refuse-number-requires
     returns
     differences-into-requires
     returns-2

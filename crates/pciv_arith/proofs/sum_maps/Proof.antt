@@ -1,25 +1,18 @@
--- Proves pciv_arith::sum_maps.
-use mathlib.Core.Path.{_≡_, sym, ap, _∙_}
-use lib.ListN.{length}
-use Rattle.pciv_format.specs.Refusals.{done, refused, fileAnswer}
-use Rattle.pciv_format.specs.Arith.{combineMapsBuffer}
-use Rattle.pciv_check.specs.Pair.{pairCounts}
-use Rattle.pciv_check.proofs.PairLaws.{pair-checked, pairAnswer-ready, pairAnswer-refused}
-use Rattle.pciv_arith.proofs.SumMapsLaws.{sum-refused, sum-outcome, sum-buffer}
+-- Proves pciv_arith::sum_maps: the check of both maps, then the file of the result.
+use mathlib.Core.Path.{_≡_, sym, _∙_}
 use borrow.Author.Needs.{needs}
+use Rattle.pciv_format.specs.Refusals.{done}
+use Rattle.pciv_format.specs.declared.SlotOp.the-variants.{Sum}
+use Rattle.pciv_check.specs.Pair.{pairCounts}
+use Rattle.pciv_check.proofs.PairLaws.{pairAnswer-ready, pairAnswer-refused, pair-checked}
+use Rattle.pciv_arith.proofs.ArithLaws.{combined-refused, combined-written}
 use Rattle.pciv_arith.proofs.sum_maps.Statement.{statement}
 use Rattle.pciv_arith.proofs.sum_maps.Tie as tie
 
-abbrev entry : tie.After-check-pair → tie.Start
-entry c = c .before .before .before .before
-
--- what the check has shown: why the pair is refused, or its counts
-is-refused : (c : tie.After-checked)
-    → pairCounts (entry (c .before .before) .args .a .now) (entry (c .before .before) .args .b .now) ≡ refused (c .checked .given .0 .0)
-is-refused c = pairAnswer-refused _ _ (sym (c .checked .given .1) ∙ c .before .before .check-pair .ensures)
-
+-- what the check has shown: the counts of both
 are-maps : (c : tie.After-checked2)
-    → pairCounts (entry (c .before .before) .args .a .now) (entry (c .before .before) .args .b .now) ≡ done (c .checked2 .given .0 .0)
+    → (let a = c .before .before .before .before .before .before .args in
+    pairCounts (a .a .now) (a .b .now) ≡ done (c .checked2 .given .0 .0))
 are-maps c = pairAnswer-ready _ _ (sym (c .checked2 .given .1) ∙ c .before .before .check-pair .ensures)
 
 check-pair-requires : tie.Need-check-pair-requires
@@ -35,12 +28,12 @@ added-into-requires : tie.Need-added-into-requires
 added-into-requires c κs = (pair-checked _ _ _ (are-maps (c .before .before)), tt)
 
 returns : tie.Need-returns
-unfolding combineMapsBuffer
 returns c =
     let k = c .before in
-    let a = entry (k .before .before) .args in
-    let e = sum-refused (a .a .now) (a .b .now) _ (is-refused k) (length (a .out .now)) in
-    (ap fileAnswer (sym e), rw e)
+    let h = k .before .before in
+    let a = h .before .before .before .before .args in
+    combined-refused Sum (a .a .now) (a .b .now) (a .out .now) _
+    (pairAnswer-refused _ _ (sym (k .checked .given .1) ∙ h .check-pair .ensures))
 
 same-length : tie.Need-same-length
 same-length c = search needs
@@ -49,11 +42,9 @@ returns-2 : tie.Need-returns-2
 returns-2 c =
     let x = c .before .before in
     let k = x .before .before .before in
-    let a = entry (k .before .before) .args in
-    let maps = are-maps k in (
-      x .added-into .ensures .0 ∙ ap fileAnswer (sum-outcome (a .a .now) (a .b .now) _ maps (length (a .out .now))),
-      x .added-into .ensures .1 ∙ sum-buffer (a .a .now) (a .b .now) _ maps (a .out .now),
-    )
+    let a = k .before .before .before .before .before .before .args in
+    combined-written Sum (a .a .now) (a .b .now) (a .out .now) _ (are-maps k) _ _ (x .added-into .ensures .0)
+    (x .added-into .ensures .1)
 
 pub sum-maps-spec : {M : Type 1} → statement M
 sum-maps-spec =

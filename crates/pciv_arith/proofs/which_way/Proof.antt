@@ -1,14 +1,10 @@
 -- Proves pciv_arith::which_way.
-use mathlib.Core.Path.{_≡_, sym, ap, _∙_}
+use mathlib.Core.Path.{_≡_}
 use native.Mathlib.Omega.{arith}
-use mathlib.Core.Bool.{true, false}
-use lib.IntN.{ℤ, pos, _-ℤ_}
-use lib.Signed.{ltZ}
 use mir.Syntax.{w32, w64}
 use mir.Val.{SFits, toZ, ofZ}
 use mir.Facts.{toZ-ofZ}
 use Rattle.pciv_arith.proofs.ShiftLaws.{Opposite, opposite, Itself, itself}
-use borrow.Author.Needs.{needs}
 use Rattle.pciv_arith.proofs.which_way.Statement.{statement}
 use Rattle.pciv_arith.proofs.which_way.Tie as tie
 

@@ -1,5 +1,5 @@
--- Proves pciv_arith_change::byte_differences. Invariant: writing all differences from 0 on is writing the rest from i on.
--- Falls: length a - i.
+-- Proves pciv_arith_change::byte_differences. Invariant: writing all differences from 0 on is writing the rest
+-- from i on. Falls: length a - i.
 use mathlib.Core.Path.{_≡_, refl, sym, ap, _∙_}
 use Prim.Native.Nat.{_+_, _-_, _≤_}
 use native.Mathlib.Nat.{sub-zero}
@@ -40,7 +40,8 @@ slice-aggregate-raised-differences c = search needs
 
 -- the part is inside of a
 part-inside : (c : tie.After-part-len Inv-loop μ-loop)
-    → c .before .before .loop .i + c .part-len .result ≤ length (c .before .before .before .before .before .args .a .now)
+    → c .before .before .loop .i + c .part-len .result
+    ≤ length (c .before .before .before .before .before .args .a .now)
 part-inside c = omega (arith, c .part-len .ensures .0, c .before .before .loop .inv .0)
 
 -- the list of raised differences after the call
@@ -83,7 +84,8 @@ loop-again c =
     let k = p .before .before .before .before in
     let a = k .before .args in
     let more =
-    bytes-more (a .a .now) (a .b .now) (λ i. k .shared-slice-known .given i .fits) (length (a .a .now)) (l .out) (l .raised)
+    bytes-more (a .a .now) (a .b .now) (λ i. k .shared-slice-known .given i .fits) (length (a .a .now)) (l .out)
+    (l .raised)
     (l .i) (p .part-len .result) (omega (arith, p .part-len .ensures .1, l .inv .2)) (part-inside p) in (
       part-inside p,
       rw (c .before .lower .ensures, length-sets) (l .inv .1),

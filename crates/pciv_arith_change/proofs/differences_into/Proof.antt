@@ -1,11 +1,9 @@
 -- Proves pciv_arith_change::differences_into: each pass leaves what DifferencesLaws.antt says.
-use mathlib.Core.Path.{_≡_, refl, sym, ap, _∙_}
-use Prim.Native.Nat.{_≤_}
+use mathlib.Core.Path.{_≡_, refl, _∙_}
 use native.Mathlib.Nat.{add-sub-cancel-left}
-use native.Mathlib.Omega.{arith}
-use lib.ListN.{length}
 use Rattle.pciv_format.proofs.MapLaws.{primary-inside, primary-length}
-use Rattle.pciv_arith_change.proofs.DifferencesLaws.{Given, withBytes, withOne, bytes-differ, one-moved, both-moved, small-bytes, small-one}
+use Rattle.pciv_arith_change.proofs.DifferencesLaws.{Given, withBytes, withOne, bytes-differ}
+use Rattle.pciv_arith_change.proofs.DifferencesLaws.{one-moved, both-moved, small-bytes, small-one}
 use borrow.Author.Needs.{needs}
 use Rattle.pciv_arith_change.proofs.differences_into.Statement.{statement}
 use Rattle.pciv_arith_change.proofs.differences_into.Tie as tie
@@ -18,10 +16,12 @@ given : (c : tie.After-byte-differences-arg3)
     → (let a = entry c .args in Given (a .a .now) (a .b .now) (a .n) (a .ka) (a .kb) (a .out .now))
 given c =
     record {
-      first = entry c .pre .0 .first;
-      second = entry c .pre .0 .second;
-      bytes-a = λ i. c .before .before .before .before .shared-slice-known .given i .fits;
-      bytes-b = λ i. c .before .before .before .shared-slice-known2 .given i .fits;
+      maps =
+          record {
+            pair = entry c .pre .0;
+            bytes-a = λ i. c .before .before .before .before .shared-slice-known .given i .fits;
+            bytes-b = λ i. c .before .before .before .shared-slice-known2 .given i .fits;
+          };
       long = entry c .pre .1;
     }
 
@@ -69,20 +69,25 @@ byte-differences-requires : tie.Need-byte-differences-requires
 byte-differences-requires c κs =
     let s = entry c in
     let a = s .args in
-    rw (add-sub-cancel-left 40 (a .n), primary-length (a .a .now) (a .n) (a .ka) (s .pre .0 .first), primary-length (a .b .now) (a .n) (a .kb) (s .pre .0 .second))
+    rw (
+      add-sub-cancel-left 40 (a .n),
+      primary-length (a .a .now) (a .n) (a .ka) (s .pre .0 .first),
+      primary-length
+          (a .b .now) (a .n) (a .kb) (s .pre .0 .second),
+    )
     (refl, s .pre .1)
 
 move-entries-requires : tie.Need-move-entries-requires
 move-entries-requires c κs =
     let d = c .before .before in
     let g = given (d .before) in
-    (g .second, rw (bytes-done d) (small-bytes g))
+    (g .maps .pair .second, rw (bytes-done d) (small-bytes g))
 
 move-entries-requires-2 : tie.Need-move-entries-requires-2
 move-entries-requires-2 c κs =
     let d = c .before .before in
     let g = given (d .before .before .before .before) in
-    (g .first, rw (one-done d) (small-one g))
+    (g .maps .pair .first, rw (one-done d) (small-one g))
 
 same-length : tie.Need-same-length
 same-length c = search needs

@@ -1,5 +1,5 @@
--- Proves pciv_arith_change::lower. Invariant: writing all differences from `at` on is writing the rest from at + i on.
--- Falls: count - i.
+-- Proves pciv_arith_change::lower. Invariant: writing all differences from `at` on is writing the rest from at + i
+-- on. Falls: count - i.
 use mathlib.Core.Path.{_≡_, refl, sym, _∙_}
 use Prim.Native.Nat.{_+_, _-_, _≤_}
 use native.Mathlib.Omega.{arith}

@@ -1,7 +1,7 @@
--- Proves pciv_arith_change::move_entries. Invariant: putting all entries right at the start is putting right those from
--- entry j on now; numbers from the least slot that entry j may have on are small. Falls: k - j.
+-- Proves pciv_arith_change::move_entries. Invariant: putting all entries right at the start is putting right those
+-- from entry j on now; numbers from the least slot that entry j may have on are small. Falls: k - j.
 use mathlib.Core.Path.{_≡_, refl, sym, _∙_}
-use Prim.Native.Nat.{ℕ, _+_, _-_, _^_, _≤_, _<_}
+use Prim.Native.Nat.{_-_, _^_, _≤_, _<_}
 use native.Mathlib.Nat.{sub-zero}
 use native.Mathlib.Omega.{arith}
 use lib.ListN.{length, getD, length-set}
@@ -14,7 +14,7 @@ use Rattle.pciv_format.specs.Parts.{Parts, lowestSlot}
 use Rattle.pciv_format.specs.Check.{fileParts}
 use Rattle.pciv_format.proofs.PartsLaws.{GoodEntry, entry-good}
 use Rattle.pciv_format.proofs.MapLaws.{entry-inside}
-use Rattle.pciv_arith_change.specs.Differences.{movedBy, movedFrom, SmallFrom}
+use Rattle.pciv_arith_change.specs.Differences.{movedFrom, SmallFrom}
 use Rattle.pciv_arith_change.proofs.DifferencesLaws.{moved-more, moved-done, small-more}
 use borrow.Author.Needs.{needs}
 use Rattle.pciv_arith_change.proofs.move_entries.Statement.{statement}
@@ -59,7 +59,13 @@ slot-inside : (c : tie.After-entry-distance Inv-loop μ-loop)
     → c .before .entry-slot .result < length (c .before .before .before .loop .out)
 slot-inside c =
     let d = c .before .before in
-    omega (arith, good d .inside, c .before .entry-slot .ensures, d .before .loop .inv .1, d .before .before .before .pre .1 .0)
+    omega (
+      arith,
+      good d .inside,
+      c .before .entry-slot .ensures,
+      d .before .loop .inv .1,
+      d .before .before .before .pre .1 .0,
+    )
 
 mul-z : tie.Need-mul-z Inv-loop μ-loop
 mul-z c = omega (arith, slot-inside c, c .before .before .before .before .before .good)

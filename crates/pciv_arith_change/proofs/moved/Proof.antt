@@ -1,6 +1,5 @@
 -- Proves pciv_arith_change::moved: z and the excess are small, and so is their sum or difference.
-use mathlib.Core.Path.{_≡_, _∙_}
-use Prim.Native.Nat.{_^_}
+use mathlib.Core.Path.{_≡_}
 use native.Mathlib.Omega.{arith}
 use lib.IntN.{pos, _+ℤ_, _-ℤ_}
 use mir.Syntax.{w64}

@@ -1,5 +1,5 @@
--- Proves pciv_arith_change::raised_differences. Invariant: writing all raised differences from 0 on is writing the rest
--- from i on. Falls: count - i.
+-- Proves pciv_arith_change::raised_differences. Invariant: writing all raised differences from 0 on is writing the
+-- rest from i on. Falls: count - i.
 use mathlib.Core.Path.{_≡_, refl, sym, ap, _∙_}
 use Prim.Native.Nat.{_+_, _-_, _≤_}
 use native.Mathlib.Nat.{sub-zero}
@@ -62,7 +62,8 @@ loop-again c =
     let a = d .before .before .before .before .args in
     let l = d .loop in
     let f = raisedAt (byteAt (a .a .now)) (byteAt (a .b .now)) (a .from) in
-    let more = sets-cons (l .out) _ (f (l .i)) _ (l .i) (l .i + 1) (table-rest f (a .count) (l .i) (omega arith)) refl in
+    let more = sets-cons (l .out) _ (f (l .i)) _ (l .i) (l .i + 1) (table-rest f (a .count) (l .i) (omega arith))
+    refl in
     (omega arith, simp length-set (l .inv .1), l .inv .2 ∙ rw (c .raised-difference .ensures) more)
 
 same-length : tie.Need-same-length Inv-loop μ-loop

@@ -1,14 +1,15 @@
--- Proves pciv_arith_lower::count_lowered. Invariant: count is that of the slots below the least that entry j may have.
--- Falls: k - j.
-use mathlib.Core.Path.{_≡_, ap, _∙_}
-use Prim.Native.Nat.{ℕ, _+_, _-_, _≤_, _<_}
+-- Proves pciv_arith_lower::count_lowered. Invariant: count is that of the slots below the least that entry j may
+-- have. Falls: k - j.
+use mathlib.Core.Path.{_≡_, sym, ap, _∙_}
+use Prim.Native.Nat.{ℕ, _+_, _-_, _≤_}
 use native.Mathlib.Omega.{arith}
 use Rattle.pciv_format.specs.Parts.{Parts, lowestSlot}
 use Rattle.pciv_format.specs.Check.{fileParts}
 use Rattle.pciv_build.proofs.EntriesLaws.{Counted, counted-start}
+use Rattle.pciv_build.proofs.AlongLaws.{Along, counted-entry, counted-pass, counted-last}
 use Rattle.pciv_format.proofs.MapLaws.{entry-inside}
 use Rattle.pciv_arith_lower.specs.Lowered.{loweredAt}
-use Rattle.pciv_arith_lower.proofs.LoweredLaws.{lowered-counted, lowered-uncounted, lowered-counted-all}
+use Rattle.pciv_arith_lower.proofs.LoweredLaws.{lowered-along, lowered-slot}
 use borrow.Author.Needs.{needs}
 use Rattle.pciv_arith_lower.proofs.count_lowered.Statement.{statement}
 use Rattle.pciv_arith_lower.proofs.count_lowered.Tie as tie
@@ -24,14 +25,26 @@ abbrev μ-loop : tie.MeasureT-loop
 abbrev parts : tie.Start Inv-loop μ-loop → Parts
 parts s = fileParts (s .args .file .now) (s .args .n) (s .args .k)
 
-bytes : (c : tie.After-shared-slice-known Inv-loop μ-loop) → ((i : ℕ) → parts (c .before) .byte i < 256)
-bytes c i = c .shared-slice-known .given (40 + i) .fits
+abbrev start : tie.At-loop Inv-loop μ-loop → tie.Start Inv-loop μ-loop
+start l = l .before .before
 
--- the lowered distance of entry j
-low : (c : tie.After-lower Inv-loop μ-loop)
-    → (let d = c .before .before in
-    c .lower .result ≡ parts (d .before .before .before) .distance (d .before .loop .j) - d .before .before .before .args .m)
-low c = c .lower .ensures ∙ ap (λ (x : ℕ). x - c .before .before .before .before .before .args .m) (c .before .entry-distance .ensures)
+-- the result is in overflow only where the map is
+along : (l : tie.At-loop Inv-loop μ-loop) → Along (parts (start l)) (loweredAt (parts (start l)) (start l .args .m))
+along l =
+    let s = start l in
+    lowered-along (parts s) (s .pre .parts) (λ i. l .before .shared-slice-known .given (40 + i) .fits) (s .args .m)
+
+-- its distance at entry j
+distance : (c : tie.After-truncated-difference Inv-loop μ-loop)
+    → (let l = c .before .before .before in
+    let s = start l in
+    c .truncated-difference .result ≡ loweredAt (parts s) (s .args .m) (parts s .slot (l .loop .j)))
+distance c =
+    let d = c .before .before in
+    let s = start (d .before) in
+    c .truncated-difference .ensures
+    ∙ ap (λ (x : ℕ). x - s .args .m) (c .before .entry-distance .ensures)
+    ∙ sym (lowered-slot (parts s) (s .pre .parts) (s .args .m) (d .before .loop .j) (d .loop-test .taken))
 
 loop-holds : tie.Need-loop-holds Inv-loop μ-loop
 loop-holds c =
@@ -42,8 +55,8 @@ entry-distance-requires c κs =
     let s = c .before .before .before in
     entry-inside (s .args .file .now) (s .args .n) (s .args .k) (s .pre) (c .before .loop .j) (omega arith)
 
-lower-requires : tie.Need-lower-requires Inv-loop μ-loop
-lower-requires c κs = search needs
+truncated-difference-requires : tie.Need-truncated-difference-requires Inv-loop μ-loop
+truncated-difference-requires c κs = search needs
 
 add-j : tie.Need-add-j Inv-loop μ-loop
 add-j c = search needs
@@ -61,11 +74,10 @@ loop-less c = search needs
 loop-again : tie.Need-loop-again Inv-loop μ-loop
 loop-again c =
     let d = c .before .before .before in
-    let k = d .before .before in
-    let s = k .before in
-    let l = d .before .loop in (
+    let l = d .before in (
       omega arith,
-      lowered-counted (parts s) (s .pre .parts) (bytes k) (s .args .m) (d .loop-test .taken) (l .inv .1) (omega (arith, low (c .before), c .if1 .taken)),
+      counted-entry (along l) (l .loop .j) (d .loop-test .taken) (l .loop .inv .1)
+          (omega (arith, distance (c .before), c .if1 .taken)),
     )
 
 loop-less-2 : tie.Need-loop-less-2 Inv-loop μ-loop
@@ -74,20 +86,16 @@ loop-less-2 c = search needs
 loop-again-2 : tie.Need-loop-again-2 Inv-loop μ-loop
 loop-again-2 c =
     let d = c .before .before .before in
-    let k = d .before .before in
-    let s = k .before in
-    let l = d .before .loop in (
+    let l = d .before in (
       omega arith,
-      lowered-uncounted (parts s) (s .pre .parts) (bytes k) (s .args .m) (d .loop-test .taken) (l .inv .1) (omega (arith, low (c .before), c .if1 .left)),
+      counted-pass (along l) (l .loop .j) (d .loop-test .taken) (l .loop .inv .1)
+          (omega (arith, distance (c .before), c .if1 .left)),
     )
 
 returns : tie.Need-returns Inv-loop μ-loop
 returns c =
-    let k = c .before .before in
-    let s = k .before in
-    let l = c .before .loop in
-    let all : l .j ≡ s .args .k = omega (arith, l .inv .0, c .loop-test .left) in
-    lowered-counted-all (parts s) (s .pre .parts) (bytes k) (s .args .m) (rw all at (l .inv .1))
+    let l = c .before in
+    counted-last (along l) (l .loop .j) (l .loop .inv .0) (c .loop-test .left) (l .loop .inv .1)
 
 pub count-lowered-spec : {M : Type 1} → statement M
 count-lowered-spec =
@@ -97,7 +105,7 @@ count-lowered-spec =
     μ-loop
     loop-holds
     entry-distance-requires
-    lower-requires
+    truncated-difference-requires
     add-j
     add-count
     loop-less

@@ -1,20 +1,20 @@
--- Proves pciv_arith_lower::put_primary. Invariant: out has the bytes that the primary bytes lead to, put right at the slots of
--- the first j entries. Falls: k - j.
+-- Proves pciv_arith_lower::put_primary. Invariant: out has the bytes that the primary bytes lead to, put right at
+-- the slots of the first j entries. Falls: k - j.
 use mathlib.Core.Path.{_≡_, refl, sym, ap, _∙_}
-use Prim.Native.Nat.{ℕ, _+_, _-_, _≤_, _<_}
+use Prim.Native.Nat.{ℕ, _+_, _-_, _≤_}
 use native.Mathlib.Nat.{add-sub-cancel-left}
 use native.Mathlib.Omega.{arith}
 use mathlib.Core.List.{List}
 use lib.ListN.{length, length-set}
 use lib.Seq.{sets}
 use Rattle.pciv_bytes.specs.LittleEndian.{Bytes}
-use Rattle.pciv_format.specs.Layout.{primaryByte}
 use Rattle.pciv_format.specs.Parts.{Parts}
 use Rattle.pciv_format.specs.Check.{fileParts}
 use Rattle.pciv_format.proofs.PartsLaws.{GoodEntry, entry-good}
 use Rattle.pciv_format.proofs.MapLaws.{entry-inside, primary-inside, primary-length}
 use Rattle.pciv_format.proofs.PatchLaws.{patched}
-use Rattle.pciv_arith_lower.proofs.LoweredLaws.{lowByte, bytes-start, bytes-more, bytes-end, bytes-again}
+use Rattle.pciv_arith_lower.proofs.LoweredLaws.{lowByte, lowered-bytes-start, lowered-bytes-more}
+use Rattle.pciv_arith_lower.proofs.LoweredLaws.{lowered-bytes-end, lowered-bytes-again}
 use borrow.Author.Needs.{needs}
 use Rattle.pciv_arith_lower.proofs.put_primary.Statement.{statement}
 use Rattle.pciv_arith_lower.proofs.put_primary.Tie as tie
@@ -43,7 +43,7 @@ lowered c =
     let s = entry (c .before .before .before) in
     let a = s .args in
     (rw (add-sub-cancel-left 40 (a .n), c .before .before .primary-byte .ensures) at (c .map-into .ensures))
-    ∙ ap (sets (a .out .now) 40) (bytes-start (a .file .now) (a .n) (a .k) (a .m) (s .pre .0) (bytes c))
+    ∙ ap (sets (a .out .now) 40) (lowered-bytes-start (a .file .now) (a .n) (a .k) (a .m) (s .pre .0) (bytes c))
 
 abbrev start : tie.In-loop Inv-loop μ-loop → tie.Start Inv-loop μ-loop
 start c = entry (c .before .before .before .before .before .before .before)
@@ -80,8 +80,13 @@ loop-holds c =
     let s = entry (w .before .before .before) in
     let a = s .args in
     let front = lowered w in
-    let again = bytes-again (a .file .now) (a .n) (a .k) (a .m) (s .pre .0) (bytes w) 0 0 (a .out .now) (s .pre .1) in
-    (omega arith, refl, front ∙ sym (ap (λ (d : List ℕ). sets d 40 (patched (lowByte (a .m)) (parts s) 0)) front ∙ again))
+    let again = lowered-bytes-again (a .file .now) (a .n) (a .k) (a .m) (s .pre .0) (bytes w) 0 0 (a .out .now)
+    (s .pre .1) in (
+      omega arith,
+      refl,
+      front
+          ∙ sym (ap (λ (d : List ℕ). sets d 40 (patched (lowByte (a .m)) (parts s) 0)) front ∙ again),
+    )
 
 entry-slot-requires : tie.Need-entry-slot-requires Inv-loop μ-loop
 entry-slot-requires c κs =
@@ -91,8 +96,8 @@ entry-slot-requires c κs =
 entry-distance-requires : tie.Need-entry-distance-requires Inv-loop μ-loop
 entry-distance-requires c κs = entry-slot-requires (c .before) κs
 
-lower-requires : tie.Need-lower-requires Inv-loop μ-loop
-lower-requires c κs = search needs
+truncated-difference-requires : tie.Need-truncated-difference-requires Inv-loop μ-loop
+truncated-difference-requires c κs = search needs
 
 primary-byte-requires-2 : tie.Need-primary-byte-requires-2 Inv-loop μ-loop
 primary-byte-requires-2 c κs = search needs
@@ -108,7 +113,14 @@ slice-write-out c =
     let e = c .before .before .before in
     let d = e .before in
     let s = start d in
-    omega (arith, good d .inside, e .entry-slot .ensures, d .before .loop .inv .1, s .pre .1, d .before .before .before .before .map-into .kept)
+    omega (
+      arith,
+      good d .inside,
+      e .entry-slot .ensures,
+      d .before .loop .inv .1,
+      s .pre .1,
+      d .before .before .before .before .map-into .kept,
+    )
 
 add-j : tie.Need-add-j Inv-loop μ-loop
 add-j c = search needs
@@ -123,11 +135,23 @@ loop-again c =
     let s = start d in
     let a = s .args in
     let l = d .before .loop in
-    let space : 40 + a .n ≤ length (d .before .before .before .before .map-into .last .1 .1 .1 .0) = omega (arith, s .pre .1, d .before .before .before .before .map-into .kept) in
-    let more = bytes-more (a .file .now) (a .n) (a .k) (a .m) (s .pre .0) (bytes (d .before .before .before .before)) (l .j) _ (omega arith) space in (
+    let space : 40 + a .n
+    ≤ length (d .before .before .before .before .map-into .last .1 .1 .1 .0) = omega (
+      arith,
+      s .pre .1,
+      d .before .before .before .before .map-into .kept,
+    ) in
+    let more = lowered-bytes-more (a .file .now) (a .n) (a .k) (a .m) (s .pre .0)
+    (bytes (d .before .before .before .before)) (l .j) _ (omega arith) space in (
       omega arith,
       simp length-set (l .inv .1),
-      rw (l .inv .2, e .entry-slot .ensures, c .primary-byte2 .ensures, c .before .lower .ensures, c .before .before .entry-distance .ensures) more,
+      rw (
+        l .inv .2,
+        e .entry-slot .ensures,
+        c .primary-byte2 .ensures,
+        c .before .truncated-difference .ensures,
+        c .before .before .entry-distance .ensures,
+      ) more,
     )
 
 same-length : tie.Need-same-length Inv-loop μ-loop
@@ -143,8 +167,8 @@ returns c =
     l .inv .2
     ∙ ap (λ (j : ℕ). sets (w .map-into .last .1 .1 .1 .0) 40 (patched (lowByte (a .m)) (parts s) j)) all
     ∙ ap (λ (d : List ℕ). sets d 40 (patched (lowByte (a .m)) (parts s) (a .k))) (lowered w)
-    ∙ bytes-again (a .file .now) (a .n) (a .k) (a .m) (s .pre .0) (bytes w) (a .k) 0 (a .out .now) (s .pre .1)
-    ∙ ap (sets (a .out .now) 40) (bytes-end (a .file .now) (a .n) (a .k) (a .m) (s .pre .0) (bytes w))
+    ∙ lowered-bytes-again (a .file .now) (a .n) (a .k) (a .m) (s .pre .0) (bytes w) (a .k) 0 (a .out .now) (s .pre .1)
+    ∙ ap (sets (a .out .now) 40) (lowered-bytes-end (a .file .now) (a .n) (a .k) (a .m) (s .pre .0) (bytes w))
 
 pub put-primary-spec : {M : Type 1} → statement M
 put-primary-spec =
@@ -161,7 +185,7 @@ put-primary-spec =
     loop-holds
     entry-slot-requires
     entry-distance-requires
-    lower-requires
+    truncated-difference-requires
     primary-byte-requires-2
     add-out
     slice-write-out

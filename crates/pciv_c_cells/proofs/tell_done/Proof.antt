@@ -1,5 +1,5 @@
 -- Proves pciv_c_cells::tell_done.
-use mathlib.Core.Path.{_≡_, refl}
+use mathlib.Core.Path.{refl}
 use Rattle.pciv_c_cells.proofs.tell_done.Statement.{statement}
 use Rattle.pciv_c_cells.proofs.tell_done.Tie as tie
 

@@ -1,5 +1,5 @@
 -- Proves pciv_c_cells::tell_file.
-use mathlib.Core.Path.{_≡_, refl}
+use mathlib.Core.Path.{refl}
 use borrow.Author.Needs.{needs}
 use Rattle.pciv_c_cells.proofs.tell_file.Statement.{statement}
 use Rattle.pciv_c_cells.proofs.tell_file.Tie as tie

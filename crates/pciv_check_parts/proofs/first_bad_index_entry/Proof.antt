@@ -1,13 +1,12 @@
 -- Proves pciv_check_parts::first_bad_index_entry. Invariant: the index entries below i are right. Falls: m - i.
-use mathlib.Core.Path.{_≡_, refl, sym, ap, _∙_}
-use mathlib.Core.Bool.{Bool, false}
+use mathlib.Core.Path.{_≡_, sym, ap, _∙_}
+use mathlib.Core.Bool.{false}
 use Prim.Native.Nat.{ℕ, _+_, _-_, _*_, _≤_, _<_}
 use native.Mathlib.Omega.{arith}
-use lib.ListN.{length}
 use borrow.Author.Count.{below-more}
 use Rattle.pciv_bytes.specs.LittleEndian.{get}
 use Rattle.pciv_bytes.proofs.RangesLaws.{firstBelow-at, firstBelow-none}
-use Rattle.pciv_format.specs.Layout.{maxSlots, indexStep, indexLen}
+use Rattle.pciv_format.specs.Layout.{indexStep, indexLen}
 use Rattle.pciv_format.specs.Check.{badIndexEntry}
 use Rattle.pciv_format.proofs.LayoutLaws.{index-inside}
 use Rattle.pciv_format.proofs.BadIndexLaws.{badIndexEntry-slot, badIndexEntry-place, badIndexEntry-good}

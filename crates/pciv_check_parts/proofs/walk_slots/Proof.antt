@@ -1,15 +1,16 @@
 -- Proves pciv_check_parts::walk_slots. Invariant: no slot below i lacks its entry, and entry j is the next one.
 -- Falls: n - i.
-use mathlib.Core.Path.{_≡_, refl, sym, ap, _∙_}
+use mathlib.Core.Path.{_≡_, sym, _∙_}
 use mathlib.Core.Logic.{⊎-elim}
-use mathlib.Core.Bool.{Bool, true, false}
-use Prim.Native.Nat.{ℕ, _+_, _-_, _*_, _≤_, _<_}
+use mathlib.Core.Bool.{false}
+use Prim.Native.Nat.{ℕ, _-_, _≤_, _<_}
 use native.Mathlib.Omega.{arith}
 use borrow.Author.Count.{below-more}
 use Rattle.pciv_bytes.proofs.RangesLaws.{firstBelow-at, firstBelow-none}
 use Rattle.pciv_format.specs.Parts.{badSlot}
 use Rattle.pciv_format.specs.Check.{fileParts}
-use Rattle.pciv_format.proofs.BadSlotLaws.{Walk, walk-start, walk-take, walk-skip, badSlot-inline, badSlot-entry, badSlot-next}
+use Rattle.pciv_format.proofs.BadSlotLaws.{Walk, walk-start, walk-take, walk-skip, badSlot-inline}
+use Rattle.pciv_format.proofs.BadSlotLaws.{badSlot-entry, badSlot-next}
 use borrow.Author.Needs.{needs}
 use Rattle.pciv_check_parts.proofs.walk_slots.Statement.{statement}
 use Rattle.pciv_check_parts.proofs.walk_slots.Tie as tie
@@ -99,7 +100,8 @@ returns-3 : tie.Need-returns-3 Inv-loop μ-loop
 returns-3 c =
     let d = c .before in
     let a = d .before .before .args in
-    sym (firstBelow-none (badSlot (fileParts (a .file .now) (a .n) (a .k))) (a .n) (λ i h. d .loop .inv .3 i (omega arith)))
+    sym
+    (firstBelow-none (badSlot (fileParts (a .file .now) (a .n) (a .k))) (a .n) (λ i h. d .loop .inv .3 i (omega arith)))
 
 pub walk-slots-spec : {M : Type 1} → statement M
 walk-slots-spec =

@@ -1,10 +1,11 @@
 -- Proves pciv_close_entries::check_next: the test of the entry decides.
-use mathlib.Core.Path.{_≡_, refl, sym, ap, _∙_}
+use mathlib.Core.Path.{_≡_, sym, ap, _∙_}
 use Prim.Native.Nat.{_+_, _≤_}
 use native.Mathlib.Omega.{arith}
-use mathlib.Core.Bool.{Bool, true, false}
-use Rattle.pciv_format.specs.declared.Entry.{Entry}
-use Rattle.pciv_close.specs.Close.{wrongEntry}
+use mathlib.Core.Bool.{false}
+use lib.ListN.{length}
+use Rattle.pciv_format.specs.Layout.{at}
+use Rattle.pciv_format.specs.Parts.{wrongEntry}
 use Rattle.pciv_close_entries.specs.Passes.{Call, endedJob, Checking, Doing, Next}
 use Rattle.pciv_close_entries.specs.declared.Pass.the-variants.{Check}
 use Rattle.pciv_close_entries.proofs.PassesLaws.{checking-wrong, checking-inside, checking-more, checking-all}
@@ -22,19 +23,19 @@ checking s call nx d =
 
 good : (c : tie.Else1)
     → (let a = c .before .before .before .before .args in
-    wrongEntry (a .primary .now) (a .job .lowest) (a .e .slot) (a .e .distance) ≡ false)
-good c = sym (c .before .bad-entry .ensures) ∙ c .if1 .left
+    wrongEntry (length (a .primary .now)) (at (a .primary .now)) (a .job .lowest) (a .e .slot) (a .e .distance) ≡ false)
+good c = sym (c .before .wrong-entry .ensures) ∙ c .if1 .left
 
 -- it was the last entry
 last : (c : tie.Else2)
     → (let a = c .before .before .before .before .before .before .before .args in a .k ≤ a .job .next + 1)
 last c = rw (c .before .before .onward .ensures) at (c .if2 .left)
 
-bad-entry-requires : tie.Need-bad-entry-requires
-bad-entry-requires c κs = search needs
+wrong-entry-requires : tie.Need-wrong-entry-requires
+wrong-entry-requires c κs = search needs
 
-refused-requires : tie.Need-refused-requires
-refused-requires c κs = search needs
+refuse-file-requires : tie.Need-refuse-file-requires
+refuse-file-requires c κs = search needs
 
 ended-requires : tie.Need-ended-requires
 ended-requires c κs = search needs
@@ -44,10 +45,10 @@ returns c =
     let t = c .before .before in
     let s = t .before .before .before .before in
     let a = s .args in
-    let wrong = sym (t .before .bad-entry .ensures) ∙ t .if1 .taken in
+    let wrong = sym (t .before .wrong-entry .ensures) ∙ t .if1 .taken in
     λ call nx d.
     step-ended (a .primary .now) call (a .k) (a .job) (a .e) nx _ (c .ended .result) (a .out .now)
-    (c .ended .ensures ∙ ap (endedJob (a .k)) (c .before .refused .ensures))
+    (c .ended .ensures ∙ ap (endedJob (a .k)) (c .before .refuse-file .ensures))
     (checking-wrong (a .primary .now) call (a .k) (a .job) (a .e) nx (a .out .now) (checking s call nx d) wrong)
 
 add-onward : tie.Need-add-onward
@@ -104,8 +105,8 @@ pub check-next-spec : {M : Type 1} → statement M
 check-next-spec =
     tie.close
     (tie.spec
-    bad-entry-requires
-    refused-requires
+    wrong-entry-requires
+    refuse-file-requires
     ended-requires
     returns
     add-onward

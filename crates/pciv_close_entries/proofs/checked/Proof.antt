@@ -1,5 +1,5 @@
 -- Proves pciv_close_entries::checked: a count of the bytes 255 that equals k leaves no slot without its entry.
-use mathlib.Core.Path.{_≡_, refl, sym, _∙_}
+use mathlib.Core.Path.{refl, sym, _∙_}
 use native.Mathlib.Omega.{arith}
 use Rattle.pciv_close_entries.proofs.PassesLaws.{right-sound, right-search}
 use Rattle.pciv_close_entries.proofs.StepLaws.{doing-going}
@@ -29,11 +29,12 @@ returns c =
     let s = t .before .before .before .before in
     λ call a.
     (let d = o .open .ensures call
-    (right-sound (s .args .primary .now) call (s .args .k) (s .args .out .now) a (sym (t .before .count-byte .ensures) ∙ t .if1 .taken)) in
+    (right-sound (s .args .primary .now) call (s .args .k) (s .args .out .now) a
+    (sym (t .before .count-byte .ensures) ∙ t .if1 .taken)) in
     (d .0, omega (arith, d .1)))
 
-refused-requires : tie.Need-refused-requires
-refused-requires c κs = search needs
+refuse-file-requires : tie.Need-refuse-file-requires
+refuse-file-requires c κs = search needs
 
 returns-2 : tie.Need-returns-2
 returns-2 c =
@@ -47,4 +48,4 @@ returns-2 c =
 pub checked-spec : {M : Type 1} → statement M
 checked-spec =
     tie.close
-    (tie.spec count-byte-requires open-requires same-length returns refused-requires returns-2)
+    (tie.spec count-byte-requires open-requires same-length returns refuse-file-requires returns-2)

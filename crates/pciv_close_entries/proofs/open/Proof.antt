@@ -74,8 +74,8 @@ returns-2 c =
     let a = p .before .before .args in
     λ call sound. (
       doing-going (a .primary .now) call _ _ (omega (arith, sound .count, sound .more))
-          (sound-begun (a .primary .now) call (a .k) (a .out .now) (bytes p) sound _ (b .begin .last .0) _ _ (begun-done o)
-          (b .begin .ensures .1) (y .copy-bytes .ensures) refl refl),
+          (sound-begun (a .primary .now) call (a .k) (a .out .now) (bytes p) sound _ (b .begin .last .0) _ _
+          (begun-done o) (b .begin .ensures .1) (y .copy-bytes .ensures) refl refl),
       omega arith,
     )
 

@@ -1,11 +1,12 @@
 -- Proves pciv_close_entries::search_next: the first byte 255 that is found decides.
-use mathlib.Core.Path.{_≡_, refl, sym, ap, _∙_}
+use mathlib.Core.Path.{ap, _∙_}
 use Prim.Native.Nat.{_+_, _≤_, _<_}
 use native.Mathlib.Omega.{arith}
 use lib.ListN.{length}
 use Rattle.pciv_close_entries.specs.Passes.{Call, endedJob, Searching, Doing, Next}
 use Rattle.pciv_close_entries.specs.declared.Pass.the-variants.{Search}
-use Rattle.pciv_close_entries.proofs.PassesLaws.{searching-inside, searching-found, searching-more, searching-last, searching-none}
+use Rattle.pciv_close_entries.proofs.PassesLaws.{searching-inside, searching-low, searching-found}
+use Rattle.pciv_close_entries.proofs.PassesLaws.{searching-more, searching-last, searching-none}
 use Rattle.pciv_close_entries.proofs.StepLaws.{searching-of, step-ended, step-onward, step-later}
 use borrow.Author.Needs.{needs}
 use Rattle.pciv_close_entries.proofs.search_next.Statement.{statement}
@@ -24,16 +25,22 @@ inside s =
     searching-inside (s .args .primary .now) (p .0) (s .args .k) (s .args .job) (s .args .e) (p .1) (s .args .out .now)
     (searching s (p .0) (p .1) (p .2))
 
+order : (s : tie.Start) → s .args .job .lowest ≤ s .args .e .slot
+order s =
+    let p = s .pre .0 in
+    searching-low (s .args .primary .now) (p .0) (s .args .k) (s .args .job) (s .args .e) (p .1) (s .args .out .now)
+    (searching s (p .0) (p .1) (p .2))
+
 -- it was the last entry
 over : (c : tie.Else2)
     → (let a = c .before .before .before .before .before .before .before .args in a .k ≤ a .job .next + 1)
 over c = rw (c .before .before .onward .ensures) at (c .if2 .left)
 
-first-full-requires : tie.Need-first-full-requires
-first-full-requires c κs = omega (arith, inside (c .before .before))
+find-byte-requires : tie.Need-find-byte-requires
+find-byte-requires c κs = (order (c .before .before), omega (arith, inside (c .before .before)))
 
-refused-requires : tie.Need-refused-requires
-refused-requires c κs = search needs
+refuse-file-requires : tie.Need-refuse-file-requires
+refuse-file-requires c κs = search needs
 
 ended-requires : tie.Need-ended-requires
 ended-requires c κs = search needs
@@ -46,9 +53,9 @@ returns c =
     let a = s .args in
     λ call nx d.
     step-ended (a .primary .now) call (a .k) (a .job) (a .e) nx _ (c .ended .result) (a .out .now)
-    (c .ended .ensures ∙ ap (endedJob (a .k)) (c .before .refused .ensures))
+    (c .ended .ensures ∙ ap (endedJob (a .k)) (c .before .refuse-file .ensures))
     (searching-found (a .primary .now) call (a .k) (a .job) (a .e) nx (a .out .now) (searching s call nx d)
-    (f .first-full .result) (f .first-full .ensures) (t .if1 .taken))
+    (f .find-byte .result) (f .find-byte .ensures) (t .if1 .taken))
 
 add-onward : tie.Need-add-onward
 add-onward c = omega (arith, inside (c .before .before .before .before))
@@ -67,16 +74,17 @@ returns-2 c =
     step-onward (a .primary .now) call (a .k) (a .job) (a .e) nx _ (o .onward .result) (a .out .now) Search (s .pre .1)
     (o .onward .ensures) (c .if2 .taken)
     (searching-more (a .primary .now) call (a .k) (a .job) (a .e) nx (a .out .now) (searching s call nx d)
-    (f .first-full .result) (f .first-full .ensures) (g .if1 .left))
+    (f .find-byte .result) (f .find-byte .ensures) (g .if1 .left))
 
-add-first-full : tie.Need-add-first-full
-add-first-full c = omega (arith, inside (c .before .before .before .before .before .before .before))
+add-find-byte : tie.Need-add-find-byte
+add-find-byte c = omega (arith, inside (c .before .before .before .before .before .before .before))
 
-first-full-requires-2 : tie.Need-first-full-requires-2
-first-full-requires-2 c κs = search needs
+find-byte-requires-2 : tie.Need-find-byte-requires-2
+find-byte-requires-2 c κs =
+    (omega (arith, inside (c .before .before .before .before .before .before .before)), omega arith)
 
-refused-requires-2 : tie.Need-refused-requires-2
-refused-requires-2 c κs = search needs
+refuse-file-requires-2 : tie.Need-refuse-file-requires-2
+refuse-file-requires-2 c κs = search needs
 
 ended-requires-2 : tie.Need-ended-requires-2
 ended-requires-2 c κs = search needs
@@ -92,10 +100,10 @@ returns-3 c =
     let a = s .args in
     λ call nx d.
     step-ended (a .primary .now) call (a .k) (a .job) (a .e) nx _ (c .ended2 .result) (a .out .now)
-    (c .ended2 .ensures ∙ ap (endedJob (a .k)) (c .before .refused2 .ensures))
+    (c .ended2 .ensures ∙ ap (endedJob (a .k)) (c .before .refuse-file2 .ensures))
     (searching-last (a .primary .now) call (a .k) (a .job) (a .e) nx (a .out .now) (searching s call nx d)
-    (f .first-full .result) (f .first-full .ensures) (g .if1 .left) (over l) (z .first-full2 .result) (z .first-full2 .ensures)
-    (t .if3 .taken))
+    (f .find-byte .result) (f .find-byte .ensures) (g .if1 .left) (over l) (z .find-byte2 .result)
+    (z .find-byte2 .ensures) (t .if3 .taken))
 
 open-requires : tie.Need-open-requires
 open-requires c κs =
@@ -108,9 +116,9 @@ open-requires c κs =
     let a = s .args in
     let p = s .pre .0 in (
       p .0,
-      searching-none (a .primary .now) (p .0) (a .k) (a .job) (a .e) (p .1) (a .out .now) (searching s (p .0) (p .1) (p .2))
-          (f .first-full .result) (f .first-full .ensures) (g .if1 .left) (over l) (z .first-full2 .result) (z .first-full2 .ensures)
-          (t .if3 .left),
+      searching-none (a .primary .now) (p .0) (a .k) (a .job) (a .e) (p .1) (a .out .now)
+          (searching s (p .0) (p .1) (p .2)) (f .find-byte .result) (f .find-byte .ensures) (g .if1 .left) (over l)
+          (z .find-byte2 .result) (z .find-byte2 .ensures) (t .if3 .left),
     )
 
 same-length : tie.Need-same-length
@@ -130,23 +138,23 @@ returns-4 c =
     step-later (a .primary .now) call (a .k) (a .job) (a .e) nx (y .open .result) _ Search (s .pre .1)
     (y .open .ensures call
     (searching-none (a .primary .now) call (a .k) (a .job) (a .e) nx (a .out .now) (searching s call nx d)
-    (f .first-full .result) (f .first-full .ensures) (g .if1 .left) (over l) (z .first-full2 .result) (z .first-full2 .ensures)
-    (t .if3 .left)))
+    (f .find-byte .result) (f .find-byte .ensures) (g .if1 .left) (over l) (z .find-byte2 .result)
+    (z .find-byte2 .ensures) (t .if3 .left)))
 
 pub search-next-spec : {M : Type 1} → statement M
 search-next-spec =
     tie.close
     (tie.spec
-    first-full-requires
-    refused-requires
+    find-byte-requires
+    refuse-file-requires
     ended-requires
     returns
     add-onward
     onward-requires
     returns-2
-    add-first-full
-    first-full-requires-2
-    refused-requires-2
+    add-find-byte
+    find-byte-requires-2
+    refuse-file-requires-2
     ended-requires-2
     returns-3
     open-requires

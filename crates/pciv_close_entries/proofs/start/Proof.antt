@@ -1,5 +1,5 @@
 -- Proves pciv_close_entries::start: refusal 3, a call without entries, or the pass Check.
-use mathlib.Core.Path.{_≡_, refl, ap, _∙_}
+use mathlib.Core.Path.{refl, ap, _∙_}
 use native.Mathlib.Omega.{arith}
 use Rattle.pciv_close_entries.specs.Passes.{endedJob}
 use Rattle.pciv_close_entries.proofs.PassesLaws.{start-many, start-empty, start-check}
@@ -8,8 +8,8 @@ use borrow.Author.Needs.{needs}
 use Rattle.pciv_close_entries.proofs.start.Statement.{statement}
 use Rattle.pciv_close_entries.proofs.start.Tie as tie
 
-refused-requires : tie.Need-refused-requires
-refused-requires c κs = search needs
+refuse-file-requires : tie.Need-refuse-file-requires
+refuse-file-requires c κs = search needs
 
 ended-requires : tie.Need-ended-requires
 ended-requires c κs = search needs
@@ -19,7 +19,7 @@ returns c =
     let a = c .before .before .before .before .before .args in
     λ call count is.
     doing-ended (a .primary .now) call (a .k) _ (c .ended .result) (a .out .now) count
-    (c .ended .ensures ∙ ap (endedJob (a .k)) (c .before .refused .ensures))
+    (c .ended .ensures ∙ ap (endedJob (a .k)) (c .before .refuse-file .ensures))
     (start-many (a .primary .now) call (a .out .now) (omega arith) is)
 
 slice-aggregate-close : tie.Need-slice-aggregate-close
@@ -44,10 +44,11 @@ returns-2 c =
     let a = t .before .before .before .before .args in
     λ call count is.
     doing-ended (a .primary .now) call (a .k) _ (c .ended2 .result) _ count (c .ended2 .ensures)
-    (start-empty (a .primary .now) call _ (a .out .now) _ (count ∙ t .if2 .taken) is (y .close .ensures .0) (y .close .ensures .1))
+    (start-empty (a .primary .now) call _ (a .out .now) _ (count ∙ t .if2 .taken) is (y .close .ensures .0)
+    (y .close .ensures .1))
 
-refused-requires-2 : tie.Need-refused-requires-2
-refused-requires-2 c κs = search needs
+refuse-file-requires-2 : tie.Need-refuse-file-requires-2
+refuse-file-requires-2 c κs = search needs
 
 returns-3 : tie.Need-returns-3
 returns-3 c =
@@ -60,7 +61,7 @@ pub start-spec : {M : Type 1} → statement M
 start-spec =
     tie.close
     (tie.spec
-    refused-requires
+    refuse-file-requires
     ended-requires
     returns
     slice-aggregate-close
@@ -69,5 +70,5 @@ start-spec =
     ended-requires-2
     same-length
     returns-2
-    refused-requires-2
+    refuse-file-requires-2
     returns-3)

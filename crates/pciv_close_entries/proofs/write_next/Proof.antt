@@ -1,5 +1,5 @@
 -- Proves pciv_close_entries::write_next: one more entry is written, and the index after the last.
-use mathlib.Core.Path.{_≡_, refl, sym, ap, _∙_}
+use mathlib.Core.Path.{ap, _∙_}
 use Prim.Native.Nat.{_+_, _*_, _≤_}
 use native.Mathlib.Omega.{arith}
 use lib.ListN.{length}
@@ -7,7 +7,8 @@ use Rattle.pciv_bytes.specs.LittleEndian.{Bytes}
 use Rattle.pciv_close_entries.specs.Passes.{Call, endedJob, Writing, Doing, Next}
 use Rattle.pciv_close_entries.specs.declared.Job.{Job}
 use Rattle.pciv_close_entries.specs.declared.Pass.the-variants.{Write}
-use Rattle.pciv_close_entries.proofs.PassesLaws.{writing-few, writing-fits, writing-space, writing-more, writing-end}
+use Rattle.pciv_close_entries.proofs.PassesLaws.{writing-few, writing-fits, writing-space}
+use Rattle.pciv_close_entries.proofs.PassesLaws.{writing-more, writing-end}
 use Rattle.pciv_close_entries.proofs.StepLaws.{writing-of, step-ended, step-onward}
 use borrow.Author.Needs.{needs}
 use Rattle.pciv_close_entries.proofs.write_next.Statement.{statement}
@@ -29,7 +30,8 @@ space c =
     let s = c .before .before in
     let a = s .args in
     let p = s .pre .0 in
-    writing-space (a .primary .now) (p .0) (a .k) (a .job) (a .e) (p .1) (bytes c) (a .out .now) (writing s (p .0) (p .1) (p .2))
+    writing-space (a .primary .now) (p .0) (a .k) (a .job) (a .e) (p .1) (bytes c) (a .out .now)
+    (writing s (p .0) (p .1) (p .2))
 
 add-put-entry : tie.Need-add-put-entry
 add-put-entry c = search needs
@@ -57,8 +59,8 @@ returns c =
     let s = p .before .before in
     let a = s .args in
     λ call nx d.
-    step-onward (a .primary .now) call (a .k) (a .job) (a .e) nx 0 (o .onward .result) _ Write (s .pre .1) (o .onward .ensures)
-    (c .if1 .taken)
+    step-onward (a .primary .now) call (a .k) (a .job) (a .e) nx 0 (o .onward .result) _ Write (s .pre .1)
+    (o .onward .ensures) (c .if1 .taken)
     (writing-more (a .primary .now) call (a .k) (a .job) (a .e) nx (bytes p) (a .out .now) (writing s call nx d) _
     (y .put-entry .ensures .1))
 

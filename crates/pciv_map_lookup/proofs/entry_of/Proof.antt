@@ -7,13 +7,15 @@ use lib.ListN.{length}
 use borrow.Author.Needs.{needs}
 use Rattle.pciv_format.specs.Check.{fileParts}
 use Rattle.pciv_map_lookup.specs.Lookup.{entriesBelow, blockStart, blockEnd}
+use Rattle.pciv_format.proofs.CheckLaws.{checked-length}
 use Rattle.pciv_map_lookup.proofs.SearchLaws.{Between, between-same, lowerBound-le}
-use Rattle.pciv_map_lookup.proofs.LookupLaws.{checked-fits, index-table, index-block, entries-table, entriesBelow-part, entriesBelow-past}
+use Rattle.pciv_map_lookup.proofs.LookupLaws.{index-table, index-block, entries-table}
+use Rattle.pciv_map_lookup.proofs.LookupLaws.{entriesBelow-part, entriesBelow-past}
 use Rattle.pciv_map_lookup.proofs.entry_of.Statement.{statement}
 use Rattle.pciv_map_lookup.proofs.entry_of.Tie as tie
 
 long : (c : tie.Start) → 40 + c .args .n + 12 * c .args .k ≤ length (c .args .file .now)
-long c = omega (arith, checked-fits _ _ _ (c .pre))
+long c = omega (arith, checked-length _ _ _ (c .pre))
 
 -- the slot is a key
 small : (c : tie.Else1) → c .before .before .args .slot < 2 ^ 63

@@ -1,17 +1,16 @@
 -- Proves pciv_mask_apply::bits_into: the header and the primary bytes are the file, as the map has no overflow entry.
-use mathlib.Core.Path.{_≡_, sym, ap, _∙_}
+use mathlib.Core.Path.{_≡_, refl, sym, ap, _∙_}
 use Prim.Native.Nat.{ℕ, _+_, _*_, _<_}
 use native.Mathlib.Omega.{arith}
 use lib.ListN.{length}
 use lib.Seq.{sets}
-use Rattle.pciv_bytes.proofs.SumLaws.{flag-le}
+use Rattle.pciv_bytes.proofs.RangesLaws.{flag-le}
 use Rattle.pciv_format.specs.Layout.{overflowCount}
-use Rattle.pciv_format.specs.Refusals.{done, refused, fileAnswer}
+use Rattle.pciv_format.specs.Refusals.{Outcome}
 use Rattle.pciv_format.specs.Write.{fileInto}
 use Rattle.pciv_format.specs.Mask.{maskHas, maskValue}
-use Rattle.pciv_format.proofs.RefusalsLaws.{fileAnswer-done, fileAnswer-refused}
-use Rattle.pciv_build.specs.Build.{beginOutcome}
-use Rattle.pciv_build.proofs.BuildLaws.{begun, begin-is, built-done, built-refused}
+use Rattle.pciv_format.specs.declared.Summary.{Summary}
+use Rattle.pciv_build.proofs.ChainLaws.{Opened, opened-refused, opened-space, opened-done}
 use Rattle.pciv_mask_bytes.proofs.RowLaws.{primary-bits, count-none, part-none, index-none}
 use borrow.Author.Needs.{needs}
 use Rattle.pciv_mask_apply.proofs.bits_into.Statement.{statement}
@@ -29,19 +28,21 @@ low s i = omega (arith, flag-le (maskHas (s .args .words .now) i))
 count : (s : tie.Start) → 0 ≡ overflowCount (s .args .n) (v s)
 count s = count-none (s .args .n) (v s) (low s)
 
-into : (s : tie.Start) → fileInto (s .args .n) (v s) (length (s .args .out .now)) ≡ beginOutcome (s .args .n) 0 (length (s .args .out .now))
-into s = sym (begin-is (s .args .n) 0 (v s) (count s) (length (s .args .out .now)))
+abbrev into : tie.Start → Outcome Summary
+into s = fileInto (s .args .n) (v s) (length (s .args .out .now))
 
--- what `begin` answered
-is-refused : (c : tie.After-begun)
-    → (let s = entry (c .before .before .before .before) in
-    beginOutcome (s .args .n) 0 (length (s .args .out .now)) ≡ refused (c .begun .given .0 .0))
-is-refused c = fileAnswer-refused _ _ (sym (c .begun .given .1) ∙ c .before .before .before .before .begin .ensures .0)
-
-is-done : (c : tie.After-begun2)
-    → (let s = entry (c .before .before .before .before) in
-    beginOutcome (s .args .n) 0 (length (s .args .out .now)) ≡ done (c .begun2 .given .0 .0))
-is-done c = fileAnswer-done _ _ (sym (c .begun2 .given .1) ∙ c .before .before .before .before .begin .ensures .0)
+opened : (b : tie.After-begin)
+    → (let s = entry b in Opened (s .args .n) 0 (v s) (into s) (s .args .out .now) (b .begin .result)
+    (b .begin .last .0))
+opened b =
+    let s = entry b in
+    record {
+      few = s .pre .0;
+      count = count s;
+      into = refl;
+      answer = b .begin .ensures .0;
+      buffer = b .begin .ensures .1;
+    }
 
 begin-requires : tie.Need-begin-requires
 begin-requires c κs = search needs
@@ -56,9 +57,7 @@ put-bits-requires : tie.Need-put-bits-requires
 put-bits-requires c κs =
     let k = c .before .before in
     let b = k .before .before .before .before in
-    let s = entry b in
-    let space = begun (s .args .n) 0 (s .args .out .now) _ (is-done k) .entries in
-    (omega (arith, s .pre .1 .count), omega (arith, b .begin .kept .0, space))
+    (omega (arith, entry b .pre .1 .count), omega (arith, opened-space (opened b) _ (k .begun2 .given .1)))
 
 same-length : tie.Need-same-length
 same-length c = search needs
@@ -66,16 +65,12 @@ same-length c = search needs
 returns : tie.Need-returns
 returns c =
     let k = c .before in
-    let b = k .before .before .before .before in
-    let s = entry b in
-    let o = is-refused k in (
-      ap fileAnswer (sym (into s ∙ o)),
-      built-refused (s .args .n) 0 (v s) (count s) (s .pre .0) _ _ _ o (b .begin .ensures .1),
-    )
+    opened-refused (opened (k .before .before .before .before)) _ (k .begun .given .1)
 
 same-length-2 : tie.Need-same-length-2
 same-length-2 c = search needs
 
+-- no entry and no index is to be written
 returns-2 : tie.Need-returns-2
 returns-2 c =
     let p = c .before .before in
@@ -84,13 +79,9 @@ returns-2 c =
     let s = entry b in
     let n = s .args .n in
     let d = p .put-bits .last .0 in
-    let o = is-done k in (
-      ap fileAnswer (sym (into s ∙ o)),
-      built-done n 0 (v s) (count s) (s .pre .0) _ _ _ d d _ o (b .begin .ensures .1)
-          (p .put-bits .ensures ∙ ap (sets _ 40) (primary-bits n (s .args .words .now)))
-          (sym (ap (sets d (40 + n)) (part-none n (v s) (low s))))
-          (sym (ap (sets d (40 + n + 12 * 0)) (index-none d n))),
-    )
+    opened-done (opened b) _ (k .begun2 .given .1) d
+    (p .put-bits .ensures ∙ ap (sets _ 40) (primary-bits n (s .args .words .now)))
+    d (sym (ap (sets d (40 + n)) (part-none n (v s) (low s)))) d (sym (ap (sets d (40 + n + 12 * 0)) (index-none d n)))
 
 pub bits-into-spec : {M : Type 1} → statement M
 bits-into-spec =

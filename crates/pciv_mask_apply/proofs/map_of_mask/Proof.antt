@@ -21,21 +21,27 @@ bad c = not-false _ (sym (c .before .is-mask .ensures) ∙ not-true _ (c .if2 .t
 good : (c : tie.Else2) → (let a = entry (c .before .before) .args in badMask (a .n) (a .words .now) ≡ false)
 good c = not-true _ (sym (c .before .is-mask .ensures) ∙ not-false _ (c .if2 .left))
 
+refuse-file-requires : tie.Need-refuse-file-requires
+refuse-file-requires c κs = search needs
+
 returns : tie.Need-returns
 returns c =
-    let a = c .before .before .before .args in
-    let o = map-many (a .n) (a .words .now) (length (a .out .now)) (c .if1 .taken) in
-    (ap fileAnswer (sym o), sym (map-refused (a .n) (a .words .now) (a .out .now) _ o))
+    let a = c .before .before .before .before .args in
+    let o = map-many (a .n) (a .words .now) (length (a .out .now)) (c .before .if1 .taken) in
+    (c .refuse-file .ensures ∙ ap fileAnswer (sym o), sym (map-refused (a .n) (a .words .now) (a .out .now) _ o))
 
 is-mask-requires : tie.Need-is-mask-requires
 is-mask-requires c κs = search needs
 
+refuse-file-requires-2 : tie.Need-refuse-file-requires-2
+refuse-file-requires-2 c κs = search needs
+
 returns-2 : tie.Need-returns-2
 returns-2 c =
-    let e = c .before .before in
+    let e = c .before .before .before in
     let a = entry e .args in
-    let o = map-bad (a .n) (a .words .now) (length (a .out .now)) (e .if1 .left) (bad c) in
-    (ap fileAnswer (sym o), sym (map-refused (a .n) (a .words .now) (a .out .now) _ o))
+    let o = map-bad (a .n) (a .words .now) (length (a .out .now)) (e .if1 .left) (bad (c .before)) in
+    (c .refuse-file2 .ensures ∙ ap fileAnswer (sym o), sym (map-refused (a .n) (a .words .now) (a .out .now) _ o))
 
 bits-into-requires : tie.Need-bits-into-requires
 bits-into-requires c κs =
@@ -58,4 +64,6 @@ returns-3 c =
     )
 
 pub map-of-mask-spec : {M : Type 1} → statement M
-map-of-mask-spec = tie.close (tie.spec returns is-mask-requires returns-2 bits-into-requires same-length returns-3)
+map-of-mask-spec =
+    tie.close (tie.spec refuse-file-requires returns is-mask-requires refuse-file-requires-2 returns-2
+    bits-into-requires same-length returns-3)

@@ -6,7 +6,7 @@ use native.Mathlib.Omega.{arith}
 use lib.ListN.{length}
 use Rattle.pciv_bytes.specs.Ranges.{sumFrom}
 use Rattle.pciv_format.proofs.MapLaws.{primaryOf, primary-inside, primary-length}
-use Rattle.pciv_mask_bytes.specs.Masked.{raisedAt}
+use Rattle.pciv_mask_increment.specs.Raised.{raisedAt}
 use Rattle.pciv_mask_increment.proofs.RaisedLaws.{raised-le, raised-count}
 use borrow.Author.Needs.{needs}
 use Rattle.pciv_mask_increment.proofs.count_incremented.Statement.{statement}
@@ -17,7 +17,8 @@ start c = c .before .before .before .before
 
 found : (c : tie.After-count-raised)
     → (let a = start c .args in
-    c .count-raised .result ≡ sumFrom (raisedAt (primaryOf (a .file .now) (a .n)) (a .words .now)) 0 (64 * length (a .words .now)))
+    let ws = a .words .now in
+    c .count-raised .result ≡ sumFrom (raisedAt (primaryOf (a .file .now) (a .n)) ws) 0 (64 * length ws))
 found c = rw (add-sub-cancel-left 40 (start c .args .n)) at (c .count-raised .ensures)
 
 add-end : tie.Need-add-end
@@ -39,7 +40,8 @@ count-raised-requires c κs =
     let s = c .before .before .before in
     let a = s .args in
     let long = primary-length (a .file .now) (a .n) (a .k) (s .pre .0) in
-    (rw (add-sub-cancel-left 40 (a .n), long) (s .pre .1), rw (add-sub-cancel-left 40 (a .n), long) (s .pre .0 .header .small))
+    let part = add-sub-cancel-left 40 (a .n) in
+    (rw (part, long) (s .pre .1), rw (part, long) (s .pre .0 .header .small))
 
 add-result : tie.Need-add-result
 add-result c =
@@ -60,7 +62,8 @@ returns c =
     let s = known .before in
     let a = s .args in
     ap (λ (x : ℕ). a .k + x) (found c)
-    ∙ raised-count (a .file .now) (a .n) (a .k) (s .pre .0) (λ i. known .shared-slice-known .given i .fits) (a .words .now) (s .pre .1)
+    ∙ raised-count (a .file .now) (a .n) (a .k) (s .pre .0) (λ i. known .shared-slice-known .given i .fits)
+    (a .words .now) (s .pre .1)
 
 pub count-incremented-spec : {M : Type 1} → statement M
 count-incremented-spec =

@@ -1,5 +1,5 @@
--- Proves pciv_mask_increment::count_raised. Invariant: count and the set slots with byte 254 in the words from w on make the whole. Falls:
--- the number of words that are left.
+-- Proves pciv_mask_increment::count_raised. Invariant: count and the set slots with byte 254 in the words from w on
+-- make the whole. Falls: the number of words that are left.
 use mathlib.Core.Path.{_≡_, sym, ap, _∙_}
 use Prim.Native.Nat.{ℕ, _+_, _-_, _*_, _≤_}
 use native.Mathlib.Nat.{sub-zero}
@@ -7,8 +7,8 @@ use native.Mathlib.Omega.{arith}
 use lib.ListN.{length}
 use Rattle.pciv_bytes.specs.Ranges.{sumFrom}
 use Rattle.pciv_bytes.proofs.SumLaws.{Added, added-none, added-part, added-all}
-use Rattle.pciv_mask_bytes.specs.Masked.{raisedAt}
-use Rattle.pciv_mask_bytes.proofs.SetBitLaws.{below-mask}
+use Rattle.pciv_mask_increment.specs.Raised.{raisedAt}
+use Rattle.pciv_mask_increment.proofs.PickedLaws.{below-mask}
 use Rattle.pciv_mask_increment.proofs.RaisedLaws.{raised-le, word-raised}
 use borrow.Author.Needs.{needs}
 use Rattle.pciv_mask_increment.proofs.count_raised.Statement.{statement}
@@ -17,7 +17,8 @@ use Rattle.pciv_mask_increment.proofs.count_raised.Tie as tie
 abbrev Inv-loop : tie.InvT-loop
 Inv-loop bytes words count₀ w₀ count w =
     (w ≤ length words)
-    × Added (raisedAt bytes words) (64 * length words) (sumFrom (raisedAt bytes words) 0 (64 * length words - 0)) (64 * w) count
+    × (let all = 64 * length words in
+    Added (raisedAt bytes words) all (sumFrom (raisedAt bytes words) 0 (all - 0)) (64 * w) count)
 
 abbrev μ-loop : tie.MeasureT-loop
 μ-loop bytes words count₀ w₀ count w = length words - w
@@ -55,7 +56,8 @@ count-word-requires c κs =
     let s = start d in
     let a = s .args in (
       omega (arith, d .loop-test .taken, s .pre .0 .count),
-      below-mask (length (a .bytes .now)) (a .words .now) (λ w. d .before .before .shared-slice-known2 .given w .fits) (s .pre .0) (d .before .loop .w),
+      below-mask (length (a .bytes .now)) (a .words .now) (λ w. d .before .before .shared-slice-known2 .given w .fits)
+          (s .pre .0) (d .before .loop .w),
     )
 
 add-count : tie.Need-add-count Inv-loop μ-loop

@@ -2,13 +2,14 @@
 use mathlib.Core.Path.{sym, ap, _∙_}
 use Prim.Native.Nat.{ℕ, _+_, _-_}
 use native.Mathlib.Omega.{arith}
+use mathlib.Core.Bool.{Bool}
 use lib.ListN.{getD}
 use lib.Dec.{eqb}
 use borrow.Author.Tests.{not-true}
 use Rattle.pciv_bytes.specs.Ranges.{flag}
 use Rattle.pciv_bytes.specs.ByteAt.{byteIs}
 use Rattle.pciv_bytes.proofs.AnyLaws.{anyFrom-none}
-use Rattle.pciv_mask_bytes.proofs.SetBitLaws.{picked-zero}
+use Rattle.pciv_mask_increment.proofs.PickedLaws.{picked-zero}
 use borrow.Author.Needs.{needs}
 use Rattle.pciv_mask_increment.proofs.count_word.Statement.{statement}
 use Rattle.pciv_mask_increment.proofs.count_word.Tie as tie
@@ -26,11 +27,11 @@ returns : tie.Need-returns
 returns c =
     let f = c .before in
     let a = f .before .before .before .args in
+    let is254 : ℕ → Bool = λ i. eqb (getD (a .bytes .now) i 0) 254 in
     let none = sym (f .any-byte .ensures) ∙ not-true _ (c .if2 .taken) in
     sym
     (picked-zero (byteIs (a .bytes .now) 254) 64 (a .from) (a .word)
-    (λ j h₁ h₂.
-    ap flag (anyFrom-none (λ (i : ℕ). eqb (getD (a .bytes .now) i 0) 254) (a .from + 64 - a .from) (a .from) none j h₁ (omega arith))))
+    (λ j h₁ h₂. ap flag (anyFrom-none is254 (a .from + 64 - a .from) (a .from) none j h₁ (omega arith))))
 
 count-set-requires : tie.Need-count-set-requires
 count-set-requires c κs = c .before .before .pre .1

@@ -1,16 +1,17 @@
--- Proves pciv_mask_increment::first_too_large. Invariant: no slot below the least that entry j may have is too large. Falls: k - j.
+-- Proves pciv_mask_increment::first_too_large. Invariant: no slot below the least that entry j may have is too large.
+-- Falls: k - j.
 use mathlib.Core.Path.{_≡_, ap, _∙_}
 use Prim.Native.Nat.{_+_, _-_, _*_, _^_, _≤_, _<_}
 use native.Mathlib.Omega.{arith}
 use Rattle.pciv_bytes.specs.LittleEndian.{Bytes}
 use Rattle.pciv_bytes.proofs.LittleEndianLaws.{get-lt}
-use Rattle.pciv_bytes.proofs.SumLaws.{flag-le}
+use Rattle.pciv_bytes.proofs.RangesLaws.{flag-le}
 use Rattle.pciv_format.specs.Parts.{Parts}
 use Rattle.pciv_format.specs.Check.{fileParts}
 use Rattle.pciv_format.specs.Mask.{maskHas, maskValue}
 use Rattle.pciv_format.proofs.PartsLaws.{entry-good}
 use Rattle.pciv_format.proofs.MapLaws.{entry-inside}
-use Rattle.pciv_mask_bytes.proofs.ByteLaws.{mask-covers}
+use Rattle.pciv_format.proofs.MaskLaws.{mask-covers}
 use Rattle.pciv_mask_increment.proofs.RaisedLaws.{FineTo, fine-start, fine-more, fine-found, fine-all}
 use borrow.Author.Needs.{needs}
 use Rattle.pciv_mask_increment.proofs.first_too_large.Statement.{statement}
@@ -36,7 +37,8 @@ distance : (c : tie.After-entry-distance Inv-loop μ-loop) → c .entry-distance
 distance c =
     let w = c .before .before in
     let a = start w .args in
-    omega (arith, c .entry-distance .ensures, get-lt 4 (a .file .now) (40 + a .n + 12 * w .before .loop .j + 8) (bytes w))
+    let small = get-lt 4 (a .file .now) (40 + a .n + 12 * w .before .loop .j + 8) (bytes w) in
+    omega (arith, c .entry-distance .ensures, small)
 
 bit : (c : tie.After-bit-of Inv-loop μ-loop)
     → (let w = c .before .before .before in
@@ -89,8 +91,8 @@ returns c =
     let s = start w in
     let l = w .before .loop in
     e .entry-slot .ensures
-    ∙ fine-found (parts s) (s .pre .0 .parts) (λ i. bytes w (40 + i)) (s .args .words .now) (w .loop-test .taken) (l .inv .1)
-    (omega (arith, c .if1 .taken, bit b, x .entry-distance .ensures, distance x))
+    ∙ fine-found (parts s) (s .pre .0 .parts) (λ i. bytes w (40 + i)) (s .args .words .now)
+    (w .loop-test .taken) (l .inv .1) (omega (arith, c .if1 .taken, bit b, x .entry-distance .ensures, distance x))
 
 loop-less : tie.Need-loop-less Inv-loop μ-loop
 loop-less c = search needs
@@ -103,7 +105,8 @@ loop-again c =
     let s = start w in
     let l = w .before .loop in (
       omega arith,
-      fine-more (parts s) (s .pre .0 .parts) (λ i. bytes w (40 + i)) (s .args .words .now) (w .loop-test .taken) (l .inv .1)
+      fine-more (parts s) (s .pre .0 .parts) (λ i. bytes w (40 + i)) (s .args .words .now)
+          (w .loop-test .taken) (l .inv .1)
           (omega (arith, c .if1 .left, bit b, x .entry-distance .ensures, distance x)),
     )
 
@@ -112,8 +115,8 @@ returns-2 c =
     let l = c .before .loop in
     let known = c .before .before .before in
     let s = known .before in
-    fine-all (parts s) (s .pre .0 .parts) (λ i. known .shared-slice-known .given (40 + i) .fits) (s .args .words .now) (l .j) (l .inv .0)
-    (c .loop-test .left) (l .inv .1)
+    fine-all (parts s) (s .pre .0 .parts) (λ i. known .shared-slice-known .given (40 + i) .fits) (s .args .words .now)
+    (l .j) (l .inv .0) (c .loop-test .left) (l .inv .1)
 
 pub first-too-large-spec : {M : Type 1} → statement M
 first-too-large-spec =

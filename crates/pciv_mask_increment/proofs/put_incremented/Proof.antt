@@ -4,15 +4,15 @@ use Prim.Native.Nat.{ℕ, _+_, _-_, _*_, _≤_, _<_}
 use native.Mathlib.Omega.{arith}
 use lib.ListN.{length}
 use Rattle.pciv_bytes.specs.LittleEndian.{get}
-use Rattle.pciv_bytes.proofs.SumLaws.{flag-le}
+use Rattle.pciv_bytes.proofs.RangesLaws.{flag-le}
 use Rattle.pciv_format.specs.Layout.{overflowCount}
 use Rattle.pciv_format.specs.Parts.{Parts}
 use Rattle.pciv_format.specs.Check.{fileParts}
 use Rattle.pciv_format.specs.Mask.{maskHas}
 use Rattle.pciv_build.proofs.FillLaws.{same-count, fill-start, fill-over, fill-end}
-use Rattle.pciv_mask_bytes.specs.Masked.{maskedAt}
-use Rattle.pciv_mask_bytes.specs.declared.primary.MaskedOp.the-variants.{Increment}
-use Rattle.pciv_mask_bytes.proofs.ByteLaws.{mask-covers}
+use Rattle.pciv_mask_primary.specs.Masked.{maskedDistance}
+use Rattle.pciv_mask_primary.specs.declared.MaskedOp.the-variants.{Increment}
+use Rattle.pciv_format.proofs.MaskLaws.{mask-covers}
 use Rattle.pciv_mask_increment.proofs.RaisedLaws.{Raising, RaisingAt, raising-start, raising-next, raising-more}
 use borrow.Author.Needs.{needs}
 use Rattle.pciv_mask_increment.proofs.put_incremented.Statement.{statement}
@@ -32,7 +32,7 @@ parts s = fileParts (s .args .file .now) (s .args .n) (s .args .k)
 
 -- the distances of the result
 abbrev v : tie.Start Inv-loop μ-loop → ℕ → ℕ
-v s = maskedAt Increment (parts s) (s .args .words .now)
+v s = maskedDistance Increment (parts s) (s .args .words .now)
 
 bytes : (c : tie.After-shared-slice-known2 Inv-loop μ-loop) → ((i : ℕ) → parts (entry c) .byte i < 256)
 bytes c i = c .before .shared-slice-known .given (40 + i) .fits
@@ -41,14 +41,16 @@ bytes c i = c .before .shared-slice-known .given (40 + i) .fits
 abbrev known : tie.At-loop Inv-loop μ-loop → tie.After-shared-slice-known2 Inv-loop μ-loop
 known c = c .before .before .before .before .before
 
-space : (s : tie.Start Inv-loop μ-loop) → 40 + s .args .n + 12 * overflowCount (s .args .n) (v s) ≤ length (s .args .out .now)
+space : (s : tie.Start Inv-loop μ-loop)
+    → 40 + s .args .n + 12 * overflowCount (s .args .n) (v s) ≤ length (s .args .out .now)
 space s = omega (arith, s .pre .1 .1 .1 .1 .0, s .pre .1 .1 .1 .1 .1)
 
 -- the cursor at the next slot in overflow
 next-at : (c : tie.In-loop Inv-loop μ-loop)
     → (let l = c .before .loop in
     let s = entry (known (c .before)) in
-    (slot : ℕ) → slot ≡ get 8 (l .out) (l .at) → RaisingAt (parts s) (s .args .words .now) (l .inv .from) (l .out) (l .at) (l .j) slot)
+    (slot : ℕ) → slot ≡ get 8 (l .out) (l .at)
+    → RaisingAt (parts s) (s .args .words .now) (l .inv .from) (l .out) (l .at) (l .j) slot)
 next-at c slot is =
     let l = c .before .loop in
     let k = known (c .before) in
@@ -75,7 +77,8 @@ loop-holds c =
     let p = c .before .before in
     let s = entry (p .before .before) in
     raising-start (parts s) (s .args .words .now) _ _
-    (fill-start (s .args .n) (v s) (s .args .out .now) _ (s .pre .1 .1 .1 .0) (space s) (p .put-slots .ensures) (s .pre .0 .header .small))
+    (fill-start (s .args .n) (v s) (s .args .out .now) _ (s .pre .1 .1 .1 .0) (space s) (p .put-slots .ensures)
+    (s .pre .0 .header .small))
 
 -- and at the slot that was read
 here : (c : tie.After-get64 Inv-loop μ-loop)

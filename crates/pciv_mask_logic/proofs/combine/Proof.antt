@@ -49,7 +49,9 @@ enum-told-2 : tie.Need-enum-told-2
 enum-told-2 c = search needs
 
 zip-words-requires : tie.Need-zip-words-requires
-zip-words-requires c κs = combine-fits _ _ _ _ (entry (c .before .before .before) .args .out .now) _ (is-done (c .before))
+zip-words-requires c κs =
+    let s = entry (c .before .before .before) in
+    combine-fits _ _ _ _ (s .args .out .now) _ (is-done (c .before))
 
 returns : tie.Need-returns
 returns c = (answers (c .before .before), sym (combine-refused _ _ _ _ _ _ (is-refused c)))

@@ -7,7 +7,8 @@ use Rattle.pciv_format.specs.Refusals.{done, refused, numberAnswer}
 use Rattle.pciv_format.specs.Read.{itemsInto}
 use Rattle.pciv_format.specs.Mask.{maskLen, refuseMasks, complementOutcome}
 use Rattle.pciv_format.proofs.RefusalsLaws.{numberAnswer-number, numberAnswer-refused}
-use Rattle.pciv_mask_logic.proofs.LogicOutcomeLaws.{complement-is, complement-refused, complement-fits, complement-written}
+use Rattle.pciv_mask_logic.proofs.LogicOutcomeLaws.{complement-is, complement-refused}
+use Rattle.pciv_mask_logic.proofs.LogicOutcomeLaws.{complement-fits, complement-written}
 use Rattle.pciv_mask_logic.proofs.complement.Statement.{statement}
 use Rattle.pciv_mask_logic.proofs.complement.Tie as tie
 
@@ -46,7 +47,9 @@ enum-told-2 : tie.Need-enum-told-2
 enum-told-2 c = search needs
 
 flip-words-requires : tie.Need-flip-words-requires
-flip-words-requires c κs = complement-fits _ _ (entry (c .before .before .before) .args .out .now) _ (is-done (c .before))
+flip-words-requires c κs =
+    let s = entry (c .before .before .before) in
+    complement-fits _ _ (s .args .out .now) _ (is-done (c .before))
 
 returns : tie.Need-returns
 returns c = (answers (c .before .before), sym (complement-refused _ _ _ _ (is-refused c)))

@@ -1,4 +1,5 @@
--- Proves pciv_mask_logic::count_bits. Invariant: `Added`, the bits of i words are counted, at most 64 for each. Falls: length words - i.
+-- Proves pciv_mask_logic::count_bits. Invariant: `Added`, the bits of i words are counted, at most 64 for each. Falls:
+-- length words - i.
 use mathlib.Core.Path.{_≡_, _∙_}
 use Prim.Native.Nat.{ℕ, _+_, _-_, _*_, _≤_}
 use native.Mathlib.Nat.{sub-zero}

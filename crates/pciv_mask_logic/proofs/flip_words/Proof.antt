@@ -4,7 +4,7 @@ use mathlib.Core.Path.{_≡_, refl}
 use native.Mathlib.Omega.{arith}
 use borrow.Author.Needs.{needs}
 use Rattle.pciv_format.specs.Mask.{maskLen}
-use Rattle.pciv_bytes.proofs.TableLaws.{Left, left-start, left-more, left-end}
+use Rattle.pciv_bytes.proofs.WriteLaws.{Left, left-start, left-more, left-end}
 use Rattle.pciv_mask_logic.specs.Logic.{flipAt}
 use Rattle.pciv_mask_logic.proofs.LogicLaws.{flip-full, flip-last, one-bit-pos}
 use Rattle.pciv_mask_logic.proofs.flip_words.Statement.{statement}

@@ -2,7 +2,7 @@
 use Prim.Native.Nat.{_-_}
 use lib.ListN.{length}
 use borrow.Author.Needs.{needs}
-use Rattle.pciv_bytes.proofs.TableLaws.{Left, left-start, left-more, left-end}
+use Rattle.pciv_bytes.proofs.WriteLaws.{Left, left-start, left-more, left-end}
 use Rattle.pciv_mask_logic.specs.Logic.{opAt}
 use Rattle.pciv_mask_logic.proofs.zip_words.Statement.{statement}
 use Rattle.pciv_mask_logic.proofs.zip_words.Tie as tie

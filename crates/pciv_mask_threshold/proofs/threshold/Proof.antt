@@ -31,7 +31,8 @@ returns c =
     let a = l .before .before .before .args in
     let limit : ℕ = limitOf (a .comparison) (a .t) in
     let ours : ℕ → Bool = passes limit (isNegated (a .comparison)) in
-    let same = words-cong ours (a .file .now) (a .out .now) (λ y. holds (a .comparison) y (a .t)) (λ y. holds-limit (a .comparison) y (a .t)) in
+    let asked : ℕ → Bool = λ y. holds (a .comparison) y (a .t) in
+    let same = words-cong ours (a .file .now) (a .out .now) asked (λ y. holds-limit (a .comparison) y (a .t)) in
     (x .select .ensures .0, (rw (l .limit-of .ensures, g .is-negated .ensures) at (x .select .ensures .1)) ∙ same)
 
 pub threshold-spec : {M : Type 1} → statement M

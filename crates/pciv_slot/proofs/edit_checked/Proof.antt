@@ -6,14 +6,19 @@ use mathlib.Core.Bool.{false}
 use lib.ListN.{getD}
 use lib.Dec.{eqb}
 use borrow.Author.Tests.{lt-ltb, le-ltb, eq-eqb, ne-eqb}
-use Rattle.pciv_format.specs.Refusals.{fileAnswer}
-use Rattle.pciv_format.specs.Edit.{Edit}
+use Rattle.pciv_bytes.specs.LittleEndian.{Bytes}
+use Rattle.pciv_format.specs.Edit.{Edit, editAnswer}
 use Rattle.pciv_format.proofs.LayoutLaws.{fileLen-is}
 use Rattle.pciv_slot.specs.Change.{EditAt}
-use Rattle.pciv_slot.proofs.CaseLaws.{edit-outside, buffer-refused, entry-inside}
+use Rattle.pciv_format.proofs.LimitLaws.{buffer-refused}
+use Rattle.pciv_format.proofs.EditCaseLaws.{edit-outside}
+use Rattle.pciv_slot.proofs.CaseLaws.{entry-inside}
 use borrow.Author.Needs.{needs}
 use Rattle.pciv_slot.proofs.edit_checked.Statement.{statement}
 use Rattle.pciv_slot.proofs.edit_checked.Tie as tie
+
+bytes : (c : tie.After-slice-known) → Bytes (c .before .args .buffer .now)
+bytes c i = c .slice-known .given i .fits
 
 abbrev the-edit : tie.Start → Edit
 the-edit s = record { slot = s .args .slot; distance = s .args .distance }
@@ -39,9 +44,10 @@ returns c =
     let known = c .before .before in
     let entry = known .before in
     let a = entry .args in
-    let outside =
-    edit-outside (a .buffer .now) (a .n) (a .k) (λ i. known .slice-known .given i .fits) (entry .pre) (the-edit entry) (c .before .if1 .taken) in
-    (c .refused .ensures ∙ ap fileAnswer (sym outside), sym (buffer-refused (a .buffer .now) (the-edit entry) _ outside))
+    let b = a .buffer .now in
+    let is =
+    edit-outside b (a .n) (a .k) (bytes known) (entry .pre) (the-edit entry) (c .before .if1 .taken) in
+    (c .refused .ensures ∙ ap editAnswer (sym is), sym (buffer-refused b (the-edit entry) _ is))
 
 add-byte : tie.Need-add-byte
 add-byte c = search needs
@@ -66,22 +72,23 @@ same-length c = search needs
 returns-2 : tie.Need-returns-2
 returns-2 c = search needs
 
-sub-cross : tie.Need-sub-cross
-sub-cross c =
+sub-move-slot : tie.Need-sub-move-slot
+sub-move-slot c =
     let read = c .before .before .before in
     let known = read .before .before in
     let entry = known .before in
     let a = entry .args in
     omega (
       arith,
-      entry-inside (a .buffer .now) (a .n) (a .k) (λ i. known .slice-known .given i .fits) (the-edit entry) (the-slot read) (marked read (c .before .if3 .left)),
+      entry-inside (a .buffer .now) (a .n) (a .k) (bytes known) (the-edit entry) (the-slot read)
+          (marked read (c .before .if3 .left)),
     )
 
-cross-requires : tie.Need-cross-requires
-cross-requires c κs =
+move-slot-requires : tie.Need-move-slot-requires
+move-slot-requires c κs =
     let read = c .before .before .before in
-    let near = c .before .before .if2 .taken in
-    (the-slot read, (eq-eqb _ 255 (marked read (c .before .if3 .left)) ∙ sym (lt-ltb _ 255 near), rw (lt-ltb _ 255 near)))
+    let inline = lt-ltb _ 255 (c .before .before .if2 .taken) in
+    (the-slot read, (eq-eqb _ 255 (marked read (c .before .if3 .left)) ∙ sym inline, rw inline))
 
 same-length-2 : tie.Need-same-length-2
 same-length-2 c = search needs
@@ -89,14 +96,13 @@ same-length-2 c = search needs
 returns-3 : tie.Need-returns-3
 returns-3 c = search needs
 
-add-cross : tie.Need-add-cross
-add-cross c = search needs
+add-move-slot : tie.Need-add-move-slot
+add-move-slot c = search needs
 
-cross-requires-2 : tie.Need-cross-requires-2
-cross-requires-2 c κs =
-    let overflows = c .before .before .if2 .left in
-    let inline = c .before .if4 .taken in
-    (the-slot (c .before .before .before), (unmarked _ inline ∙ sym (le-ltb _ 255 overflows), rw (le-ltb _ 255 overflows)))
+move-slot-requires-2 : tie.Need-move-slot-requires-2
+move-slot-requires-2 c κs =
+    let overflows = le-ltb _ 255 (c .before .before .if2 .left) in
+    (the-slot (c .before .before .before), (unmarked _ (c .before .if4 .taken) ∙ sym overflows, rw overflows))
 
 same-length-3 : tie.Need-same-length-3
 same-length-3 c = search needs
@@ -128,12 +134,12 @@ edit-checked-spec =
     stay-inline-requires
     same-length
     returns-2
-    sub-cross
-    cross-requires
+    sub-move-slot
+    move-slot-requires
     same-length-2
     returns-3
-    add-cross
-    cross-requires-2
+    add-move-slot
+    move-slot-requires-2
     same-length-3
     returns-4
     stay-in-overflow-requires

@@ -3,14 +3,16 @@ use mathlib.Core.Path.{sym, ap, _∙_}
 use Prim.Native.Nat.{_+_, _*_, _≤_}
 use native.Mathlib.Omega.{arith}
 use lib.ListN.{length}
-use Rattle.pciv_format.specs.Refusals.{done, fileAnswer}
-use Rattle.pciv_format.specs.Edit.{Edit}
-use Rattle.pciv_format.specs.declared.Summary.{Summary}
+use Rattle.pciv_bytes.specs.LittleEndian.{Bytes}
+use Rattle.pciv_format.specs.Edit.{Edit, editAnswer}
 use Rattle.pciv_format.proofs.LayoutLaws.{fileLen-is}
 use Rattle.pciv_slot.proofs.CaseLaws.{entry-inside, stays-overflow}
 use borrow.Author.Needs.{needs}
 use Rattle.pciv_slot.proofs.stay_in_overflow.Statement.{statement}
 use Rattle.pciv_slot.proofs.stay_in_overflow.Tie as tie
+
+bytes : (c : tie.After-slice-known) → Bytes (c .before .args .buffer .now)
+bytes c i = c .slice-known .given i .fits
 
 -- the slot's entry is one of them
 entry-fits : (c : tie.After-entry-of)
@@ -23,7 +25,7 @@ entry-fits c =
     omega (
       arith,
       c .entry-of .ensures,
-      entry-inside (a .buffer .now) (a .n) (a .k) (λ i. known .slice-known .given i .fits) e (entry .pre .0) (entry .pre .1 .0),
+      entry-inside (a .buffer .now) (a .n) (a .k) (bytes known) e (entry .pre .0) (entry .pre .1 .0),
       entry .pre .0 .checked .fits,
       fileLen-is (a .n) (a .k),
     )
@@ -46,8 +48,8 @@ add-put32-3 c = omega (arith, entry-fits (c .before))
 put32-requires : tie.Need-put32-requires
 put32-requires c κs = omega (arith, entry-fits (c .before))
 
-summary-of-requires : tie.Need-summary-of-requires
-summary-of-requires c κs = search needs
+edited-requires : tie.Need-edited-requires
+edited-requires c κs = search needs
 
 same-length : tie.Need-same-length
 same-length c = search needs
@@ -59,10 +61,11 @@ returns c =
     let known = found .before .before in
     let entry = known .before in
     let a = entry .args in
+    let e : Edit = record { slot = a .slot; distance = a .distance } in
     let is =
-    stays-overflow (a .buffer .now) (a .n) (a .k) (λ i. known .slice-known .given i .fits) (record { slot = a .slot; distance = a .distance })
-    (entry .pre .0) (entry .pre .1 .0) (entry .pre .1 .1) (found .entry-of .result) (found .entry-of .ensures) in
-    (ap (λ (s : Summary). fileAnswer (done s)) (c .summary-of .ensures) ∙ ap fileAnswer (sym (is .0)), put .put32 .ensures ∙ sym (is .1))
+    stays-overflow (a .buffer .now) (a .n) (a .k) (bytes known) e (entry .pre .0) (entry .pre .1 .0)
+    (entry .pre .1 .1) (found .entry-of .result) (found .entry-of .ensures) in
+    (c .edited .ensures ∙ ap editAnswer (sym (is .0)), put .put32 .ensures ∙ sym (is .1))
 
 pub stay-in-overflow-spec : {M : Type 1} → statement M
 stay-in-overflow-spec =
@@ -74,6 +77,6 @@ stay-in-overflow-spec =
     add-put32-2
     add-put32-3
     put32-requires
-    summary-of-requires
+    edited-requires
     same-length
     returns)

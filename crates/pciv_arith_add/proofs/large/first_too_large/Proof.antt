@@ -20,7 +20,8 @@ returns c =
     let x = c .before in
     let y = x .before in
     let a = y .before .before .before .args in
-    none-large (a .of) (fileParts (a .a .now) (a .n) (a .ka)) (fileParts (a .b .now) (a .n) (a .kb)) (x .most-in .result)
+    none-large (a .of) (fileParts (a .a .now) (a .n) (a .ka)) (fileParts (a .b .now) (a .n) (a .kb))
+    (x .most-in .result)
     (y .most-added .result) (x .most-in .ensures) (y .most-added .ensures) (c .if1 .taken) (omega arith)
 
 walk-large-requires : tie.Need-walk-large-requires

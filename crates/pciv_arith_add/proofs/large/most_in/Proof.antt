@@ -1,6 +1,5 @@
 -- Proves pciv_arith_add::large::most_in. Invariant: `MostOf`. Falls: k - j.
-use mathlib.Core.Path.{ap, _∙_}
-use Prim.Native.Nat.{_+_, _-_, max}
+use Prim.Native.Nat.{_+_, _-_}
 use native.Mathlib.Omega.{arith}
 use Rattle.pciv_format.specs.Parts.{Parts}
 use Rattle.pciv_format.specs.Check.{fileParts}
@@ -30,9 +29,6 @@ entry-distance-requires c κs =
     let s = c .before .before .before in
     entry-inside (s .args .file .now) (s .args .n) (s .args .k) (s .pre) (c .before .loop .j) (omega arith)
 
-larger-requires : tie.Need-larger-requires Inv-loop μ-loop
-larger-requires c κs = search needs
-
 add-j : tie.Need-add-j Inv-loop μ-loop
 add-j c = search needs
 
@@ -44,15 +40,27 @@ loop-again c =
     let d = c .before in
     let l = d .before .before .loop in
     let s = d .before .before .before .before in
-    most-more (parts s) (l .j) (l .most) (c .larger .result) (l .inv)
-    (c .larger .ensures ∙ ap (max (l .most)) (d .entry-distance .ensures))
+    most-more (parts s) (l .j) (l .most) (d .entry-distance .result) (l .inv)
+    (omega (arith, c .if1 .taken)) (omega (arith, d .entry-distance .ensures))
+
+loop-less-2 : tie.Need-loop-less-2 Inv-loop μ-loop
+loop-less-2 c = search needs
+
+loop-again-2 : tie.Need-loop-again-2 Inv-loop μ-loop
+loop-again-2 c =
+    let d = c .before in
+    let l = d .before .before .loop in
+    let s = d .before .before .before .before in
+    most-more (parts s) (l .j) (l .most) (l .most) (l .inv) (omega arith)
+    (omega (arith, c .if1 .left, d .entry-distance .ensures))
 
 returns : tie.Need-returns Inv-loop μ-loop
 returns c =
     let l = c .before .loop in
     let k = c .before .before in
     let s = k .before in
-    most-all (parts s) (s .pre .parts) (λ i. k .shared-slice-known .given (40 + i) .fits) (l .j) (l .most) (l .inv) (omega arith)
+    most-all (parts s) (s .pre .parts) (λ i. k .shared-slice-known .given (40 + i) .fits) (l .j) (l .most) (l .inv)
+    (omega arith)
 
 pub most-in-spec : {M : Type 1} → statement M
 most-in-spec =
@@ -63,8 +71,9 @@ most-in-spec =
     cast-most
     loop-holds
     entry-distance-requires
-    larger-requires
     add-j
     loop-less
     loop-again
+    loop-less-2
+    loop-again-2
     returns)

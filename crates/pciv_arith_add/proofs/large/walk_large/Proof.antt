@@ -2,7 +2,7 @@
 use Prim.Native.Nat.{_+_, _-_, _≤_}
 use native.Mathlib.Omega.{arith}
 use Rattle.pciv_format.specs.Check.{fileParts}
-use Rattle.pciv_arith_add.proofs.PairOfParts.{Maps, sound}
+use Rattle.pciv_check.proofs.SoundPairLaws.{Maps, sound}
 use Rattle.pciv_arith_add.proofs.LargeLaws.{Walked, walked-start, walked-more, walked-found, walked-none}
 use borrow.Author.Needs.{needs}
 use Rattle.pciv_arith_add.proofs.large.walk_large.Statement.{statement}
@@ -32,7 +32,8 @@ either-slot-requires c κs = c .before .before .pre .0
 loop-holds : tie.Need-loop-holds Inv-loop μ-loop
 loop-holds c =
     let k = c .before in
-    walked-start (sound (maps k)) (entry k .args .of) (entry k .pre .1) (c .either-slot .result) (c .either-slot .ensures)
+    walked-start (sound (maps k)) (entry k .args .of) (entry k .pre .1) (c .either-slot .result)
+    (c .either-slot .ensures)
 
 take-at-requires : tie.Need-take-at-requires Inv-loop μ-loop
 take-at-requires c κs =
@@ -67,7 +68,8 @@ again : (c : tie.After-either-slot2 Inv-loop μ-loop)
     let x = y .before in
     let l = x .before .before .loop in
     let a = entry (x .before .before .before .before) .args in
-    Walked (a .of) (fileParts (a .a .now) (a .n) (a .ka)) (fileParts (a .b .now) (a .n) (a .kb)) (x .take-at .result .next) (y .take-addend .result .next) (c .either-slot2 .result)
+    Walked (a .of) (fileParts (a .a .now) (a .n) (a .ka)) (fileParts (a .b .now) (a .n) (a .kb))
+    (x .take-at .result .next) (y .take-addend .result .next) (c .either-slot2 .result)
     × (l .slot + 1 ≤ c .either-slot2 .result))
 again c =
     let y = c .before .before .before .before in
@@ -79,7 +81,8 @@ again c =
     let ty = y .take-addend .ensures in
     let pair = sound (maps k) in
     walked-more pair (s .args .of) (s .pre .1) _ _ _ _ _ _ (d .before .loop .inv) (d .loop-test .taken)
-    (omega (arith, c .before .if1 .left, tx .is, ty .is, pair .fits-first _ (d .loop-test .taken))) (tx .next) (ty .next) (c .either-slot2 .ensures)
+    (omega (arith, c .before .if1 .left, tx .is, ty .is, pair .fits-first _ (d .loop-test .taken))) (tx .next)
+    (ty .next) (c .either-slot2 .ensures)
 
 loop-less : tie.Need-loop-less Inv-loop μ-loop
 loop-less c = omega (arith, again c .1)

@@ -1,10 +1,8 @@
 -- Proves pciv_arith_add::put::count_added: in each case the results 255 are counted.
-use mathlib.Core.Path.{_≡_, refl, sym, _∙_}
-use Prim.Native.Nat.{_-_}
+use mathlib.Core.Path.{_∙_}
 use native.Mathlib.Nat.{add-sub-cancel-left}
-use native.Mathlib.Omega.{arith}
 use Rattle.pciv_format.proofs.MapLaws.{primary-inside, primary-length}
-use Rattle.pciv_arith_add.proofs.PairOfParts.{Maps}
+use Rattle.pciv_check.proofs.SoundPairLaws.{Maps}
 use Rattle.pciv_arith_add.proofs.PutLaws.{count-map, count-number}
 use borrow.Author.Needs.{needs}
 use Rattle.pciv_arith_add.proofs.put.count_added.Statement.{statement}
@@ -88,7 +86,8 @@ returns : tie.Need-returns
 returns c =
     let d = c .before .before .before in
     let k = d .before .before in
-    rw (d .enum-told .given .1) ((rw (add-sub-cancel-left 40 (k .before .before .args .n)) at (c .count-full .ensures)) ∙ count-map (maps k))
+    rw (d .enum-told .given .1)
+    ((rw (add-sub-cancel-left 40 (k .before .before .args .n)) at (c .count-full .ensures)) ∙ count-map (maps k))
 
 returns-2 : tie.Need-returns-2
 returns-2 c =

@@ -8,14 +8,15 @@ use Rattle.pciv_format.specs.Layout.{overflowCount}
 use Rattle.pciv_format.specs.Check.{fileParts}
 use Rattle.pciv_build.proofs.FillLaws.{same-count, fill-start, fill-over, fill-end}
 use Rattle.pciv_arith_add.specs.Addition.{addedAt}
-use Rattle.pciv_arith_add.proofs.PairOfParts.{Maps, sound}
+use Rattle.pciv_check.proofs.SoundPairLaws.{Maps, sound}
 use Rattle.pciv_arith_add.proofs.PutLaws.{Putting, PutAt, putting-start, putting-next, putting-more}
 use borrow.Author.Needs.{needs}
 use Rattle.pciv_arith_add.proofs.put.put_entries.Statement.{statement}
 use Rattle.pciv_arith_add.proofs.put.put_entries.Tie as tie
 
 abbrev Inv-loop : tie.InvT-loop
-Inv-loop out₀ of a b n ka kb k at₀ end j₀ t₀ out at j t = Putting of (fileParts a n ka) (fileParts b n kb) out₀ out at j t
+Inv-loop out₀ of a b n ka kb k at₀ end j₀ t₀ out at j t =
+    Putting of (fileParts a n ka) (fileParts b n kb) out₀ out at j t
 
 abbrev μ-loop : tie.MeasureT-loop
 μ-loop out₀ of a b n ka kb k at₀ end j₀ t₀ out at j t = end - at
@@ -34,13 +35,16 @@ maps c =
 
 -- the distances of the result
 abbrev v : tie.Start Inv-loop μ-loop → ℕ → ℕ
-v s = addedAt (s .args .of) (fileParts (s .args .a .now) (s .args .n) (s .args .ka)) (fileParts (s .args .b .now) (s .args .n) (s .args .kb))
+v s =
+    addedAt (s .args .of) (fileParts (s .args .a .now) (s .args .n) (s .args .ka))
+    (fileParts (s .args .b .now) (s .args .n) (s .args .kb))
 
 -- from the loop: where both maps are known
 abbrev known : tie.At-loop Inv-loop μ-loop → tie.After-shared-slice-known2 Inv-loop μ-loop
 known c = c .before .before .before .before .before
 
-space : (s : tie.Start Inv-loop μ-loop) → 40 + s .args .n + 12 * overflowCount (s .args .n) (v s) ≤ length (s .args .out .now)
+space : (s : tie.Start Inv-loop μ-loop)
+    → 40 + s .args .n + 12 * overflowCount (s .args .n) (v s) ≤ length (s .args .out .now)
 space s = omega (arith, s .pre .1 .1 .1 .0, s .pre .1 .1 .1 .1)
 
 -- both cursors at the next slot in overflow
@@ -48,7 +52,8 @@ next-at : (c : tie.In-loop Inv-loop μ-loop)
     → (let l = c .before .loop in
     let a = entry (known (c .before)) .args in
     (slot : ℕ) → slot ≡ get 8 (l .out) (l .at)
-    → PutAt (a .of) (fileParts (a .a .now) (a .n) (a .ka)) (fileParts (a .b .now) (a .n) (a .kb)) (l .inv .from) (l .out) (l .at) (l .j) (l .t) slot)
+    → PutAt (a .of) (fileParts (a .a .now) (a .n) (a .ka)) (fileParts (a .b .now) (a .n) (a .kb)) (l .inv .from)
+    (l .out) (l .at) (l .j) (l .t) slot)
 next-at c slot is =
     let l = c .before .loop in
     let k = known (c .before) in
@@ -76,7 +81,8 @@ loop-holds c =
     let k = p .before .before in
     let s = entry k in
     putting-start (sound (maps k)) (s .args .of) _ _
-    (fill-start (s .args .n) (v s) (s .args .out .now) _ (s .pre .1 .1 .0) (space s) (p .put-slots .ensures) (s .pre .0 .first .header .small))
+    (fill-start (s .args .n) (v s) (s .args .out .now) _ (s .pre .1 .1 .0) (space s) (p .put-slots .ensures)
+    (s .pre .0 .first .header .small))
 
 get64-requires : tie.Need-get64-requires Inv-loop μ-loop
 get64-requires c κs =
@@ -104,7 +110,12 @@ add-put-entry c =
     let g = x .before in
     let d = g .before .before in
     let here = next-at d (g .get64 .result) (g .get64 .ensures) in
-    omega (arith, entry (known (d .before)) .pre .1 .0 _ (here .next .inside), x .take-at .ensures .is, y .take-addend .ensures .is)
+    omega (
+      arith,
+      entry (known (d .before)) .pre .1 .0 _ (here .next .inside),
+      x .take-at .ensures .is,
+      y .take-addend .ensures .is,
+    )
 
 put-entry-requires : tie.Need-put-entry-requires Inv-loop μ-loop
 put-entry-requires c κs =
@@ -126,7 +137,8 @@ loop-again c =
     let d = g .before .before in
     let k = known (d .before) in
     putting-more (sound (maps k)) (entry k .args .of) _ _ _ _ _ _ _ _ _ _ _ (d .before .loop .inv)
-    (next-at d (g .get64 .result) (g .get64 .ensures)) (x .take-at .ensures) (y .take-addend .ensures) refl (e .put-entry .ensures .1)
+    (next-at d (g .get64 .result) (g .get64 .ensures)) (x .take-at .ensures) (y .take-addend .ensures) refl
+    (e .put-entry .ensures .1)
     (e .put-entry .ensures .0)
 
 same-length : tie.Need-same-length Inv-loop μ-loop

@@ -1,11 +1,9 @@
 -- Proves pciv_arith_add::put::put_primary: in each case the results are the primary bytes.
-use mathlib.Core.Path.{_≡_, refl, sym, ap, _∙_}
-use Prim.Native.Nat.{_≤_}
+use mathlib.Core.Path.{refl, ap, _∙_}
 use native.Mathlib.Nat.{add-sub-cancel-left}
-use native.Mathlib.Omega.{arith}
 use lib.Seq.{sets}
 use Rattle.pciv_format.proofs.MapLaws.{primary-inside, primary-length}
-use Rattle.pciv_arith_add.proofs.PairOfParts.{Maps}
+use Rattle.pciv_check.proofs.SoundPairLaws.{Maps}
 use Rattle.pciv_arith_add.proofs.PutLaws.{primary-map, primary-number}
 use borrow.Author.Needs.{needs}
 use Rattle.pciv_arith_add.proofs.put.put_primary.Statement.{statement}

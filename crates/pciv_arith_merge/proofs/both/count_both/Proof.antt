@@ -1,30 +1,34 @@
 -- Proves pciv_arith_merge::both::count_both: either way the count is that of the minimum.
-use mathlib.Core.Path.{refl, _∙_}
-use Prim.Native.Nat.{ℕ, _+_}
+use mathlib.Core.Path.{_∙_}
 use borrow.Author.Needs.{needs}
 use Rattle.pciv_passes.specs.declared.pairs.ByteOp.the-variants.{Min}
 use Rattle.pciv_format.specs.Check.{fileParts}
 use Rattle.pciv_format.specs.declared.SlotOp.the-variants.{Minimum}
+use Rattle.pciv_check.proofs.SoundPairLaws.{Maps, sound}
 use Rattle.pciv_arith_merge.proofs.CombineLaws.{same-minimum, combined-count}
 use Rattle.pciv_arith_merge.proofs.BothLaws.{minimum-swap}
 use Rattle.pciv_arith_merge.proofs.both.count_both.Statement.{statement}
 use Rattle.pciv_arith_merge.proofs.both.count_both.Tie as tie
 
-lower-requires : tie.Need-lower-requires
-lower-requires c κs = search needs
+-- the two maps
+maps : (c : tie.After-shared-slice-known2)
+    → (let a = c .before .before .args in Maps (a .a .now) (a .b .now) (a .n) (a .ka) (a .kb))
+maps c =
+    record {
+      pair = c .before .before .pre;
+      bytes-a = λ i. c .before .shared-slice-known .given i .fits;
+      bytes-b = λ i. c .shared-slice-known2 .given i .fits;
+    }
+
+smaller-requires : tie.Need-smaller-requires
+smaller-requires c κs = search needs
 
 count-full-slots-requires : tie.Need-count-full-slots-requires
 count-full-slots-requires c κs = search needs
 
 returns : tie.Need-returns
 returns c =
-    let known = c .before .before .before in
-    let s = known .before .before in
-    let a = s .args in
-    c .count-full-slots .ensures
-    ∙ combined-count Minimum Min same-minimum (fileParts (a .a .now) (a .n) (a .ka)) (fileParts (a .b .now) (a .n) (a .kb)) refl
-    (s .pre .first .parts) (s .pre .second .parts) (λ i. known .before .shared-slice-known .given (40 + i) .fits)
-    (λ i. known .shared-slice-known2 .given (40 + i) .fits)
+    c .count-full-slots .ensures ∙ combined-count Minimum Min same-minimum (sound (maps (c .before .before .before)))
 
 count-shared-requires : tie.Need-count-shared-requires
 count-shared-requires c κs = search needs
@@ -40,13 +44,14 @@ count-shared-requires-2 c κs =
 returns-3 : tie.Need-returns-3
 returns-3 c =
     let a = c .before .before .before .before .before .before .args in
-    c .count-shared2 .ensures ∙ minimum-swap (fileParts (a .a .now) (a .n) (a .ka)) (fileParts (a .b .now) (a .n) (a .kb)) (a .n)
+    c .count-shared2 .ensures
+    ∙ minimum-swap (fileParts (a .a .now) (a .n) (a .ka)) (fileParts (a .b .now) (a .n) (a .kb)) (a .n)
 
 pub count-both-spec : {M : Type 1} → statement M
 count-both-spec =
     tie.close
     (tie.spec
-    lower-requires
+    smaller-requires
     count-full-slots-requires
     returns
     count-shared-requires

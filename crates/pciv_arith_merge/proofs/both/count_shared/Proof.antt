@@ -1,20 +1,21 @@
--- Proves pciv_arith_merge::both::count_shared. Invariant: of the slots below the least one that entry j of the first map may have,
--- those in overflow in both are counted. Falls: ka - j.
-use mathlib.Core.Path.{refl}
-use Prim.Native.Nat.{ℕ, _+_, _-_, _≤_, _<_}
+-- Proves pciv_arith_merge::both::count_shared. Invariant: of the slots below the least one that entry j of the
+-- first map may have, those in overflow in both are counted. Falls: ka - j.
+use Prim.Native.Nat.{_-_, _≤_, _<_}
 use native.Mathlib.Omega.{arith}
 use lib.Dec.{eqb}
 use borrow.Author.Needs.{needs}
-use Rattle.pciv_bytes.proofs.SumLaws.{boolByte-flag}
+use Rattle.pciv_bytes.proofs.RangesLaws.{boolByte-flag}
 use Rattle.pciv_format.specs.Parts.{Parts, lowestSlot}
 use Rattle.pciv_format.specs.Check.{fileParts}
 use Rattle.pciv_format.specs.declared.SlotOp.the-variants.{Minimum}
 use Rattle.pciv_format.proofs.PartsLaws.{entry-good}
 use Rattle.pciv_format.proofs.MapLaws.{primary-inside, entry-inside}
+use Rattle.pciv_check.proofs.SoundPairLaws.{Maps, sound}
 use Rattle.pciv_build.proofs.EntriesLaws.{Counted, counted-start}
+use Rattle.pciv_build.proofs.AlongLaws.{counted-last}
 use Rattle.pciv_arith_merge.specs.Merge.{combinedOf}
 use Rattle.pciv_arith_merge.proofs.CombineLaws.{shrinks-minimum}
-use Rattle.pciv_arith_merge.proofs.LedLaws.{counted-last, combined-led}
+use Rattle.pciv_arith_merge.proofs.LedLaws.{combined-along}
 use Rattle.pciv_arith_merge.proofs.BothLaws.{shared-more}
 use Rattle.pciv_arith_merge.proofs.both.count_shared.Statement.{statement}
 use Rattle.pciv_arith_merge.proofs.both.count_shared.Tie as tie
@@ -27,6 +28,16 @@ Inv-loop a b n ka kb count₀ j₀ count j =
 abbrev μ-loop : tie.MeasureT-loop
 μ-loop a b n ka kb count₀ j₀ count j = ka - j
 
+-- the two maps
+maps : (c : tie.After-shared-slice-known2 Inv-loop μ-loop)
+    → (let a = c .before .before .args in Maps (a .a .now) (a .b .now) (a .n) (a .ka) (a .kb))
+maps c =
+    record {
+      pair = c .before .before .pre;
+      bytes-a = λ i. c .before .shared-slice-known .given i .fits;
+      bytes-b = λ i. c .shared-slice-known2 .given i .fits;
+    }
+
 loop-holds : tie.Need-loop-holds Inv-loop μ-loop
 loop-holds c =
     let a = c .before .before .args in
@@ -34,12 +45,14 @@ loop-holds c =
     (omega arith, counted-start (a .n) (combinedOf Minimum A (fileParts (a .b .now) (a .n) (a .kb))))
 
 -- the slot of entry j is one of the n
-inside : (c : tie.After-entry-slot Inv-loop μ-loop) → c .entry-slot .result < c .before .before .before .before .before .args .n
+inside : (c : tie.After-entry-slot Inv-loop μ-loop)
+    → c .entry-slot .result < c .before .before .before .before .before .args .n
 inside c =
     let l = c .before .before in
     let s = l .before .before .before in
     let a = s .args in
-    let good = entry-good (fileParts (a .a .now) (a .n) (a .ka)) (s .pre .first .parts) (l .loop .j) (c .before .loop-test .taken) in
+    let good = entry-good (fileParts (a .a .now) (a .n) (a .ka)) (s .pre .first .parts) (l .loop .j)
+    (c .before .loop-test .taken) in
     omega (arith, c .entry-slot .ensures, good .inside)
 
 entry-slot-requires : tie.Need-entry-slot-requires Inv-loop μ-loop
@@ -64,16 +77,12 @@ loop-again : tie.Need-loop-again Inv-loop μ-loop
 loop-again c =
     let f = c .before in
     let l = f .before .before in
-    let known = l .before in
-    let s = known .before .before in
-    let a = s .args in
+    let a = l .before .before .before .args in
     let A : Parts = fileParts (a .a .now) (a .n) (a .ka) in
-    let B : Parts = fileParts (a .b .now) (a .n) (a .kb) in
-    let here = f .before .loop-test .taken in (
+    let B : Parts = fileParts (a .b .now) (a .n) (a .kb) in (
       omega arith,
       rw (f .entry-slot .ensures, boolByte-flag (eqb (B .byte (A .slot (l .loop .j))) 255))
-          (shared-more A B refl (s .pre .first .parts) (s .pre .second .parts) (λ i. known .before .shared-slice-known .given (40 + i) .fits)
-          (λ i. known .shared-slice-known2 .given (40 + i) .fits) (l .loop .j) here (l .loop .inv .1)),
+          (shared-more (sound (maps (l .before))) (l .loop .j) (f .before .loop-test .taken) (l .loop .inv .1)),
     )
 
 add-count-2 : tie.Need-add-count-2 Inv-loop μ-loop
@@ -94,12 +103,9 @@ loop-less c = search needs
 returns : tie.Need-returns Inv-loop μ-loop
 returns c =
     let l = c .before in
-    let s = l .before .before .before in
-    let a = s .args in
-    let A : Parts = fileParts (a .a .now) (a .n) (a .ka) in
-    let B : Parts = fileParts (a .b .now) (a .n) (a .kb) in
-    counted-last A (s .pre .first .parts) (λ i. l .before .before .shared-slice-known .given (40 + i) .fits) (combinedOf Minimum A B)
-    (combined-led Minimum shrinks-minimum A B (s .pre .first .parts)) (l .loop .j) (l .loop .inv .0) (c .loop-test .left) (l .loop .inv .1)
+    let p = sound (maps (l .before)) in
+    counted-last (combined-along Minimum shrinks-minimum _ _ (p .first) (p .bytes-first)) (l .loop .j) (l .loop .inv .0)
+    (c .loop-test .left) (l .loop .inv .1)
 
 pub count-shared-spec : {M : Type 1} → statement M
 count-shared-spec =

@@ -1,48 +1,65 @@
 -- Proves pciv_arith_merge::combine::combine_into: the parts of the file, one after another.
-use mathlib.Core.Path.{_≡_, refl, sym, ap, _∙_}
-use Prim.Native.Nat.{ℕ, _+_, _*_, _≤_, _<_}
+use mathlib.Core.Path.{refl}
+use Prim.Native.Nat.{ℕ}
 use native.Mathlib.Omega.{arith}
 use lib.ListN.{length}
 use borrow.Author.Needs.{needs}
-use Rattle.pciv_format.specs.Refusals.{done, fileAnswer}
-use Rattle.pciv_format.proofs.RefusalsLaws.{fileAnswer-done, fileAnswer-refused}
-use Rattle.pciv_format.proofs.LayoutLaws.{overflowCount-le}
-use Rattle.pciv_build.specs.Build.{beginOutcome}
-use Rattle.pciv_build.proofs.BuildLaws.{Begun, begun, begin-is, built-done, built-refused}
+use Rattle.pciv_format.specs.Refusals.{Outcome}
+use Rattle.pciv_format.specs.Write.{mapInto}
+use Rattle.pciv_format.specs.declared.Summary.{Summary}
+use Rattle.pciv_check.proofs.SoundPairLaws.{Maps, sound}
+use Rattle.pciv_build.proofs.IntoLaws.{map-fits}
+use Rattle.pciv_build.proofs.ChainLaws.{begin-few, Opened, opened-refused, opened-space, opened-finish, opened-done}
 use Rattle.pciv_arith_merge.specs.Merge.{resultOf}
+use Rattle.pciv_arith_merge.proofs.CombineLaws.{combined-fits}
 use Rattle.pciv_arith_merge.proofs.combine.combine_into.Statement.{statement}
 use Rattle.pciv_arith_merge.proofs.combine.combine_into.Tie as tie
 
--- the result
-abbrev v : (c : tie.Start) → ℕ → ℕ
-v c = let a = c .args in resultOf (a .op) (a .a .now) (a .b .now) (a .n) (a .ka) (a .kb)
+abbrev entry : tie.After-count-overflow → tie.Start
+entry c = c .before .before .before .before
 
--- the overflow entries are no more than the slots
-few : (c : tie.After-count-overflow) → c .count-overflow .result ≤ c .before .before .before .before .args .n
-few c =
-    let g = c .before .before .before .before in
-    omega (arith, c .count-overflow .ensures, overflowCount-le (g .args .n) (v g))
+-- the distances of the result
+abbrev v : tie.Start → ℕ → ℕ
+v s = resultOf (s .args .op) (s .args .a .now) (s .args .b .now) (s .args .n) (s .args .ka) (s .args .kb)
 
--- the file is begun
-started : (c : tie.After-begun2)
-    → (let k = c .before .before .before .before .before .before in
-    let a = k .before .before .before .before .args in
-    beginOutcome (a .n) (k .count-overflow .result) (length (a .out .now)) ≡ done (c .begun2 .given .0 .0))
-started c = fileAnswer-done _ _ (sym (c .begun2 .given .1) ∙ c .before .before .before .before .begin .ensures .0)
+abbrev into : tie.Start → Outcome Summary
+into s = mapInto (s .args .n) (v s) (length (s .args .out .now))
 
-ready : (c : tie.After-begun2)
-    → (let k = c .before .before .before .before .before .before in
-    let a = k .before .before .before .before .args in
-    Begun (a .n) (k .count-overflow .result) (a .out .now) (c .begun2 .given .0 .0))
-ready c = begun _ _ _ _ (started c)
+-- the two maps
+maps : (c : tie.After-shared-slice-known2)
+    → (let a = c .before .before .before .args in Maps (a .a .now) (a .b .now) (a .n) (a .ka) (a .kb))
+maps c =
+    record {
+      pair = c .before .before .before .pre;
+      bytes-a = λ i. c .before .shared-slice-known .given i .fits;
+      bytes-b = λ i. c .shared-slice-known2 .given i .fits;
+    }
+
+opened : (b : tie.After-begin)
+    → (let e = b .before .before in
+    let s = entry e in
+    Opened (s .args .n) (e .count-overflow .result) (v s) (into s) (s .args .out .now) (b .begin .result)
+    (b .begin .last .0))
+opened b =
+    let e = b .before .before in
+    let s = entry e in
+    record {
+      few = s .pre .first .header .small;
+      count = e .count-overflow .ensures;
+      into = map-fits (s .args .n) (v s) (length (s .args .out .now))
+          (combined-fits (s .args .op) (sound (maps (e .before))));
+      answer = b .begin .ensures .0;
+      buffer = b .begin .ensures .1;
+    }
 
 count-overflow-requires : tie.Need-count-overflow-requires
 count-overflow-requires c κs = search needs
 
 begin-requires : tie.Need-begin-requires
 begin-requires c κs =
-    let k = c .before in
-    (k .before .before .before .before .pre .first .header .small, few k)
+    let e = c .before in
+    let s = entry e in
+    begin-few (s .args .n) (e .count-overflow .result) (v s) (s .pre .first .header .small) (e .count-overflow .ensures)
 
 enum-known-begun : tie.Need-enum-known-begun
 enum-known-begun c = search needs
@@ -52,38 +69,24 @@ enum-known-begun-2 c = search needs
 
 put-parts-requires : tie.Need-put-parts-requires
 put-parts-requires c κs =
-    let t = c .before .before in
-    let b = t .before .before .before .before in
-    let k = b .before .before in
-    let g = k .before .before .before .before in
-    (g .pre, omega (arith, ready t .entries, k .count-overflow .ensures, b .begin .kept .0))
+    let k = c .before .before in
+    let b = k .before .before .before .before in
+    let e = b .before .before in
+    (entry e .pre, omega (arith, opened-space (opened b) _ (k .begun2 .given .1), e .count-overflow .ensures))
 
 finish-requires : tie.Need-finish-requires
 finish-requires c κs =
     let p = c .before .before .before in
-    let t = p .before .before .before in
-    let b = t .before .before .before .before in
-    let k = b .before .before in (
-      k .before .before .before .before .pre .first .header .small,
-      few k,
-      omega (arith, ready t .fits, b .begin .kept .0, p .put-parts .kept .0),
-    )
+    let k = p .before .before .before in
+    opened-finish (opened (k .before .before .before .before)) _ (k .begun2 .given .1) _ refl _ (p .put-parts .ensures)
 
 same-length : tie.Need-same-length
 same-length c = search needs
 
 returns : tie.Need-returns
 returns c =
-    let t = c .before in
-    let b = t .before .before .before .before in
-    let k = b .before .before in
-    let g = k .before .before .before .before in
-    let a = g .args in
-    let count = k .count-overflow .ensures in
-    let no = fileAnswer-refused _ _ (sym (t .begun .given .1) ∙ b .begin .ensures .0) in (
-      ap fileAnswer (sym no ∙ begin-is (a .n) _ (v g) count (length (a .out .now))),
-      built-refused (a .n) _ (v g) count (g .pre .first .header .small) (a .out .now) _ _ no (b .begin .ensures .1),
-    )
+    let k = c .before in
+    opened-refused (opened (k .before .before .before .before)) _ (k .begun .given .1)
 
 same-length-2 : tie.Need-same-length-2
 same-length-2 c = search needs
@@ -92,16 +95,9 @@ returns-2 : tie.Need-returns-2
 returns-2 c =
     let f = c .before .before in
     let p = f .before .before .before .before in
-    let t = p .before .before .before in
-    let b = t .before .before .before .before in
-    let k = b .before .before in
-    let g = k .before .before .before .before in
-    let a = g .args in
-    let count = k .count-overflow .ensures in (
-      ap fileAnswer (sym (started t) ∙ begin-is (a .n) _ (v g) count (length (a .out .now))),
-      built-done (a .n) _ (v g) count (g .pre .first .header .small) (a .out .now) _ _ _ _ _ (started t)
-          (b .begin .ensures .1) refl (p .put-parts .ensures) (f .finish .ensures),
-    )
+    let k = p .before .before .before in
+    opened-done (opened (k .before .before .before .before)) _ (k .begun2 .given .1) _ refl _ (p .put-parts .ensures)
+    _ (f .finish .ensures)
 
 pub combine-into-spec : {M : Type 1} → statement M
 combine-into-spec =

@@ -1,11 +1,11 @@
 -- Proves pciv_arith_merge::combine::count_overflow: in each case the count is that of the case.
-use mathlib.Core.Path.{_≡_, refl}
+use mathlib.Core.Path.{_≡_}
 use mathlib.Core.List.{List}
-use Prim.Native.Nat.{ℕ, _+_, _-_, _≤_}
+use Prim.Native.Nat.{ℕ, _+_}
 use native.Mathlib.Omega.{arith}
 use borrow.Author.Needs.{needs}
 use Rattle.pciv_format.specs.Layout.{overflowCount}
-use Rattle.pciv_format.specs.Check.{fileParts}
+use Rattle.pciv_check.proofs.SoundPairLaws.{Maps, sound}
 use Rattle.pciv_arith_merge.specs.Merge.{resultOf}
 use Rattle.pciv_arith_merge.specs.declared.combine.MergeOp.{MergeOp}
 use Rattle.pciv_arith_merge.specs.declared.combine.MergeOp.the-variants.{Maximum}
@@ -14,9 +14,20 @@ use Rattle.pciv_arith_merge.proofs.BothLaws.{extremes-count}
 use Rattle.pciv_arith_merge.proofs.combine.count_overflow.Statement.{statement}
 use Rattle.pciv_arith_merge.proofs.combine.count_overflow.Tie as tie
 
-in-case : (a b : List ℕ) (n ka kb r : ℕ) {op case : MergeOp} → op ≡ case → r ≡ overflowCount n (resultOf case a b n ka kb)
+in-case : (a b : List ℕ) (n ka kb r : ℕ) {op case : MergeOp} → op ≡ case
+    → r ≡ overflowCount n (resultOf case a b n ka kb)
     → r ≡ overflowCount n (resultOf op a b n ka kb)
 in-case a b n ka kb r e count = rw e count
+
+-- the two maps
+maps : (c : tie.After-shared-slice-known2)
+    → (let a = c .before .before .args in Maps (a .a .now) (a .b .now) (a .n) (a .ka) (a .kb))
+maps c =
+    record {
+      pair = c .before .before .pre;
+      bytes-a = λ i. c .before .shared-slice-known .given i .fits;
+      bytes-b = λ i. c .shared-slice-known2 .given i .fits;
+    }
 
 enum-told : tie.Need-enum-told
 enum-told c = search needs
@@ -37,18 +48,9 @@ count-both-requires-2 c κs = search needs
 
 -- minimum and maximum together
 both : (c : tie.After-count-both2) → (let a = c .before .before .before .before .before .args in
-    c .count-both2 .result + overflowCount (a .n) (resultOf Maximum (a .a .now) (a .b .now) (a .n) (a .ka) (a .kb)) ≡ a .ka + a .kb)
-both c =
-    let known = c .before .before .before in
-    let s = known .before .before in
-    let a = s .args in
-    omega (
-      arith,
-      c .count-both2 .ensures,
-      extremes-count (fileParts (a .a .now) (a .n) (a .ka)) (fileParts (a .b .now) (a .n) (a .kb)) refl
-          (s .pre .first .parts) (s .pre .second .parts) (λ i. known .before .shared-slice-known .given (40 + i) .fits)
-          (λ i. known .shared-slice-known2 .given (40 + i) .fits),
-    )
+    c .count-both2 .result + overflowCount (a .n) (resultOf Maximum (a .a .now) (a .b .now) (a .n) (a .ka) (a .kb))
+    ≡ a .ka + a .kb)
+both c = omega (arith, c .count-both2 .ensures, extremes-count (sound (maps (c .before .before .before))))
 
 sub-result : tie.Need-sub-result
 sub-result c = omega (arith, both c)

@@ -1,5 +1,5 @@
 -- Proves pciv_arith_merge::combine::put_parts: in each case the primary array and the entries are those of the case.
-use mathlib.Core.Path.{_≡_, refl}
+use mathlib.Core.Path.{_≡_}
 use mathlib.Core.List.{List}
 use Prim.Native.Nat.{ℕ, _+_, _*_, _≤_}
 use native.Mathlib.Omega.{arith}
@@ -10,9 +10,12 @@ use Rattle.pciv_format.specs.Layout.{overflowCount}
 use Rattle.pciv_format.specs.Parts.{Parts}
 use Rattle.pciv_format.specs.Check.{fileParts}
 use Rattle.pciv_format.specs.declared.SlotOp.the-variants.{Minimum, Maximum, Difference}
+use Rattle.pciv_check.proofs.SoundPairLaws.{Maps, sound}
 use Rattle.pciv_arith_merge.specs.Merge.{combinedOf, combinedBytes, resultOf, partsPut}
 use Rattle.pciv_arith_merge.specs.declared.combine.MergeOp.{MergeOp}
-use Rattle.pciv_arith_merge.proofs.CombineLaws.{shrinks-minimum, shrinks-difference, same-minimum, same-maximum, same-difference, combined-parts, inline-right}
+use Rattle.pciv_arith_merge.proofs.CombineLaws.{shrinks-minimum, shrinks-difference, same-minimum}
+use Rattle.pciv_arith_merge.proofs.CombineLaws.{same-maximum, same-difference, combined-parts}
+use Rattle.pciv_arith_merge.proofs.CombineLaws.{inline-right}
 use Rattle.pciv_arith_merge.proofs.MendLaws.{settled-over}
 use Rattle.pciv_arith_merge.proofs.combine.put_parts.Statement.{statement}
 use Rattle.pciv_arith_merge.proofs.combine.put_parts.Tie as tie
@@ -32,6 +35,16 @@ first s = fileParts (s .args .a .now) (s .args .n) (s .args .ka)
 abbrev second : tie.Start → Parts
 second s = fileParts (s .args .b .now) (s .args .n) (s .args .kb)
 
+-- the two maps
+maps : (c : tie.After-shared-slice-known2)
+    → (let a = c .before .before .before .args in Maps (a .a .now) (a .b .now) (a .n) (a .ka) (a .kb))
+maps c =
+    record {
+      pair = c .before .before .before .pre .0;
+      bytes-a = λ i. c .before .shared-slice-known .given i .fits;
+      bytes-b = λ i. c .shared-slice-known2 .given i .fits;
+    }
+
 add-from : tie.Need-add-from
 add-from c = omega (arith, c .before .before .before .pre .0 .first .header .small)
 
@@ -49,7 +62,8 @@ put-led-requires c κs =
     let t = p .before .before in
     let s = t .before .before .before .before .before in
     let a = s .args in
-    let space = space-in-case (a .a .now) (a .b .now) (a .n) (a .ka) (a .kb) (a .out .now) (t .enum-told .given .1) (s .pre .1) in
+    let space = space-in-case (a .a .now) (a .b .now) (a .n) (a .ka) (a .kb) (a .out .now) (t .enum-told .given .1)
+    (s .pre .1) in
     (s .pre .0, (shrinks-minimum, omega (arith, space, p .put-primary .kept .0)))
 
 enum-told-2 : tie.Need-enum-told-2
@@ -66,7 +80,8 @@ put-joint-requires c κs =
     let t = p .before .before in
     let s = t .before .before .before .before .before in
     let a = s .args in
-    let space = space-in-case (a .a .now) (a .b .now) (a .n) (a .ka) (a .kb) (a .out .now) (t .enum-told2 .given .1) (s .pre .1) in
+    let space = space-in-case (a .a .now) (a .b .now) (a .n) (a .ka) (a .kb) (a .out .now) (t .enum-told2 .given .1)
+    (s .pre .1) in
     (s .pre .0, omega (arith, space, p .put-primary2 .kept .0))
 
 enum-told-3 : tie.Need-enum-told-3
@@ -84,9 +99,10 @@ settle-led-requires c κs =
     let k = t .before .before in
     let s = k .before .before .before in
     let a = s .args in
-    let space = space-in-case (a .a .now) (a .b .now) (a .n) (a .ka) (a .kb) (a .out .now) (t .enum-told3 .given .1) (s .pre .1) in
-    let right = inline-right Difference Sub same-difference (first s) (second s) refl (s .pre .0 .first .parts) (s .pre .0 .second .parts)
-    (λ i. k .shared-slice-known2 .given (40 + i) .fits) (a .out .now) _ (omega (arith, s .pre .1)) (p .put-primary3 .ensures) in
+    let space = space-in-case (a .a .now) (a .b .now) (a .n) (a .ka) (a .kb) (a .out .now) (t .enum-told3 .given .1)
+    (s .pre .1) in
+    let right = inline-right Difference Sub same-difference (sound (maps k)) (a .out .now) _ (omega (arith, s .pre .1))
+    (p .put-primary3 .ensures) in
     (s .pre .0, (shrinks-difference, (right, omega (arith, space, p .put-primary3 .kept .0))))
 
 same-length : tie.Need-same-length
@@ -101,9 +117,8 @@ returns c =
     let s = k .before .before .before in
     let a = s .args in
     in-case (a .a .now) (a .b .now) (a .n) (a .ka) (a .kb) (a .out .now) (t .enum-told .given .1) _
-    (combined-parts Minimum Min same-minimum (first s) (second s) refl (s .pre .0 .first .parts) (s .pre .0 .second .parts)
-    (λ i. k .before .shared-slice-known .given (40 + i) .fits) (λ i. k .shared-slice-known2 .given (40 + i) .fits)
-    (a .out .now) _ _ (p .put-primary .ensures) (l .put-led .ensures))
+    (combined-parts Minimum Min same-minimum (sound (maps k)) (a .out .now) _ _ (p .put-primary .ensures)
+    (l .put-led .ensures))
 
 same-length-2 : tie.Need-same-length-2
 same-length-2 c = search needs
@@ -117,9 +132,8 @@ returns-2 c =
     let s = k .before .before .before in
     let a = s .args in
     in-case (a .a .now) (a .b .now) (a .n) (a .ka) (a .kb) (a .out .now) (t .enum-told2 .given .1) _
-    (combined-parts Maximum Max same-maximum (first s) (second s) refl (s .pre .0 .first .parts) (s .pre .0 .second .parts)
-    (λ i. k .before .shared-slice-known .given (40 + i) .fits) (λ i. k .shared-slice-known2 .given (40 + i) .fits)
-    (a .out .now) _ _ (p .put-primary2 .ensures) (l .put-joint .ensures))
+    (combined-parts Maximum Max same-maximum (sound (maps k)) (a .out .now) _ _ (p .put-primary2 .ensures)
+    (l .put-joint .ensures))
 
 same-length-3 : tie.Need-same-length-3
 same-length-3 c = search needs
@@ -132,7 +146,8 @@ returns-3 c =
     let s = t .before .before .before .before .before in
     let a = s .args in
     in-case (a .a .now) (a .b .now) (a .n) (a .ka) (a .kb) (a .out .now) (t .enum-told3 .given .1) _
-    (settled-over (a .n) (combinedBytes Sub (first s) (second s)) (combinedOf Difference (first s) (second s)) (a .out .now) _ _
+    (settled-over (a .n) (combinedBytes Sub (first s) (second s)) (combinedOf Difference (first s) (second s))
+    (a .out .now) _ _
     (p .put-primary3 .ensures) (l .settle-led .ensures))
 
 pub put-parts-spec : {M : Type 1} → statement M

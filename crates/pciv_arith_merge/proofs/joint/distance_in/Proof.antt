@@ -1,5 +1,4 @@
 -- Proves pciv_arith_merge::joint::distance_in.
-use borrow.Author.Needs.{needs}
 use borrow.Author.Tests.{eq-eqb, ne-eqb}
 use Rattle.pciv_arith_merge.proofs.joint.distance_in.Statement.{statement}
 use Rattle.pciv_arith_merge.proofs.joint.distance_in.Tie as tie

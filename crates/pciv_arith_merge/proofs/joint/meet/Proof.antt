@@ -1,5 +1,4 @@
 -- Proves pciv_arith_merge::joint::meet: the value is put together as its definition says.
-use Prim.Native.Nat.{ℕ, _+_, _≤_}
 use native.Mathlib.Omega.{arith}
 use borrow.Author.Needs.{needs}
 use Rattle.pciv_format.specs.Check.{fileParts}
@@ -17,8 +16,8 @@ read-head-requires-2 c κs =
     let g = c .before .before .before in
     (g .pre .0 .second, g .pre .1 .1)
 
-lower-requires : tie.Need-lower-requires
-lower-requires c κs = search needs
+smaller-requires : tie.Need-smaller-requires
+smaller-requires c κs = search needs
 
 distance-in-requires : tie.Need-distance-in-requires
 distance-in-requires c κs = search needs
@@ -45,7 +44,8 @@ returns c =
     let x = y .before in
     let a = x .before .before .before .args in
     metOf-is (fileParts (a .a .now) (a .n) (a .ka)) (fileParts (a .b .now) (a .n) (a .kb)) (a .j) (a .t) _ _ _ _ _ _ _ _
-    (x .read-head .ensures) (y .read-head2 .ensures) (l .lower .ensures) (d .distance-in .ensures) (e .distance-in2 .ensures)
+    (x .read-head .ensures) (y .read-head2 .ensures) (l .smaller .ensures) (d .distance-in .ensures)
+    (e .distance-in2 .ensures)
     (m .slot-op .ensures) (c .before .is-at .ensures) (c .is-at2 .ensures)
 
 pub meet-spec : {M : Type 1} → statement M
@@ -54,7 +54,7 @@ meet-spec =
     (tie.spec
     read-head-requires
     read-head-requires-2
-    lower-requires
+    smaller-requires
     distance-in-requires
     distance-in-requires-2
     slot-op-requires

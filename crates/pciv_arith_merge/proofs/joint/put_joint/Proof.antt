@@ -1,13 +1,15 @@
--- Proves pciv_arith_merge::joint::put_joint. Invariant: the entries of the slots that the first j entries of the one map and the
--- first t of the other do not reach are left to write, and p and q are the places of the next two. Falls: how far these
--- are from the ends.
-use mathlib.Core.Path.{_≡_, refl}
-use Prim.Native.Nat.{ℕ, _+_, _-_, _*_, _≤_, _<_}
+-- Proves pciv_arith_merge::joint::put_joint. Invariant: the entries of the slots that the first j entries of the
+-- one map and the first t of the other do not reach are left to write, and p and q are the places of the next two.
+-- Falls: how far these are from the ends.
+use mathlib.Core.Path.{_≡_}
+use Prim.Native.Nat.{_+_, _-_, _*_, _≤_, _<_}
 use native.Mathlib.Omega.{arith}
 use Rattle.pciv_format.specs.Layout.{maxSlots}
 use Rattle.pciv_format.specs.Parts.{Parts}
 use Rattle.pciv_format.specs.Check.{fileParts}
-use Rattle.pciv_arith_merge.proofs.JointLaws.{JointLeft, joint-start, joint-space, joint-step, joint-more, joint-end}
+use Rattle.pciv_check.proofs.SoundPairLaws.{Maps, sound}
+use Rattle.pciv_arith_merge.proofs.JointLaws.{JointLeft, joint-start, joint-space, joint-step}
+use Rattle.pciv_arith_merge.proofs.JointLaws.{joint-more, joint-end}
 use Rattle.pciv_arith_merge.proofs.joint.put_joint.Statement.{statement}
 use Rattle.pciv_arith_merge.proofs.joint.put_joint.Tie as tie
 
@@ -26,6 +28,16 @@ first s = fileParts (s .args .a .now) (s .args .n) (s .args .ka)
 
 abbrev second : tie.Start Inv-loop μ-loop → Parts
 second s = fileParts (s .args .b .now) (s .args .n) (s .args .kb)
+
+-- the two maps
+maps : (l : tie.At-loop Inv-loop μ-loop)
+    → (let a = l .before .before .before .before .args in Maps (a .a .now) (a .b .now) (a .n) (a .ka) (a .kb))
+maps l =
+    record {
+      pair = l .before .before .before .before .pre .0;
+      bytes-a = λ i. l .before .before .shared-slice-known .given i .fits;
+      bytes-b = λ i. l .before .shared-slice-known2 .given i .fits;
+    }
 
 -- all numbers are small
 few : (s : tie.Start Inv-loop μ-loop)
@@ -57,7 +69,7 @@ loop-holds c =
 add-loop : tie.Need-add-loop Inv-loop μ-loop
 add-loop c =
     let i = c .loop .inv in
-    omega (arith, i .1, i .2, i .0 .first .inside, i .0 .second .inside, few (c .before .before .before .before))
+    omega (arith, i .1, i .2, i .0 .first .few, i .0 .second .few, few (c .before .before .before .before))
 
 meet-requires : tie.Need-meet-requires Inv-loop μ-loop
 meet-requires c κs =
@@ -66,17 +78,15 @@ meet-requires c κs =
 
 -- an entry is left
 left : (c : tie.In-loop Inv-loop μ-loop)
-    → (let a = c .before .before .before .before .before .args in let l = c .before .loop in l .j + l .t < a .ka + a .kb)
+    → (let a = c .before .before .before .before .before .args in let l = c .before .loop in l .j + l .t
+    < a .ka + a .kb)
 left c = omega (arith, c .before .loop .inv .1, c .before .loop .inv .2, c .loop-test .taken)
 
 put-entry-requires : tie.Need-put-entry-requires Inv-loop μ-loop
 put-entry-requires c κs =
     let m = c .before in
     let l = m .before .before in
-    let s = l .before .before .before .before in
-    joint-space (first s) (second s) refl (s .pre .0 .first .parts) (s .pre .0 .second .parts)
-    (λ i. l .before .before .shared-slice-known .given (40 + i) .fits) (λ i. l .before .shared-slice-known2 .given (40 + i) .fits)
-    (l .loop .inv .0) (left (m .before)) (m .meet .result) (m .meet .ensures)
+    joint-space (sound (maps l)) (l .loop .inv .0) (left (m .before)) (m .meet .result) (m .meet .ensures)
 
 -- what is passed with the slot that is met
 step : (m : tie.After-meet Inv-loop μ-loop)
@@ -84,10 +94,7 @@ step : (m : tie.After-meet Inv-loop μ-loop)
     (1 ≤ r .first + r .second) × (l .loop .j + r .first ≤ a .ka) × (l .loop .t + r .second ≤ a .kb))
 step m =
     let l = m .before .before in
-    let s = l .before .before .before .before in
-    joint-step (first s) (second s) refl (s .pre .0 .first .parts) (s .pre .0 .second .parts)
-    (λ i. l .before .before .shared-slice-known .given (40 + i) .fits) (λ i. l .before .shared-slice-known2 .given (40 + i) .fits)
-    (l .loop .inv .0) (left (m .before)) (m .meet .result) (m .meet .ensures)
+    joint-step (sound (maps l)) (l .loop .inv .0) (left (m .before)) (m .meet .result) (m .meet .ensures)
 
 add-j : tie.Need-add-j Inv-loop μ-loop
 add-j c =
@@ -128,11 +135,9 @@ loop-again : tie.Need-loop-again Inv-loop μ-loop
 loop-again c =
     let e = c .before .before .before .before .before .before in
     let m = e .before .before in
-    let l = m .before .before in
-    let s = l .before .before .before .before in (
-      joint-more (first s) (second s) refl (s .pre .0 .first .parts) (s .pre .0 .second .parts)
-          (λ i. l .before .before .shared-slice-known .given (40 + i) .fits) (λ i. l .before .shared-slice-known2 .given (40 + i) .fits)
-          (l .loop .inv .0) (left (m .before)) (m .meet .result) (m .meet .ensures) _ _ (e .put-entry .ensures .1) (e .put-entry .ensures .0),
+    let l = m .before .before in (
+      joint-more (sound (maps l)) (l .loop .inv .0) (left (m .before)) (m .meet .result) (m .meet .ensures) _ _
+          (e .put-entry .ensures .1) (e .put-entry .ensures .0),
       omega (arith, l .loop .inv .1),
       omega (arith, l .loop .inv .2),
     )
@@ -143,10 +148,7 @@ same-length c = c .before .loop .inv .0 .left .size
 returns : tie.Need-returns Inv-loop μ-loop
 returns c =
     let l = c .before in
-    let s = l .before .before .before .before in
-    joint-end (first s) (second s) refl (s .pre .0 .first .parts) (s .pre .0 .second .parts)
-    (λ i. l .before .before .shared-slice-known .given (40 + i) .fits) (λ i. l .before .shared-slice-known2 .given (40 + i) .fits)
-    (l .loop .inv .0) (omega (arith, l .loop .inv .1, l .loop .inv .2, c .loop-test .left))
+    joint-end (sound (maps l)) (l .loop .inv .0) (omega (arith, l .loop .inv .1, l .loop .inv .2, c .loop-test .left))
 
 pub put-joint-spec : {M : Type 1} → statement M
 put-joint-spec =

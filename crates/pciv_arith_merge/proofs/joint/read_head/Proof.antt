@@ -1,7 +1,7 @@
 -- Proves pciv_arith_merge::joint::read_head.
 use mathlib.Core.Path.{sym, ap, ap₂, _∙_}
 use mathlib.Core.List.{List}
-use Prim.Native.Nat.{ℕ, _+_, _*_, _≤_}
+use Prim.Native.Nat.{ℕ, _+_, _≤_}
 use native.Mathlib.Omega.{arith}
 use lib.ListN.{length}
 use borrow.Author.Needs.{needs}
@@ -63,7 +63,8 @@ returns-2 c =
     let a = g .args in
     ap₂ (λ (s d : ℕ). record { slot = s; distance = d }) (k .get64 .ensures) (c .get32 .ensures)
     ∙ ap (headAt (a .file .now)) (g .pre .1)
-    ∙ sym (headOf-entry (fileParts (a .file .now) (a .n) (a .k)) (a .j) (omega (arith, g .pre .1, k .before .if1 .left)))
+    ∙ sym (headOf-entry (fileParts (a .file .now) (a .n) (a .k)) (a .j)
+    (omega (arith, g .pre .1, k .before .if1 .left)))
 
 pub read-head-spec : {M : Type 1} → statement M
 read-head-spec =

@@ -1,8 +1,6 @@
 -- Proves pciv_arith_merge::led::combine_entry.
-use mathlib.Core.Path.{_≡_, sym, ap, ap₂, _∙_}
-use Prim.Native.Nat.{ℕ, _+_, _≤_, _<_}
+use mathlib.Core.Path.{sym, ap, ap₂, _∙_}
 use native.Mathlib.Omega.{arith}
-use borrow.Author.Needs.{needs}
 use Rattle.pciv_format.specs.Parts.{Parts, lowestSlot, valueOf}
 use Rattle.pciv_format.specs.Check.{fileParts}
 use Rattle.pciv_format.specs.Arith.{slotOp}
@@ -42,7 +40,11 @@ entry-distance-requires c κs =
 slot-op-requires : tie.Need-slot-op-requires
 slot-op-requires c κs =
     let g = c .before .before .before .before .before in
-    omega (arith, g .pre .1 .0 (c .entry-distance .result) (c .before .find-from .result .distance), c .entry-distance .ok)
+    omega (
+      arith,
+      g .pre .1 .0 (c .entry-distance .result) (c .before .find-from .result .distance),
+      c .entry-distance .ok,
+    )
 
 returns : tie.Need-returns
 returns c =
@@ -52,7 +54,8 @@ returns c =
     let A : Parts = fileParts (a .a .now) (a .n) (a .ka) in
     let B : Parts = fileParts (a .b .now) (a .n) (a .kb) in
     let at = f .before .entry-slot .ensures in
-    let first = c .before .entry-distance .ensures ∙ sym (valueOf-slot A (g .pre .0 .first .parts) (a .j) (g .pre .1 .1 .0)) in
+    let first = c .before .entry-distance .ensures
+    ∙ sym (valueOf-slot A (g .pre .0 .first .parts) (a .j) (g .pre .1 .1 .0)) in
     let second = f .find-from .ensures .distance ∙ ap (valueOf B) at in
     record {
       slot = at;

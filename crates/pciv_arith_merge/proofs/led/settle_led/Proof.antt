@@ -1,16 +1,19 @@
--- Proves pciv_arith_merge::led::settle_led. Invariant: the primary bytes are right where the first map is stored inline, and at the
--- slots of its first j entries; the overflow entries of later slots are left to write. Falls: ka - j.
-use mathlib.Core.Path.{ap, _∙_}
-use Prim.Native.Nat.{ℕ, _+_, _-_, _≤_, _<_}
+-- Proves pciv_arith_merge::led::settle_led. Invariant: the primary bytes are right where the first map is stored
+-- inline, and at the slots of its first j entries; the overflow entries of later slots are left to write. Falls:
+-- ka - j.
+use mathlib.Core.Path.{_≡_, ap, _∙_}
+use Prim.Native.Nat.{ℕ, _+_, _-_, _<_}
 use native.Mathlib.Omega.{arith}
 use borrow.Author.Needs.{needs}
 use Rattle.pciv_format.specs.Layout.{primaryByte}
 use Rattle.pciv_format.specs.Parts.{Parts}
 use Rattle.pciv_format.specs.Check.{fileParts}
 use Rattle.pciv_format.proofs.PartsLaws.{entry-good}
+use Rattle.pciv_build.proofs.AlongLaws.{Along}
 use Rattle.pciv_arith_merge.specs.Merge.{combinedOf}
-use Rattle.pciv_arith_merge.proofs.LedLaws.{LedAt, led-start, led-next, combined-led}
-use Rattle.pciv_arith_merge.proofs.MendLaws.{Settled, settled-start, settled-size, settled-byte, settled-space, settled-more, settled-pass, settled-end}
+use Rattle.pciv_arith_merge.proofs.LedLaws.{LedAt, led-start, led-next, combined-along}
+use Rattle.pciv_arith_merge.proofs.MendLaws.{Settled, settled-start, settled-size, settled-byte}
+use Rattle.pciv_arith_merge.proofs.MendLaws.{settled-space, settled-more, settled-pass, settled-end}
 use Rattle.pciv_arith_merge.proofs.led.settle_led.Statement.{statement}
 use Rattle.pciv_arith_merge.proofs.led.settle_led.Tie as tie
 
@@ -33,9 +36,25 @@ second s = fileParts (s .args .b .now) (s .args .n) (s .args .kb)
 abbrev result : tie.Start Inv-loop μ-loop → ℕ → ℕ
 result s = combinedOf (s .args .op) (first s) (second s)
 
--- it is in overflow only where the first map is
-led : (s : tie.Start Inv-loop μ-loop) → (i : ℕ) → i < s .args .n → first s .byte i < 255 → result s i < 255
-led s = combined-led (s .args .op) (s .pre .1 .0) (first s) (second s) (s .pre .0 .first .parts)
+abbrev start : tie.At-loop Inv-loop μ-loop → tie.Start Inv-loop μ-loop
+start l = l .before .before .before .before
+
+-- the result is in overflow only where the first map is
+along : (l : tie.At-loop Inv-loop μ-loop) → Along (first (start l)) (result (start l))
+along l =
+    let s = start l in
+    combined-along (s .args .op) (s .pre .1 .0) (first s) (second s) (s .pre .0 .first .parts)
+    (λ i. l .before .before .shared-slice-known .given (40 + i) .fits)
+
+-- both cursors are behind the entry
+next : (f : tie.After-combine-entry Inv-loop μ-loop)
+    → (let l = f .before .before in LedAt (first (start l)) (second (start l)) (l .loop .j + 1)
+    (f .combine-entry .result .next))
+next f =
+    let l = f .before .before in
+    led-next (first (start l)) (second (start l)) (l .loop .j) (f .combine-entry .result .next)
+    (f .before .loop-test .taken)
+    (f .combine-entry .ensures .before)
 
 -- the slot is one of the map's
 inside : (c : tie.After-combine-entry Inv-loop μ-loop)
@@ -73,45 +92,43 @@ add-out c =
     omega (arith, inside (c .before), s .pre .0 .first .header .small)
 
 slice-write-out : tie.Need-slice-write-out Inv-loop μ-loop
-slice-write-out c =
-    let l = c .before .before .before in
-    let s = l .before .before .before .before in
-    settled-byte (first s) (result s) (s .args .out .now) (l .loop .j) (l .loop .out) (l .loop .at) _ (l .loop .inv .1) (inside (c .before))
+slice-write-out c = settled-byte (c .before .before .before .loop .inv .1) _ (inside (c .before))
 
 add-j : tie.Need-add-j Inv-loop μ-loop
 add-j c =
     let h = c .before .before .before .before .before .before .before .pre .0 .first .header in
     omega (arith, h .few, h .small)
 
+-- the byte that is put right
+byte : (c : tie.After-primary-byte Inv-loop μ-loop)
+    → (let l = c .before .before .before in
+    c .primary-byte .result ≡ primaryByte (result (start l) (first (start l) .slot (l .loop .j))))
+byte c = c .primary-byte .ensures ∙ ap primaryByte (c .before .combine-entry .ensures .distance)
+
 put-entry-requires : tie.Need-put-entry-requires Inv-loop μ-loop
 put-entry-requires c κs =
     let b = c .before .before in
     let f = b .before in
     let l = f .before .before in
-    let s = l .before .before .before .before in
     let at = f .combine-entry .ensures in
-    settled-space (first s) (s .pre .0 .first .parts) (λ i. l .before .before .shared-slice-known .given (40 + i) .fits) (result s) (led s)
-    (s .args .out .now) (l .loop .j) (l .loop .out) (l .loop .at) (l .loop .inv .1) (f .before .loop-test .taken) _ _ (at .slot)
-    (b .primary-byte .ensures ∙ ap primaryByte (at .distance)) (omega (arith, at .distance, c .before .if1 .taken))
+    settled-space (along l) (l .loop .inv .1) (f .before .loop-test .taken) _ _ (at .slot) (byte b)
+    (omega (arith, at .distance, c .before .if1 .taken))
 
 loop-less : tie.Need-loop-less Inv-loop μ-loop
 loop-less c = search needs
 
 loop-again : tie.Need-loop-again Inv-loop μ-loop
 loop-again c =
-    let put = c .before .before in
-    let taken = put .before .before in
-    let b = taken .before in
+    let e = c .before .before in
+    let t = e .before .before in
+    let b = t .before in
     let f = b .before in
     let l = f .before .before in
-    let s = l .before .before .before .before in
-    let here = f .before .loop-test .taken in
     let at = f .combine-entry .ensures in (
-      led-next (first s) (second s) (l .loop .j) (f .combine-entry .result .next) here (at .before),
-      settled-more (first s) (s .pre .0 .first .parts) (λ i. l .before .before .shared-slice-known .given (40 + i) .fits) (result s) (led s)
-          (s .args .out .now) (l .loop .j) (l .loop .out) (l .loop .at) (l .loop .inv .1) here _ _ (at .slot)
-          (b .primary-byte .ensures ∙ ap primaryByte (at .distance)) (omega (arith, at .distance, taken .if1 .taken)) _ _ _ (at .distance)
-          (put .put-entry .ensures .1) (put .put-entry .ensures .0),
+      next f,
+      settled-more (along l) (l .loop .inv .1) (f .before .loop-test .taken) _ _ (at .slot) (byte b)
+          (omega (arith, at .distance, t .if1 .taken)) _ _ _ (at .distance) (e .put-entry .ensures .1)
+          (e .put-entry .ensures .0),
     )
 
 loop-less-2 : tie.Need-loop-less-2 Inv-loop μ-loop
@@ -122,27 +139,19 @@ loop-again-2 c =
     let b = c .before in
     let f = b .before in
     let l = f .before .before in
-    let s = l .before .before .before .before in
-    let here = f .before .loop-test .taken in
     let at = f .combine-entry .ensures in (
-      led-next (first s) (second s) (l .loop .j) (f .combine-entry .result .next) here (at .before),
-      settled-pass (first s) (s .pre .0 .first .parts) (λ i. l .before .before .shared-slice-known .given (40 + i) .fits) (result s) (led s)
-          (s .args .out .now) (l .loop .j) (l .loop .out) (l .loop .at) (l .loop .inv .1) here _ _ (at .slot)
-          (b .primary-byte .ensures ∙ ap primaryByte (at .distance)) (omega (arith, at .distance)),
+      next f,
+      settled-pass (along l) (l .loop .inv .1) (f .before .loop-test .taken) _ _ (at .slot) (byte b)
+          (omega (arith, at .distance)),
     )
 
 same-length : tie.Need-same-length Inv-loop μ-loop
-same-length c =
-    let l = c .before in
-    let s = l .before .before .before .before in
-    settled-size (first s) (result s) (s .args .out .now) (l .loop .j) (l .loop .out) (l .loop .at) (l .loop .inv .1)
+same-length c = settled-size (c .before .loop .inv .1)
 
 returns : tie.Need-returns Inv-loop μ-loop
 returns c =
     let l = c .before in
-    let s = l .before .before .before .before in
-    settled-end (first s) (s .pre .0 .first .parts) (λ i. l .before .before .shared-slice-known .given (40 + i) .fits) (result s) (led s)
-    (s .args .out .now) (l .loop .j) (l .loop .out) (l .loop .at) (l .loop .inv .1) (l .loop .inv .0 .inside) (c .loop-test .left)
+    settled-end (along l) (l .loop .inv .1) (l .loop .inv .0 .inside) (c .loop-test .left)
 
 pub settle-led-spec : {M : Type 1} → statement M
 settle-led-spec =

@@ -1,6 +1,5 @@
--- Proves pciv_arith_merge::primary::count_full_slots: the parts that are lent are the primary arrays.
+-- Proves pciv_arith_merge::primary::count_full_slots: the slices are the primary arrays.
 use mathlib.Core.Path.{sym, _∙_}
-use Prim.Native.Nat.{ℕ, _+_, _-_, _≤_, _<_}
 use native.Mathlib.Nat.{add-sub-cancel-left}
 use native.Mathlib.Omega.{arith}
 use borrow.Author.Needs.{needs}
@@ -41,7 +40,8 @@ count-full-requires c κs =
     let g = c .before .before .before .before in
     let a = g .args in
     rw (add-sub-cancel-left 40 (a .n))
-    (primary-length (a .a .now) (a .n) (a .ka) (g .pre .first) ∙ sym (primary-length (a .b .now) (a .n) (a .kb) (g .pre .second)))
+    (primary-length (a .a .now) (a .n) (a .ka) (g .pre .first)
+    ∙ sym (primary-length (a .b .now) (a .n) (a .kb) (g .pre .second)))
 
 returns : tie.Need-returns
 returns c =

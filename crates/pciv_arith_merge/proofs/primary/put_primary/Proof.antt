@@ -1,6 +1,5 @@
--- Proves pciv_arith_merge::primary::put_primary: the parts that are lent are the primary arrays.
-use mathlib.Core.Path.{_≡_, sym, ap, _∙_}
-use Prim.Native.Nat.{ℕ, _+_, _-_, _≤_, _<_}
+-- Proves pciv_arith_merge::primary::put_primary: the slices are the primary arrays.
+use mathlib.Core.Path.{sym, ap, _∙_}
 use native.Mathlib.Nat.{add-sub-cancel-left}
 use native.Mathlib.Omega.{arith}
 use lib.Seq.{sets}

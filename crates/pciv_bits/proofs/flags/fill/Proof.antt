@@ -7,7 +7,7 @@ use mathlib.Core.Bool.{Bool}
 use lib.ListN.{set}
 use Rattle.pciv_format.specs.Mask.{maskLen}
 use Rattle.pciv_format.proofs.MaskLaws.{maskWord}
-use Rattle.pciv_bytes.proofs.TableLaws.{Left, left-start, left-more}
+use Rattle.pciv_bytes.proofs.WriteLaws.{Left, left-start, left-more}
 use Rattle.pciv_bits.proofs.WordLaws.{word-alike, maskWord-is, left-mask}
 use borrow.Author.Needs.{needs}
 use Rattle.pciv_bits.proofs.flags.fill.Statement.{statement}
@@ -48,7 +48,8 @@ loop-again c =
     let u = d .before in
     let a = u .before .before .args in
     let w = d .loop .w in
-    let e = u .uniform .ensures ∙ word-alike (a .bit) (64 * w) 64 ∙ maskWord-is (a .n) (alike (a .bit)) w (64 * w) 64 refl (omega arith) in
+    let e = u .uniform .ensures ∙ word-alike (a .bit) (64 * w) 64
+    ∙ maskWord-is (a .n) (alike (a .bit)) w (64 * w) 64 refl (omega arith) in
     (search needs, left-more (d .loop .inv .1) (u .uniform .result) (omega arith) e)
 
 uniform-requires-2 : tie.Need-uniform-requires-2 Inv-loop μ-loop
@@ -72,7 +73,8 @@ returns c =
     let x = c .uniform2 .result in
     let e = c .uniform2 .ensures ∙ word-alike (a .bit) (64 * w) (a .n % 64)
     ∙ maskWord-is (a .n) p w (64 * w) (a .n % 64) refl (omega arith) in
-    left-mask (a .n) p (a .out .now) (set (d .loop .out) w x) (w + 1) (left-more (d .loop .inv .1) x (omega arith) e) (omega arith)
+    let last = left-more (d .loop .inv .1) x (omega arith) e in
+    left-mask (a .n) p (a .out .now) (set (d .loop .out) w x) (w + 1) last (omega arith)
 
 same-length-2 : tie.Need-same-length-2 Inv-loop μ-loop
 same-length-2 c = search needs

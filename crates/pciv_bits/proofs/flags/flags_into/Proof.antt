@@ -1,5 +1,5 @@
--- Proves pciv_bits::flags::flags_into. Invariant of both loops: the words from w on are left to write. Fall: full - w, and how many
--- are left.
+-- Proves pciv_bits::flags::flags_into. Invariant of both loops: the words from w on are left to write. Fall: full - w,
+-- and how many are left.
 use mathlib.Core.Path.{_≡_, refl, _∙_}
 use Prim.Native.Nat.{ℕ, _+_, _-_, _*_, _/_, _≤_}
 use native.Mathlib.Omega.{arith}
@@ -8,7 +8,7 @@ use mathlib.Core.List.{List}
 use lib.ListN.{length, length-set}
 use Rattle.pciv_format.specs.Mask.{maskLen}
 use Rattle.pciv_format.proofs.MaskLaws.{maskWord}
-use Rattle.pciv_bytes.proofs.TableLaws.{Left, left-start, left-more}
+use Rattle.pciv_bytes.proofs.WriteLaws.{Left, left-start, left-more}
 use Rattle.pciv_bits.specs.Flags.{passesAt}
 use Rattle.pciv_bits.proofs.WordLaws.{maskWord-is, left-two, left-mask}
 use borrow.Author.Needs.{needs}
@@ -37,7 +37,8 @@ loop-holds : tie.Need-loop-holds Inv-loop μ-loop Inv-loop2 μ-loop2
 loop-holds c =
     let a = c .before .before .args in
     let n : ℕ = length (a .a .now) in
-    (search needs, search needs, search needs, left-start (maskWord n (passesAt (a .a .now) (a .limit) (a .negated))) (maskLen n) (a .out .now))
+    let p : ℕ → Bool = passesAt (a .a .now) (a .limit) (a .negated) in
+    (search needs, search needs, search needs, left-start (maskWord n p) (maskLen n) (a .out .now))
 
 sub-loop : tie.Need-sub-loop Inv-loop μ-loop Inv-loop2 μ-loop2
 sub-loop c = search needs
@@ -94,14 +95,14 @@ mul-loop2 c = search needs
 mul-part-word : tie.Need-mul-part-word Inv-loop μ-loop Inv-loop2 μ-loop2
 mul-part-word c = search needs
 
-mul-least : tie.Need-mul-least Inv-loop μ-loop Inv-loop2 μ-loop2
-mul-least c = search needs
+mul-smaller : tie.Need-mul-smaller Inv-loop μ-loop Inv-loop2 μ-loop2
+mul-smaller c = search needs
 
-add-least : tie.Need-add-least Inv-loop μ-loop Inv-loop2 μ-loop2
-add-least c = search needs
+add-smaller : tie.Need-add-smaller Inv-loop μ-loop Inv-loop2 μ-loop2
+add-smaller c = search needs
 
-least-requires : tie.Need-least-requires Inv-loop μ-loop Inv-loop2 μ-loop2
-least-requires c κs = search needs
+smaller-requires : tie.Need-smaller-requires Inv-loop μ-loop Inv-loop2 μ-loop2
+smaller-requires c κs = search needs
 
 part-word-requires : tie.Need-part-word-requires Inv-loop μ-loop Inv-loop2 μ-loop2
 part-word-requires c κs = search needs
@@ -125,7 +126,7 @@ loop2-again c =
     let n : ℕ = length (a .a .now) in
     let p : ℕ → Bool = passesAt (a .a .now) (a .limit) (a .negated) in
     let w : ℕ = d .loop2 .w in
-    let to = c .before .least in
+    let to = c .before .smaller in
     let x = c .part-word in
     let e = x .ensures ∙ maskWord-is n p w (64 * w) (to .result - 64 * w) refl (omega (arith, to .ensures)) in (
       omega arith,
@@ -143,7 +144,8 @@ returns c =
     let l = d .before .before in
     let a = l .before .before .before .args in
     let p : ℕ → Bool = passesAt (a .a .now) (a .limit) (a .negated) in
-    left-mask (length (a .a .now)) p (a .out .now) (d .loop2 .out) (d .loop2 .w) (d .loop2 .inv .3 (a .out .now) (l .loop .inv .3)) (omega arith)
+    let last = d .loop2 .inv .3 (a .out .now) (l .loop .inv .3) in
+    left-mask (length (a .a .now)) p (a .out .now) (d .loop2 .out) (d .loop2 .w) last (omega arith)
 
 pub flags-into-spec : {M : Type 1} → statement M
 flags-into-spec =
@@ -168,9 +170,9 @@ flags-into-spec =
     loop2-holds
     mul-loop2
     mul-part-word
-    mul-least
-    add-least
-    least-requires
+    mul-smaller
+    add-smaller
+    smaller-requires
     part-word-requires
     mul-out-3
     slice-write-out-3

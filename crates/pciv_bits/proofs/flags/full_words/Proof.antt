@@ -34,11 +34,11 @@ returns c =
     let a = g .before .before .args in
     let p : ℕ → Bool = isBelow (a .a .now) (a .limit) in
     let e₁ : t₁ .transpose .result ≡ word p (a .i) 64 =
-    gathered-word p (a .i) (g .gather .result .first) (t₁ .transpose .result) (g .gather .ensures .0) (search needs)
-    (t₁ .transpose .ensures) in
+    gathered-word p (a .i) (g .gather .result .first) (t₁ .transpose .result)
+    (g .gather .ensures .0) (search needs) (t₁ .transpose .ensures) in
     let e₂ : t₂ .transpose2 .result ≡ word p (a .i + 64) 64 =
-    gathered-word p (a .i + 64) (g .gather .result .second) (t₂ .transpose2 .result) (g .gather .ensures .1) (search needs)
-    (t₂ .transpose2 .ensures) in (
+    gathered-word p (a .i + 64) (g .gather .result .second) (t₂ .transpose2 .result)
+    (g .gather .ensures .1) (search needs) (t₂ .transpose2 .ensures) in (
       f₁ .flip-if .ensures ∙ rw e₁ (word-flip (a .negated) p (a .i) 64),
       c .flip-if2 .ensures ∙ rw e₂ (word-flip (a .negated) p (a .i + 64) 64),
     )

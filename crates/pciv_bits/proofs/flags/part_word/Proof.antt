@@ -3,7 +3,7 @@ use mathlib.Core.Path.{_≡_, sym, _∙_}
 use Prim.Native.Nat.{ℕ, _-_, _^_, _≤_, _<_}
 use native.Mathlib.Omega.{arith}
 use mathlib.Core.Bool.{Bool}
-use Rattle.pciv_bytes.proofs.SumLaws.{flag-le, boolByte-flag}
+use Rattle.pciv_bytes.proofs.RangesLaws.{flag-le, boolByte-flag}
 use Rattle.pciv_format.specs.Mask.{word}
 use Rattle.pciv_format.proofs.BitLaws.{word-lt}
 use Rattle.pciv_bits.specs.Flags.{isBelow}
@@ -24,15 +24,18 @@ flags s = isBelow (s .args .a .now) (s .args .limit)
 -- a further bit fits
 fits : (d : tie.At-loop Inv-loop μ-loop) → d .before .before .args .from < d .loop .j → d .loop .x < 2 ^ 63
 fits d more =
-    rw (d .loop .inv .2) (word-fits (flags (d .before .before)) (d .loop .j) (d .before .before .args .to - d .loop .j) (omega arith))
+    let s = d .before .before in
+    rw (d .loop .inv .2) (word-fits (flags s) (d .loop .j) (s .args .to - d .loop .j) (omega arith))
 
 -- the word at the loop's end
 made : (d : tie.At-loop Inv-loop μ-loop) → d .loop .j ≤ d .before .before .args .from
-    → d .loop .x ≡ word (flags (d .before .before)) (d .before .before .args .from) (d .before .before .args .to - d .before .before .args .from)
+    → (let s = d .before .before in d .loop .x ≡ word (flags s) (s .args .from) (s .args .to - s .args .from))
 made d done = let e : d .loop .j ≡ d .before .before .args .from = omega arith in d .loop .inv .2 ∙ rw e
 
 loop-holds : tie.Need-loop-holds Inv-loop μ-loop
-loop-holds c = (search needs, search needs, sym (word-end (flags (c .before)) (c .before .args .to) (c .before .args .to) (omega arith)))
+loop-holds c =
+    let s = c .before in
+    (search needs, search needs, sym (word-end (flags s) (s .args .to) (s .args .to) (omega arith)))
 
 sub-j : tie.Need-sub-j Inv-loop μ-loop
 sub-j c = search needs
@@ -58,8 +61,9 @@ loop-less c = search needs
 loop-again : tie.Need-loop-again Inv-loop μ-loop
 loop-again c =
     let d = c .before .before in
-    let more = word-more (flags (d .before .before)) (d .loop .j) (d .before .before .args .to) (omega arith) (omega arith) in
-    (search needs, search needs, omega (arith, boolByte-flag (flags (d .before .before) (d .loop .j - 1)), d .loop .inv .2, more))
+    let s = d .before .before in
+    let more = word-more (flags s) (d .loop .j) (s .args .to) (omega arith) (omega arith) in
+    (search needs, search needs, omega (arith, boolByte-flag (flags s (d .loop .j - 1)), d .loop .inv .2, more))
 
 sub-ones : tie.Need-sub-ones Inv-loop μ-loop
 sub-ones c = search needs
@@ -70,16 +74,18 @@ ones-requires c κs = search needs
 flip-if-requires : tie.Need-flip-if-requires Inv-loop μ-loop
 flip-if-requires c κs =
     let d = c .before .before in
-    let a = d .before .before .args in
-    omega (arith, c .ones .ensures, made d (omega arith), word-lt (flags (d .before .before)) (a .from) (a .to - a .from))
+    let s = d .before .before in
+    let a = s .args in
+    omega (arith, c .ones .ensures, made d (omega arith), word-lt (flags s) (a .from) (a .to - a .from))
 
 returns : tie.Need-returns Inv-loop μ-loop
 returns c =
     let o = c .before in
     let d = o .before .before in
-    let a = d .before .before .args in
+    let s = d .before .before in
+    let a = s .args in
     c .flip-if .ensures
-    ∙ rw (o .ones .ensures, made d (omega arith)) (word-flip (a .negated) (flags (d .before .before)) (a .from) (a .to - a .from))
+    ∙ rw (o .ones .ensures, made d (omega arith)) (word-flip (a .negated) (flags s) (a .from) (a .to - a .from))
 
 pub part-word-spec : {M : Type 1} → statement M
 part-word-spec =

@@ -68,7 +68,8 @@ loop-again c =
           (lanes-more p (a .i) f 0 j j (x .result) (d .loop .inv .2) (omega arith) (omega arith) (x .ensures))
           (λ k h e. omega arith),
       lanes-more p (a .i + 64) one 16 j (16 + j) (y .result)
-          (lanes-kept p (a .i + 64) f 16 j j (x .result) (d .loop .inv .3) (λ k h e. omega arith)) refl long (y .ensures),
+          (lanes-kept p (a .i + 64) f 16 j j (x .result) (d .loop .inv .3) (λ k h e. omega arith))
+          refl long (y .ensures),
     )
 
 slice-aggregate-get64 : tie.Need-slice-aggregate-get64 Inv-loop μ-loop

@@ -15,7 +15,8 @@ add-if2 c = search needs
 
 returns-2 : tie.Need-returns-2
 returns-2 c =
-    let a = c .before .before .args in sym (ap not (badMask-count (a .n) (a .words .now) (λ e. c .if2 .taken (e ∙ omega arith))))
+    let a = c .before .before .args in
+    sym (ap not (badMask-count (a .n) (a .words .now) (λ e. c .if2 .taken (e ∙ omega arith))))
 
 mul-result : tie.Need-mul-result
 mul-result c = search needs

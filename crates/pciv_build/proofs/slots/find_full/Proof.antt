@@ -33,7 +33,8 @@ returns c =
     let s = known .before .before in
     let a = s .args in
     let bytes : Bytes (a .file .now) = λ i. known .shared-slice-known .given i .fits in
-    rw (f .flags-into .ensures) (tell-full (a .file .now) (a .words .now) (a .from) (a .to) bytes (s .pre .0) (s .pre .1) (s .pre .2))
+    rw (f .flags-into .ensures)
+    (tell-full (a .file .now) (a .words .now) (a .from) (a .to) bytes (s .pre .0) (s .pre .1) (s .pre .2))
 
 pub find-full-spec : {M : Type 1} → statement M
 find-full-spec =

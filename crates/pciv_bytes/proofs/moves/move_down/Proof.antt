@@ -1,5 +1,5 @@
--- Proves pciv_bytes::moves::move_down. Invariant: what goes to i .. `to` is left to move, and nothing from i on has changed.
--- Falls: to - i.
+-- Proves pciv_bytes::moves::move_down. Invariant: what goes to i .. `to` is left to move, and nothing from i on has
+-- changed. Falls: to - i.
 use Prim.Native.Nat.{_-_}
 use native.Mathlib.Omega.{arith}
 use Rattle.pciv_bytes.proofs.MoveLaws.{MovesDown, down-start, down-more, down-end}

@@ -1,5 +1,4 @@
 -- Proves pciv_c::arithmetic::pciv_signed_difference.
-use mathlib.Core.Path.{_≡_}
 use Rattle.pciv_c_cells.proofs.CellsLaws.{told-number}
 use borrow.Author.Needs.{needs}
 use Rattle.pciv_c.proofs.arithmetic.pciv_signed_difference.Statement.{statement}

@@ -1,5 +1,4 @@
 -- Proves pciv_c::check::pciv_check.
-use mathlib.Core.Path.{_≡_}
 use Rattle.pciv_c_cells.proofs.CellsLaws.{told-file}
 use borrow.Author.Needs.{needs}
 use Rattle.pciv_c.proofs.check.pciv_check.Statement.{statement}

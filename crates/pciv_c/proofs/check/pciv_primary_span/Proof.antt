@@ -1,5 +1,5 @@
 -- Proves pciv_c::check::pciv_primary_span.
-use mathlib.Core.Path.{_≡_, refl, sym, _∙_}
+use mathlib.Core.Path.{sym, _∙_}
 use Rattle.pciv_format.specs.Check.{checkFile}
 use Rattle.pciv_format.proofs.RefusalsLaws.{fileAnswer-done, fileAnswer-refused}
 use borrow.Author.Needs.{needs}
@@ -19,14 +19,16 @@ returns : tie.Need-returns
 returns c =
     let k = c .before .before in
     let h = k .before .before in
-    let e = fileAnswer-done (checkFile 1 (h .before .before .args .file .now)) _ (sym (k .checked .given .1) ∙ h .check .ensures) in
+    let o = checkFile 1 (h .before .before .args .file .now) in
+    let e = fileAnswer-done o _ (sym (k .checked .given .1) ∙ h .check .ensures) in
     (rw e, rw e)
 
 returns-2 : tie.Need-returns-2
 returns-2 c =
     let k = c .before in
     let h = k .before .before in
-    let e = fileAnswer-refused (checkFile 1 (h .before .before .args .file .now)) _ (sym (k .enum-told .given .1) ∙ h .check .ensures) in
+    let o = checkFile 1 (h .before .before .args .file .now) in
+    let e = fileAnswer-refused o _ (sym (k .enum-told .given .1) ∙ h .check .ensures) in
     (rw e, rw e)
 
 pub pciv-primary-span-spec : {M : Type 1} → statement M

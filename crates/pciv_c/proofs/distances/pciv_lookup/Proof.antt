@@ -1,5 +1,4 @@
 -- Proves pciv_c::distances::pciv_lookup.
-use mathlib.Core.Path.{_≡_}
 use Rattle.pciv_c_cells.proofs.CellsLaws.{told-distance}
 use borrow.Author.Needs.{needs}
 use Rattle.pciv_c.proofs.distances.pciv_lookup.Statement.{statement}

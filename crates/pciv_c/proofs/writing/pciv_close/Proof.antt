@@ -1,5 +1,4 @@
 -- Proves pciv_c::writing::pciv_close.
-use mathlib.Core.Path.{_≡_}
 use Rattle.pciv_c_cells.proofs.CellsLaws.{told-file}
 use borrow.Author.Needs.{needs}
 use Rattle.pciv_c.proofs.writing.pciv_close.Statement.{statement}

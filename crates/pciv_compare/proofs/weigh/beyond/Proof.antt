@@ -4,7 +4,7 @@ use Prim.Native.Nat.{ℕ}
 use native.Mathlib.Omega.{arith}
 use lib.Dec.{leb}
 use borrow.Author.Needs.{needs}
-use Rattle.pciv_bytes.proofs.SumLaws.{boolByte-flag}
+use Rattle.pciv_bytes.proofs.RangesLaws.{boolByte-flag}
 use Rattle.pciv_compare.specs.Weigh.{beyondOf}
 use Rattle.pciv_compare.specs.declared.weigh.Weight.{Weight}
 use Rattle.pciv_compare.proofs.weigh.beyond.Statement.{statement}

@@ -38,7 +38,8 @@ distance-is c =
     let pre = k .before .before .pre in
     weighed-distance (first k) (second k) refl (pre .first .parts) (pre .second .parts)
     (λ i. k .before .shared-slice-known .given (40 + i) .fits) (λ i. k .shared-slice-known2 .given (40 + i) .fits)
-    (c .before .weigh-bytes .result) (c .weigh-overflow .result) (c .before .weigh-bytes .ensures) (c .weigh-overflow .ensures)
+    (c .before .weigh-bytes .result) (c .weigh-overflow .result) (c .before .weigh-bytes .ensures)
+    (c .weigh-overflow .ensures)
 
 distance-le : (c : tie.After-weigh-overflow)
     → (let r = c .before .weigh-bytes .result in
@@ -48,8 +49,9 @@ distance-le c =
     let k = c .before .before .before .before in
     let s = k .before .before in
     let a = s .args in
-    parts-fit (a .a .now) (a .b .now) (a .n) (a .ka) (a .kb) (s .pre) _ (λ i. k .before .shared-slice-known .given i .fits)
-    (λ i. k .shared-slice-known2 .given i .fits) Distance (distance-is c) .1
+    parts-fit (a .a .now) (a .b .now) (a .n) (a .ka) (a .kb) (s .pre) _
+    (λ i. k .before .shared-slice-known .given i .fits) (λ i. k .shared-slice-known2 .given i .fits) Distance
+    (distance-is c) .1
 
 enum-told : tie.Need-enum-told
 enum-told c = search needs

@@ -84,7 +84,9 @@ loop-again : tie.Need-loop-again Inv-loop μ-loop
 loop-again c =
     let in-loop = c .before .before in
     let l = in-loop .before .loop in
-    let turn = setsAt-more _ (entered in-loop .args .places .now) (l .out) _ _ _ (entered in-loop .pre .1 .0 .long) (in-loop .loop-test .taken)
+    let s = entered in-loop in
+    let turn =
+    setsAt-more _ (s .args .places .now) (l .out) _ _ _ (s .pre .1 .0 .long) (in-loop .loop-test .taken)
     (c .entry-distance .ensures ∙ sym (entry in-loop .1)) in
     (omega arith, simp length-set (l .inv .1), l .inv .2 ∙ turn)
 

@@ -1,4 +1,5 @@
--- Proves pciv_map_lookup::eight::distances_few. Invariant: filling all places is filling those from q on. Falls: count - q.
+-- Proves pciv_map_lookup::eight::distances_few. Invariant: filling all places is filling those from q on.
+-- Falls: count - q.
 use mathlib.Core.Path.{_≡_, refl, sym, _∙_}
 use mathlib.Core.List.{List}
 use Prim.Native.Nat.{ℕ, _-_, _≤_}
@@ -70,7 +71,9 @@ loop-again : tie.Need-loop-again Inv-loop μ-loop
 loop-again c =
     let in-loop = c .before .before .before in
     let l = in-loop .before .loop in
-    let turn = setsAt-more _ (entered in-loop .args .places .now) (l .out) _ _ _ (entered in-loop .pre .1 .0 .1 .long) (in-loop .loop-test .taken)
+    let s = entered in-loop in
+    let turn =
+    setsAt-more _ (s .args .places .now) (l .out) _ _ _ (s .pre .1 .0 .1 .long) (in-loop .loop-test .taken)
     (c .distance-at .ensures) in
     (omega arith, simp length-set (l .inv .1), l .inv .2 ∙ turn)
 
@@ -81,7 +84,8 @@ returns : tie.Need-returns Inv-loop μ-loop
 returns c =
     let start = c .before .before .before .before .before in
     let l = c .before .loop in
-    sym (l .inv .2 ∙ setsAt-end _ (start .args .places .now) (l .out) _ _ (start .pre .1 .0 .1 .long) (c .loop-test .left))
+    let end = setsAt-end _ (start .args .places .now) (l .out) _ _ (start .pre .1 .0 .1 .long) (c .loop-test .left) in
+    sym (l .inv .2 ∙ end)
 
 pub distances-few-spec : {M : Type 1} → statement M
 distances-few-spec =

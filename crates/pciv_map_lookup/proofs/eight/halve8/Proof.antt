@@ -1,5 +1,5 @@
--- Proves pciv_map_lookup::eight::halve8. Invariant: the first q searches have had their turn, and the others wait for it.
--- Falls: 8 - q. The reasoning on a turn is in EightLaws.antt.
+-- Proves pciv_map_lookup::eight::halve8. Invariant: the first q searches have had their turn, and the others wait for
+-- it. Falls: 8 - q. The reasoning on a turn is in EightLaws.antt.
 use mathlib.Core.Path.{_≡_}
 use Prim.Native.Nat.{ℕ, _+_, _-_, _*_, _/_, _≤_, _<_}
 use native.Mathlib.Omega.{arith}

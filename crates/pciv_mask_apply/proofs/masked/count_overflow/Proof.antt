@@ -4,14 +4,14 @@ use Prim.Native.Nat.{ℕ}
 use mathlib.Core.List.{List}
 use Rattle.pciv_format.specs.Layout.{overflowCount}
 use Rattle.pciv_format.specs.Parts.{Parts}
-use Rattle.pciv_mask_bytes.specs.Masked.{maskedAt}
-use Rattle.pciv_mask_bytes.specs.declared.primary.MaskedOp.{MaskedOp}
+use Rattle.pciv_mask_primary.specs.Masked.{maskedDistance}
+use Rattle.pciv_mask_primary.specs.declared.MaskedOp.{MaskedOp}
 use borrow.Author.Needs.{needs}
 use Rattle.pciv_mask_apply.proofs.masked.count_overflow.Statement.{statement}
 use Rattle.pciv_mask_apply.proofs.masked.count_overflow.Tie as tie
 
 in-case : (P : Parts) (ws : List ℕ) (n r : ℕ) {op case : MaskedOp} → op ≡ case
-    → r ≡ overflowCount n (maskedAt case P ws) → r ≡ overflowCount n (maskedAt op P ws)
+    → r ≡ overflowCount n (maskedDistance case P ws) → r ≡ overflowCount n (maskedDistance op P ws)
 in-case P ws n r e q = rw e q
 
 enum-told : tie.Need-enum-told

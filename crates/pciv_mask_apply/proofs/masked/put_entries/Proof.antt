@@ -7,24 +7,26 @@ use Rattle.pciv_format.specs.Layout.{overflowCount, overflowPart}
 use Rattle.pciv_format.specs.Parts.{Parts}
 use Rattle.pciv_format.specs.Check.{fileParts}
 use Rattle.pciv_build.specs.Slots.{HoldsPrimary}
-use Rattle.pciv_arith_add.specs.Addition.{Fits}
-use Rattle.pciv_mask_bytes.specs.Masked.{maskedAt}
-use Rattle.pciv_mask_bytes.specs.declared.primary.MaskedOp.{MaskedOp}
+use Rattle.pciv_build.specs.Build.{Fits}
+use Rattle.pciv_mask_primary.specs.Masked.{maskedDistance}
+use Rattle.pciv_mask_primary.specs.declared.MaskedOp.{MaskedOp}
 use borrow.Author.Needs.{needs}
 use Rattle.pciv_mask_apply.proofs.masked.put_entries.Statement.{statement}
 use Rattle.pciv_mask_apply.proofs.masked.put_entries.Tie as tie
 
 module _ (P : Parts) (ws : List ℕ) (n : ℕ) (d : List ℕ) {op case : MaskedOp} (e : op ≡ case) where
-  count-in-case : (count : ℕ) → count ≡ overflowCount n (maskedAt op P ws) → count ≡ overflowCount n (maskedAt case P ws)
+  count-in-case : (count : ℕ) → count ≡ overflowCount n (maskedDistance op P ws)
+      → count ≡ overflowCount n (maskedDistance case P ws)
   count-in-case count is = rw (← e) is
 
-  fits-in-case : Fits n (maskedAt op P ws) → Fits n (maskedAt case P ws)
+  fits-in-case : Fits n (maskedDistance op P ws) → Fits n (maskedDistance case P ws)
   fits-in-case fits = rw (← e) fits
 
-  holds-in-case : HoldsPrimary n (maskedAt op P ws) d → HoldsPrimary n (maskedAt case P ws) d
+  holds-in-case : HoldsPrimary n (maskedDistance op P ws) d → HoldsPrimary n (maskedDistance case P ws) d
   holds-in-case holds = rw (← e) holds
 
-  in-case : (d' : List ℕ) → d' ≡ sets d (40 + n) (overflowPart n (maskedAt case P ws)) → d' ≡ sets d (40 + n) (overflowPart n (maskedAt op P ws))
+  in-case : (d' : List ℕ) → d' ≡ sets d (40 + n) (overflowPart n (maskedDistance case P ws))
+      → d' ≡ sets d (40 + n) (overflowPart n (maskedDistance op P ws))
   in-case d' put = rw e put
 
 abbrev parts : tie.Start → Parts
@@ -38,8 +40,13 @@ put-kept-requires c κs =
     let t = c .before in
     let s = t .before .before .before .before .before in
     let is = s .pre .1 .1 .1 .1 .0 in
-    let e = t .enum-told .given .1 in
-    (s .pre .0, (s .pre .1 .0, (count-in-case (parts s) (s .args .words .now) (s .args .n) (s .args .out .now) e _ is, s .pre .1 .1 .1 .1 .1)))
+    let e = t .enum-told .given .1 in (
+      s .pre .0,
+      (
+        s .pre .1 .0,
+        (count-in-case (parts s) (s .args .words .now) (s .args .n) (s .args .out .now) e _ is, s .pre .1 .1 .1 .1 .1),
+      ),
+    )
 
 enum-told-2 : tie.Need-enum-told-2
 enum-told-2 c = search needs
@@ -58,7 +65,10 @@ put-incremented-requires c κs =
         s .pre .1 .0,
         (
           fits-in-case P ws n d e (s .pre .1 .1 .0),
-          (holds-in-case P ws n d e (s .pre .1 .1 .1 .0), (count-in-case P ws n d e _ (s .pre .1 .1 .1 .1 .0), s .pre .1 .1 .1 .1 .1)),
+          (
+            holds-in-case P ws n d e (s .pre .1 .1 .1 .0),
+            (count-in-case P ws n d e _ (s .pre .1 .1 .1 .1 .0), s .pre .1 .1 .1 .1 .1),
+          ),
         ),
       ),
     )

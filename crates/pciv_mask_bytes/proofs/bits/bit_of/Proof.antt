@@ -1,5 +1,5 @@
 -- Proves pciv_mask_bytes::bits::bit_of.
-use Rattle.pciv_mask_bytes.proofs.RowLaws.{bit-of-word}
+use Rattle.pciv_format.proofs.MaskLaws.{bit-of-word}
 use borrow.Author.Needs.{needs}
 use Rattle.pciv_mask_bytes.proofs.bits.bit_of.Statement.{statement}
 use Rattle.pciv_mask_bytes.proofs.bits.bit_of.Tie as tie

@@ -1,4 +1,5 @@
--- Proves pciv_mask_bytes::bits::few_set, which promises nothing of its answer. Invariant: j is at most 16. Falls: 16 - j.
+-- Proves pciv_mask_bytes::bits::few_set, which promises nothing of its answer. Invariant: j is at most 16. Falls:
+-- 16 - j.
 use Prim.Native.Nat.{_-_, _≤_}
 use borrow.Author.Needs.{needs}
 use Rattle.pciv_mask_bytes.proofs.bits.few_set.Statement.{statement}

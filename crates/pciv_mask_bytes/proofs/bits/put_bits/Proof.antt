@@ -1,33 +1,24 @@
--- Proves pciv_mask_bytes::bits::put_bits. Invariant of both loops: what is left to write are the bits of the slots from i on; in the first
--- i is a multiple of 64, in the second the slots from i on are those of the last word. Falls: n - i.
-use mathlib.Core.Path.{_≡_, refl, sym, ap, _∙_}
-use Prim.Native.Nat.{ℕ, _+_, _-_, _*_, _/_, _%_, _≤_}
+-- Proves pciv_mask_bytes::bits::put_bits. Invariant of both loops: what is left to write are the bits of the slots from
+-- i on; in the first i is a multiple of 64, in the second the slots from i on are those of the last word. Falls: n - i.
+use mathlib.Core.Path.{_≡_, refl}
+use Prim.Native.Nat.{_-_, _*_, _/_, _%_, _≤_}
 use native.Mathlib.Omega.{arith}
-use mathlib.Core.List.{List}
-use lib.ListN.{length, length-set}
-use lib.Seq.{sets, length-sets}
-use Rattle.pciv_bytes.specs.Ranges.{table}
-use Rattle.pciv_bytes.proofs.WriteLaws.{sets-table-start, sets-table-more, sets-table-end, sets-table-part}
 use Rattle.pciv_format.specs.Mask.{maskValue}
-use Rattle.pciv_mask_bytes.proofs.RowLaws.{word-of-mask, last-bit}
+use Rattle.pciv_format.proofs.MaskLaws.{word-of-mask}
+use Rattle.pciv_mask_bytes.proofs.RowLaws.{last-bit}
+use Rattle.pciv_mask_bytes.proofs.SlotLaws.{SlotsLeft, slots-start, slots-word, slots-one, slots-end}
 use borrow.Author.Needs.{needs}
 use Rattle.pciv_mask_bytes.proofs.bits.put_bits.Statement.{statement}
 use Rattle.pciv_mask_bytes.proofs.bits.put_bits.Tie as tie
 
--- all that was left at slot i₀ of d₀ is what is left at slot i of d
-abbrev Left : List ℕ → ℕ → List ℕ → ℕ → List ℕ → ℕ → Type 0
-Left ws n d₀ i₀ d i =
-    (i ≤ n) × (length d ≡ length d₀)
-    × (sets d₀ (40 + i₀) (table (maskValue ws) i₀ (n - i₀)) ≡ sets d (40 + i) (table (maskValue ws) i (n - i)))
-
 abbrev Inv-loop : tie.InvT-loop
-Inv-loop out₀ n words rows i₀ out i = (i % 64 ≡ 0) × Left words n out₀ 0 out i
+Inv-loop out₀ n words rows i₀ out i = (i % 64 ≡ 0) × SlotsLeft (maskValue words) n out₀ 0 out i
 
 abbrev μ-loop : tie.MeasureT-loop
 μ-loop out₀ n words rows i₀ out i = n - i
 
 abbrev Inv-loop2 : tie.InvT-loop2
-Inv-loop2 out₀ n words i₀ bits out i = (64 * (n / 64) ≤ i) × Left words n out₀ i₀ out i
+Inv-loop2 out₀ n words i₀ bits out i = (64 * (n / 64) ≤ i) × SlotsLeft (maskValue words) n out₀ i₀ out i
 
 abbrev μ-loop2 : tie.MeasureT-loop2
 μ-loop2 out₀ n words i₀ bits out i = n - i
@@ -42,7 +33,9 @@ bit-rows-requires : tie.Need-bit-rows-requires Inv-loop μ-loop Inv-loop2 μ-loo
 bit-rows-requires c κs = search needs
 
 loop-holds : tie.Need-loop-holds Inv-loop μ-loop Inv-loop2 μ-loop2
-loop-holds c = (refl, (omega arith, refl, refl))
+loop-holds c =
+    let a = c .before .before .before .args in
+    (refl, slots-start (maskValue (a .words .now)) (a .n) (a .out .now) 0 (omega arith))
 
 sub-loop : tie.Need-sub-loop Inv-loop μ-loop Inv-loop2 μ-loop2
 sub-loop c = search needs
@@ -71,16 +64,9 @@ loop-again c =
     let w = p .before .before .before .before in
     let l = w .before .loop in
     let a = start w .args in
-    let f : ℕ → ℕ = maskValue (a .words .now) in
-    let put : p .put-word .last .0 ≡ sets (l .out) (40 + l .i) (table f (l .i) 64) =
-    p .put-word .ensures ∙ ap (sets (l .out) (40 + l .i)) (word-of-mask (a .words .now) (l .i) (l .inv .0)) in
-    let left = sets-table-part f 40 (a .n) (l .i) 64 (l .out) (omega (arith, l .inv .1 .0, w .loop-test .taken)) in (
+    let is = word-of-mask (a .words .now) (l .i) (l .inv .0) in (
       omega (arith, l .inv .0),
-      (
-        omega (arith, l .inv .1 .0, w .loop-test .taken),
-        ap length put ∙ length-sets (l .out) (40 + l .i) (table f (l .i) 64) ∙ l .inv .1 .1,
-        l .inv .1 .2 ∙ left ∙ ap (λ (d : List ℕ). sets d (40 + (l .i + 64)) (table f (l .i + 64) (a .n - (l .i + 64)))) (sym put),
-      ),
+      slots-word (maskValue (a .words .now)) (a .n) (l .inv .1) _ _ (w .loop-test .taken) (p .put-word .ensures) is,
     )
 
 last-bits-requires : tie.Need-last-bits-requires Inv-loop μ-loop Inv-loop2 μ-loop2
@@ -90,7 +76,10 @@ loop2-holds : tie.Need-loop2-holds Inv-loop μ-loop Inv-loop2 μ-loop2
 loop2-holds c =
     let w = c .before .before in
     let l = w .before .loop in
-    (omega (arith, l .inv .0, l .inv .1 .0, w .loop-test .left), (search needs, refl, refl))
+    let a = w .before .before .before .before .before .args in (
+      omega (arith, l .inv .0, l .inv .1 .inside, w .loop-test .left),
+      slots-start (maskValue (a .words .now)) (a .n) (l .out) (l .i) (l .inv .1 .inside),
+    )
 
 array-read-out : tie.Need-array-read-out Inv-loop μ-loop Inv-loop2 μ-loop2
 array-read-out c = search needs
@@ -101,7 +90,8 @@ add-out c = search needs
 slice-write-out : tie.Need-slice-write-out Inv-loop μ-loop Inv-loop2 μ-loop2
 slice-write-out c =
     let l = c .before in
-    omega (arith, start2 c .pre .1, c .loop2-test .taken, l .loop2 .inv .1 .1, l .before .before .before .before .loop .inv .1 .1)
+    let words = l .before .before .before .before .loop .inv .1 in
+    omega (arith, start2 c .pre .1, c .loop2-test .taken, l .loop2 .inv .1 .same, words .same)
 
 add-i-2 : tie.Need-add-i-2 Inv-loop μ-loop Inv-loop2 μ-loop2
 add-i-2 c = search needs
@@ -114,11 +104,9 @@ loop2-again c =
     let b = c .before .before in
     let l = c .before .loop2 in
     let a = start2 c .args in
-    let bit = last-bit _ (a .words .now) (a .n) (l .i) (b .last-bits .ensures) (l .inv .0) (c .loop2-test .taken) in
-    let more = sets-table-more (maskValue (a .words .now)) 40 (a .n) (l .i) (l .out) (c .loop2-test .taken) in (
-      omega (arith, l .inv .0),
-      (omega (arith, c .loop2-test .taken), simp length-set (l .inv .1 .1), l .inv .1 .2 ∙ more ∙ rw bit),
-    )
+    let more = c .loop2-test .taken in
+    let bit = last-bit _ (a .words .now) (a .n) (l .i) (b .last-bits .ensures) (l .inv .0) more in
+    (omega (arith, l .inv .0), slots-one (maskValue (a .words .now)) (a .n) (l .inv .1) _ more bit)
 
 same-length : tie.Need-same-length Inv-loop μ-loop Inv-loop2 μ-loop2
 same-length c = search needs
@@ -128,12 +116,7 @@ returns c =
     let l = c .before in
     let k = l .before .before .before .before in
     let a = k .before .before .before .before .args in
-    let f : ℕ → ℕ = maskValue (a .words .now) in
-    sym
-    (sets-table-start f 40 (a .n) (a .out .now)
-    ∙ k .loop .inv .1 .2
-    ∙ l .loop2 .inv .1 .2
-    ∙ sets-table-end f 40 (a .n) (l .loop2 .i) (l .loop2 .out) (omega (arith, c .loop2-test .left)))
+    slots-end (maskValue (a .words .now)) (a .n) (k .loop .inv .1) (l .loop2 .inv .1) (c .loop2-test .left)
 
 pub put-bits-spec : {M : Type 1} → statement M
 put-bits-spec =

@@ -1,4 +1,5 @@
--- Proves pciv_mask_bytes::bits::put_word. Invariant: what is left to write are the bits from j on, a multiple of eight. Falls: 64 - j.
+-- Proves pciv_mask_bytes::bits::put_word. Invariant: what is left to write are the bits from j on, a multiple of eight.
+-- Falls: 64 - j.
 use mathlib.Core.Path.{_≡_, refl, sym, ap, _∙_}
 use Prim.Native.Nat.{ℕ, _+_, _-_, _%_, _≤_}
 use native.Mathlib.Omega.{arith}
@@ -35,7 +36,9 @@ eight-bits-requires : tie.Need-eight-bits-requires Inv-loop μ-loop
 eight-bits-requires c κs = search needs
 
 put-row-requires : tie.Need-put-row-requires Inv-loop μ-loop
-put-row-requires c κs = (c .before .before .before .before .before .pre .0, omega (arith, c .eight-bits .ensures), search needs)
+put-row-requires c κs =
+    let s = c .before .before .before .before .before in
+    (s .pre .0, omega (arith, c .eight-bits .ensures), search needs)
 
 add-j : tie.Need-add-j Inv-loop μ-loop
 add-j c = search needs
@@ -51,14 +54,16 @@ loop-again c =
     let l = w .before .loop in
     let a = w .before .before .before .args in
     let f : ℕ → ℕ = bitAt (a .word) in
+    let row = ap bitsRow (e .eight-bits .ensures) ∙ row-of-word (a .word) (l .j) in
     let put : p .put-row .last .0 ≡ sets (l .out) (a .at + l .j) (table f (l .j) 8) =
-    p .put-row .ensures ∙ ap (sets (l .out) (a .at + l .j)) (ap bitsRow (e .eight-bits .ensures) ∙ row-of-word (a .word) (l .j)) in
+    p .put-row .ensures ∙ ap (sets (l .out) (a .at + l .j)) row in
     let fits : l .j + 8 ≤ 64 = omega (arith, w .loop-test .taken, l .inv .1) in
-    let left = sets-table-part f (a .at) 64 (l .j) 8 (l .out) fits in (
+    let left = sets-table-part f (a .at) 64 (l .j) 8 (l .out) fits in
+    let next : ℕ = l .j + 8 in (
       fits,
       omega (arith, l .inv .1),
       ap length put ∙ length-sets (l .out) (a .at + l .j) (table f (l .j) 8) ∙ l .inv .2,
-      l .inv .3 ∙ left ∙ ap (λ (d : List ℕ). sets d (a .at + (l .j + 8)) (table f (l .j + 8) (64 - (l .j + 8)))) (sym put),
+      l .inv .3 ∙ left ∙ ap (λ (d : List ℕ). sets d (a .at + next) (table f next (64 - next))) (sym put),
     )
 
 same-length : tie.Need-same-length Inv-loop μ-loop

@@ -26,7 +26,8 @@ mul-row c = search needs
 loop-holds : tie.Need-loop-holds Inv-loop μ-loop
 loop-holds c =
     let a = c .args in
-    (omega arith, refl, ap (sets (a .out .now) (a .at)) (bitsRow-table (a .b)) ∙ sets-table-start (bitAt (a .b)) (a .at) 8 (a .out .now))
+    let all = sets-table-start (bitAt (a .b)) (a .at) 8 (a .out .now) in
+    (omega arith, refl, ap (sets (a .out .now) (a .at)) (bitsRow-table (a .b)) ∙ all)
 
 add-out : tie.Need-add-out Inv-loop μ-loop
 add-out c = search needs
@@ -53,7 +54,8 @@ loop-again c =
     let a = s .args in
     let more = sets-table-more (bitAt (a .b)) (a .at) 8 (l .j) (l .out) (omega arith) in
     let is : getD (a .rows .now) (8 * a .b + l .j) 0 ≡ bitAt (a .b) (l .j) =
-    ap (λ (r : List ℕ). getD r (8 * a .b + l .j) 0) (s .pre .0) ∙ bitRows-at (a .b) (l .j) (omega arith) (omega arith) in
+    ap (λ (r : List ℕ). getD r (8 * a .b + l .j) 0) (s .pre .0)
+    ∙ bitRows-at (a .b) (l .j) (omega arith) (omega arith) in
     (omega arith, simp length-set (l .inv .1), l .inv .2 ∙ more ∙ rw is)
 
 same-length : tie.Need-same-length Inv-loop μ-loop

@@ -1,5 +1,5 @@
--- Proves pciv_mask_threshold::entries::select_entries. Invariant: out has at its front the mask that the first j entries make. Falls: k - j.
--- The reasoning on masks is in EntryBitsLaws.antt.
+-- Proves pciv_mask_threshold::entries::select_entries. Invariant: out has at its front the mask that the first j
+-- entries make. Falls: k - j. The reasoning on masks is in EntryBitsLaws.antt.
 use mathlib.Core.Path.{_≡_, refl, ap, _∙_}
 use Prim.Native.Nat.{ℕ, _+_, _-_, _≤_, _<_}
 use native.Mathlib.Omega.{arith}
@@ -7,14 +7,15 @@ use mathlib.Core.Bool.{Bool, not}
 use lib.ListN.{length, length-set}
 use lib.Seq.{sets}
 use lib.Dec.{leb}
-use Rattle.pciv_bytes.proofs.SumLaws.{boolByte-flag}
+use Rattle.pciv_bytes.proofs.RangesLaws.{boolByte-flag}
 use Rattle.pciv_format.specs.Mask.{maskLen, maskOf}
 use Rattle.pciv_format.specs.Parts.{Parts}
 use Rattle.pciv_format.specs.Check.{fileParts}
 use Rattle.pciv_format.proofs.PartsLaws.{entry-good}
 use Rattle.pciv_format.proofs.MapLaws.{entry-inside}
 use Rattle.pciv_mask_threshold.specs.Select.{selected}
-use Rattle.pciv_mask_threshold.proofs.EntryBitsLaws.{settled, settled-start, settled-more, settled-end, flip-front, mask-over, mask-again}
+use Rattle.pciv_mask_threshold.proofs.EntryBitsLaws.{settled, settled-start, settled-more}
+use Rattle.pciv_mask_threshold.proofs.EntryBitsLaws.{settled-end, flip-front, mask-over, mask-again}
 use borrow.Author.Needs.{needs}
 use Rattle.pciv_mask_threshold.proofs.entries.select_entries.Statement.{statement}
 use Rattle.pciv_mask_threshold.proofs.entries.select_entries.Tie as tie
@@ -46,12 +47,15 @@ start : (c : tie.After-fill Inv-loop μ-loop)
     → maskOf (parts c .n) (alike c)
     ≡ maskOf (parts c .n) (settled (parts c) (entry c .args .limit) (entry c .args .negated) 0)
 start c =
-    settled-start (parts c) (entry c .pre .0 .parts) (bytes c) (entry c .args .limit) (entry c .pre .1 .0) (entry c .args .negated)
+    let s = entry c in
+    settled-start (parts c) (s .pre .0 .parts) (bytes c) (s .args .limit) (s .pre .1 .0) (s .args .negated)
 
 -- entry j has its slot in the map, and its word in out
 inside : (d : tie.At-loop Inv-loop μ-loop) → d .loop .j < parts (d .before .before .before) .k
     → parts (d .before .before .before) .slot (d .loop .j) < parts (d .before .before .before) .n
-inside d h = entry-good (parts (d .before .before .before)) (entry (d .before .before .before) .pre .0 .parts) (d .loop .j) h .inside
+inside d h =
+    let w = d .before .before .before in
+    entry-good (parts w) (entry w .pre .0 .parts) (d .loop .j) h .inside
 
 long : (d : tie.At-loop Inv-loop μ-loop) → maskLen (parts (d .before .before .before) .n) ≤ length (d .loop .out)
 long d = omega (arith, d .loop .inv .1, d .loop .inv .2)
@@ -62,7 +66,12 @@ fill-requires c κs = search needs
 loop-holds : tie.Need-loop-holds Inv-loop μ-loop
 loop-holds c =
     let w = c .before .before in
-    (omega arith, refl, omega (arith, entry w .pre .1 .1, w .fill .kept), mask-again _ _ (parts w .n) (alike w) (settled (parts w) (entry w .args .limit) (entry w .args .negated) 0) (w .fill .ensures) (start w))
+    let first : ℕ → Bool = settled (parts w) (entry w .args .limit) (entry w .args .negated) 0 in (
+      omega arith,
+      refl,
+      omega (arith, entry w .pre .1 .1, w .fill .kept),
+      mask-again _ _ (parts w .n) (alike w) first (w .fill .ensures) (start w),
+    )
 
 entry-slot-requires : tie.Need-entry-slot-requires Inv-loop μ-loop
 entry-slot-requires c κs =
@@ -109,14 +118,16 @@ loop-again c =
     let a = entry w .args in
     let P = parts w in
     let j = d .loop .j in
-    let here : j < P .k = omega arith in (
+    let here : j < P .k = omega arith in
+    let s = entry w in
+    let more = settled-more P (s .pre .0 .parts) (bytes w) (a .limit) (s .pre .1 .0) (a .negated) j here in (
       omega arith,
       simp length-set (d .loop .inv .1),
       d .loop .inv .2,
       rw (d .loop .inv .3, c .before .before .entry-slot .ensures, c .before .entry-distance .ensures)
           (flip-front _ (a .n) (settled P (a .limit) (a .negated) j) (P .slot j) (leb (a .limit) (P .distance j)) _
           (boolByte-flag (leb (a .limit) (P .distance j))) (d .loop .inv .2) (inside d here)
-          ∙ ap (sets _ 0) (settled-more P (entry w .pre .0 .parts) (bytes w) (a .limit) (entry w .pre .1 .0) (a .negated) j here)),
+          ∙ ap (sets _ 0) more),
     )
 
 same-length : tie.Need-same-length Inv-loop μ-loop
@@ -129,11 +140,12 @@ returns c =
     let a = entry w .args in
     let P = parts w in
     let all : d .loop .j ≡ a .k = omega arith in
-    let end : maskOf (a .n) (settled P (a .limit) (a .negated) (d .loop .j)) ≡ maskOf (a .n) (selected P (a .limit) (a .negated)) =
+    let wanted : ℕ → Bool = selected P (a .limit) (a .negated) in
+    let end : maskOf (a .n) (settled P (a .limit) (a .negated) (d .loop .j)) ≡ maskOf (a .n) wanted =
     rw all (settled-end P (entry w .pre .0 .parts) (bytes w) (a .limit) (entry w .pre .1 .0) (a .negated)) in
     d .loop .inv .3
     ∙ ap (sets _ 0) end
-    ∙ mask-over _ _ (a .n) (alike w) (selected P (a .limit) (a .negated)) (w .fill .ensures)
+    ∙ mask-over _ _ (a .n) (alike w) wanted (w .fill .ensures)
 
 pub select-entries-spec : {M : Type 1} → statement M
 select-entries-spec =

@@ -32,7 +32,8 @@ loop-again c =
 add-sum : tie.Need-add-sum Inv-loop μ-loop
 add-sum c =
     let a = c .before .before .before .before .before .args in
-    omega (arith, loop-again c .rest, sumFrom-flag-le (λ i. passes (a .test) (byteAt (a .a .now) i)) (a .from) (a .to - a .from))
+    let most = sumFrom-flag-le (λ i. passes (a .test) (byteAt (a .a .now) i)) (a .from) (a .to - a .from) in
+    omega (arith, loop-again c .rest, most)
 
 add-i : tie.Need-add-i Inv-loop μ-loop
 add-i c = search needs

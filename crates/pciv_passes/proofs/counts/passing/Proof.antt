@@ -1,6 +1,6 @@
 -- Proves pciv_passes::counts::passing in each case the flag is that of the case's test.
 use lib.Dec.{leb, eqb}
-use Rattle.pciv_bytes.proofs.SumLaws.{boolByte-flag}
+use Rattle.pciv_bytes.proofs.RangesLaws.{boolByte-flag}
 use borrow.Author.Needs.{needs}
 use Rattle.pciv_passes.proofs.counts.passing.Statement.{statement}
 use Rattle.pciv_passes.proofs.counts.passing.Tie as tie

@@ -7,7 +7,8 @@ use Rattle.pciv_bytes.specs.Ranges.{flag}
 use Rattle.pciv_passes.specs.Counts.{passes}
 use Rattle.pciv_passes.specs.Extremes.{leastAt, mostAt}
 use Rattle.pciv_passes.specs.declared.counts.Term.the-variants.{Passing}
-use Rattle.pciv_passes.proofs.ExtremesLaws.{Progress, progress-start, progress-least, progress-most, progress-one, progress-end, counts-le}
+use Rattle.pciv_passes.proofs.ExtremesLaws.{Progress, progress-start, progress-least, progress-most}
+use Rattle.pciv_passes.proofs.ExtremesLaws.{progress-one, progress-end, counts-le}
 use Rattle.pciv_passes.proofs.extremes.count_block.Statement.{statement}
 use Rattle.pciv_passes.proofs.extremes.count_block.Tie as tie
 
@@ -58,9 +59,10 @@ add-least c =
     let l = at-loop c in
     let s = l .before .before .before in
     let a = s .args in
+    let more = c .before .before .before .before .loop-test .taken in
     omega (
       arith,
-      progress-least (l .loop .inv) (c .before .before .before .before .loop-test .taken) (c .passing .result) (least-is c),
+      progress-least (l .loop .inv) more (c .passing .result) (least-is c),
       counts-le (a .test) (a .a .now) (a .b .now) (a .from) (a .to - a .from) .0,
       s .pre .0 .short,
     )
@@ -82,9 +84,10 @@ add-most c =
     let l = at-loop (first c) in
     let s = l .before .before .before in
     let a = s .args in
+    let more = first c .before .before .before .before .loop-test .taken in
     omega (
       arith,
-      progress-most (l .loop .inv) (first c .before .before .before .before .loop-test .taken) (c .passing2 .result) (most-is c),
+      progress-most (l .loop .inv) more (c .passing2 .result) (most-is c),
       counts-le (a .test) (a .a .now) (a .b .now) (a .from) (a .to - a .from) .1,
       s .pre .0 .short,
     )
@@ -97,7 +100,9 @@ loop-less c = search needs
 
 loop-again : tie.Need-loop-again Inv-loop μ-loop
 loop-again c =
-    progress-one (at-loop (first c) .loop .inv) (first c .before .before .before .before .loop-test .taken) _ _ (least-is (first c)) (most-is c)
+    let f = first c in
+    let more = f .before .before .before .before .loop-test .taken in
+    progress-one (at-loop f .loop .inv) more _ _ (least-is f) (most-is c)
 
 returns : tie.Need-returns Inv-loop μ-loop
 returns c = progress-end (c .before .loop .inv) (c .loop-test .left)

@@ -5,7 +5,8 @@ use borrow.Author.Needs.{needs}
 use Rattle.pciv_bytes.specs.Ranges.{sumFrom}
 use Rattle.pciv_passes.specs.Extremes.{leastAt, mostAt}
 use Rattle.pciv_passes.specs.declared.counts.Term.the-variants.{Byte}
-use Rattle.pciv_passes.proofs.ExtremesLaws.{Progress, progress-start, progress-least, progress-most, progress-one, progress-end, sums-le}
+use Rattle.pciv_passes.proofs.ExtremesLaws.{Progress, progress-start, progress-least, progress-most}
+use Rattle.pciv_passes.proofs.ExtremesLaws.{progress-one, progress-end, sums-le}
 use Rattle.pciv_passes.proofs.extremes.sum_block.Statement.{statement}
 use Rattle.pciv_passes.proofs.extremes.sum_block.Tie as tie
 

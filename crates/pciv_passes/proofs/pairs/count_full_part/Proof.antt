@@ -5,7 +5,8 @@ use lib.Dec.{eqb}
 use borrow.Author.Needs.{needs}
 use Rattle.pciv_bytes.specs.Ranges.{sumFrom}
 use Rattle.pciv_passes.specs.Pairs.{pairAt, fullAt}
-use Rattle.pciv_bytes.proofs.SumLaws.{boolByte-flag, sumFrom-flag-le, Added, added-none, added-one, added-all}
+use Rattle.pciv_bytes.proofs.RangesLaws.{boolByte-flag}
+use Rattle.pciv_bytes.proofs.SumLaws.{sumFrom-flag-le, Added, added-none, added-one, added-all}
 use Rattle.pciv_passes.proofs.pairs.count_full_part.Statement.{statement}
 use Rattle.pciv_passes.proofs.pairs.count_full_part.Tie as tie
 

@@ -1,5 +1,5 @@
--- Proves pciv_passes::pairs::map_into. Invariant: writing all results from `at` on is writing the rest of them from at + i on.
--- Falls: length a - i.
+-- Proves pciv_passes::pairs::map_into. Invariant: writing all results from `at` on is writing the rest of them from
+-- at + i on. Falls: length a - i.
 use Prim.Native.Nat.{ℕ, _+_, _-_, _≤_}
 use native.Mathlib.Omega.{arith}
 use mathlib.Core.Path.{_≡_, refl, sym, _∙_}
@@ -24,7 +24,8 @@ abbrev μ-loop : tie.MeasureT-loop
 loop-holds : tie.Need-loop-holds Inv-loop μ-loop
 loop-holds c =
     let a = c .before .before .args in
-    (search needs, refl, sets-table-start (oneAt (a .op) (a .a .now) (a .x)) (a .at) (length (a .a .now)) (a .out .now))
+    let start = sets-table-start (oneAt (a .op) (a .a .now) (a .x)) (a .at) (length (a .a .now)) (a .out .now) in
+    (search needs, refl, start)
 
 shared-slice-read-byte-op : tie.Need-shared-slice-read-byte-op Inv-loop μ-loop
 shared-slice-read-byte-op c = search needs

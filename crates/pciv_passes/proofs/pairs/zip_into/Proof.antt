@@ -1,9 +1,9 @@
--- Proves pciv_passes::pairs::zip_into. Invariant: writing all results from `at` on is writing the rest of them from at + i on.
--- Falls: length a - i.
+-- Proves pciv_passes::pairs::zip_into. Invariant: writing all results from `at` on is writing the rest of them from
+-- at + i on. Falls: length a - i.
 use Prim.Native.Nat.{ℕ, _+_, _-_, _≤_}
 use native.Mathlib.Omega.{arith}
-use mathlib.Core.Path.{_≡_, refl, sym, ap, _∙_}
-use lib.ListN.{length, set, length-set}
+use mathlib.Core.Path.{_≡_, refl, sym, _∙_}
+use lib.ListN.{length, length-set}
 use lib.Seq.{sets}
 use borrow.Author.Needs.{needs}
 use Rattle.pciv_bytes.specs.Ranges.{table}
@@ -24,7 +24,8 @@ abbrev μ-loop : tie.MeasureT-loop
 loop-holds : tie.Need-loop-holds Inv-loop μ-loop
 loop-holds c =
     let a = c .before .before .before .args in
-    (search needs, refl, sets-table-start (pairAt (a .op) (a .a .now) (a .b .now)) (a .at) (length (a .a .now)) (a .out .now))
+    let start = sets-table-start (pairAt (a .op) (a .a .now) (a .b .now)) (a .at) (length (a .a .now)) (a .out .now) in
+    (search needs, refl, start)
 
 shared-slice-read-byte-op : tie.Need-shared-slice-read-byte-op Inv-loop μ-loop
 shared-slice-read-byte-op c = search needs

@@ -1,5 +1,4 @@
 -- Proves pciv_slot::change::change_entries: by the distance.
-use native.Mathlib.Omega.{arith}
 use borrow.Author.Tests.{lt-ltb, le-ltb}
 use Rattle.pciv_slot.specs.Change.{changed}
 use borrow.Author.Needs.{needs}
@@ -12,9 +11,9 @@ cast-if1 c = search needs
 take-out-requires : tie.Need-take-out-requires
 take-out-requires c κs =
     let entry = c .before .before .before in
-    let near = c .before .if1 .taken in
-    let space = entry .pre .leaves near in
-    ((entry .pre .inside, space .0, space .1), near)
+    let inline = c .before .if1 .taken in
+    let space = entry .pre .leaves inline in
+    ((entry .pre .inside, space .0, space .1), inline)
 
 put-in-requires : tie.Need-put-in-requires
 put-in-requires c κs =

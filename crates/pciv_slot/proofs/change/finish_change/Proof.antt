@@ -1,5 +1,6 @@
 -- Proves pciv_slot::change::finish_change.
 use mathlib.Core.Path.{_∙_}
+use Rattle.pciv_slot.specs.Change.{finished}
 use borrow.Author.Needs.{needs}
 use Rattle.pciv_slot.proofs.change.finish_change.Statement.{statement}
 use Rattle.pciv_slot.proofs.change.finish_change.Tie as tie
@@ -20,6 +21,7 @@ same-length : tie.Need-same-length
 same-length c = search needs
 
 returns : tie.Need-returns
+unfolding finished
 returns c =
     let cleared = c .before .before in
     let old = cleared .before in

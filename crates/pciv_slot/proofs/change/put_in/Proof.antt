@@ -3,7 +3,7 @@ use mathlib.Core.Path.{_∙_}
 use native.Mathlib.Omega.{arith}
 use lib.ListN.{length-set}
 use Rattle.pciv_slot.specs.Change.{putIn}
-use Rattle.pciv_slot.proofs.CrossLaws.{put-in}
+use Rattle.pciv_slot.proofs.ChangeLaws.{put-in}
 use borrow.Author.Needs.{needs}
 use Rattle.pciv_slot.proofs.change.put_in.Statement.{statement}
 use Rattle.pciv_slot.proofs.change.put_in.Tie as tie
