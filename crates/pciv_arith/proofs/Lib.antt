@@ -1,1 +1,3 @@
 pub mod ArithLaws
+pub mod SignedDifferenceLaws
+pub mod ShiftLaws

@@ -1,10 +1,13 @@
 -- A file written part by part is the file.
 --   sets-two            a number of eight bytes, and then more; sets-header the header so
 --   begin-short, -fits  what `begin` answers and leaves
---   begun               what follows where it is done
+--   Begun, begun        what is known where it is done
+--   begin-refused       where it is refused, the buffer stays
 --   begin-is            it answers what writing the whole file answers
+--   length-built        the length of the file, by the counted number of slots in overflow
 --   built               header, primary array, overflow entries and the index read off them are the file
---   built-done, built-refused    the same as the buffer that writing the file leaves
+--   built-done, -refused    the same as the buffer that writing the file leaves
+-- Axioms: none.
 use mathlib.Core.Path.{_≡_, refl, sym, ap, _∙_}
 use Prim.Native.Nat.{ℕ, suc, _+_, _*_, _≤_, _<_}
 use native.Mathlib.Nat.{zero-add, add-assoc}
@@ -22,16 +25,20 @@ use Rattle.pciv_bytes.proofs.PositionsLaws.{positions-at}
 use Rattle.pciv_bytes.proofs.JoinedLaws.{joined-cong, joined-piece}
 use Rattle.pciv_bytes.proofs.LittleEndianLaws.{length-le, get-past, get-at}
 use Rattle.pciv_bytes.proofs.WriteLaws.{sets-append, sets-front}
-use Rattle.pciv_format.specs.Layout.{maxSlots, magic, inOverflow, indexStep, indexLen, fileLen, primary, overflowSlots, overflowCount, overflowEntry, overflowPart, indexEntry, indexPart, header, file, countsOf, summary}
+use Rattle.pciv_format.specs.Layout.{maxSlots, magic, inOverflow, indexStep, indexLen, fileLen, primary}
+use Rattle.pciv_format.specs.Layout.{overflowSlots, overflowCount, overflowEntry, overflowPart, indexEntry}
+use Rattle.pciv_format.specs.Layout.{indexPart, header, file, countsOf, summary}
 use Rattle.pciv_format.specs.Refusals.{Outcome, done, refused, refuse}
 use Rattle.pciv_format.specs.Write.{fileInto, fileBuffer}
 use Rattle.pciv_format.specs.declared.Summary.{Summary}
 use Rattle.pciv_format.specs.declared.Refusal.{Refusal}
 use Rattle.pciv_format.proofs.RefusalsLaws.{refuseIf-done}
-use Rattle.pciv_format.proofs.LayoutLaws.{index-inside, fileLen-is, length-header, length-primary, length-overflowEntry, length-overflowPart, length-file}
+use Rattle.pciv_format.proofs.LayoutLaws.{index-inside, fileLen-is, length-header, length-primary}
+use Rattle.pciv_format.proofs.LayoutLaws.{length-overflowEntry, length-overflowPart, length-file}
 use Rattle.pciv_build.specs.Build.{beginOutcome, beginBuffer, indexEntryFrom, indexFrom}
 
-pub sets-two : (x : ℕ) (b d d₁ d₂ : List ℕ) (at next : ℕ) → next ≡ at + 8 → d₁ ≡ sets d at (le 8 x) → d₂ ≡ sets d₁ next b
+pub sets-two : (x : ℕ) (b d d₁ d₂ : List ℕ) (at next : ℕ) → next ≡ at + 8 → d₁ ≡ sets d at (le 8 x)
+    → d₂ ≡ sets d₁ next b
     → d₂ ≡ sets d at (le 8 x ++ b)
 sets-two x b d d₁ d₂ at next n e₁ e₂ =
     e₂ ∙ rw (e₁, n) (sym (sets-append (le 8 x) b d at ∙ rw (length-le 8 x)))
@@ -79,7 +86,8 @@ begun n k d s e =
       buffer = begin-fits n k d fits .1;
     }
 
-pub begin-refused : (n k : ℕ) (d : List ℕ) (r : Refusal) → beginOutcome n k (length d) ≡ refused r → beginBuffer n k d ≡ d
+pub begin-refused : (n k : ℕ) (d : List ℕ) (r : Refusal) → beginOutcome n k (length d) ≡ refused r
+    → beginBuffer n k d ≡ d
 begin-refused n k d r e =
     elim (decLe (fileLen n k) (length d)) [
       | yes fits ↦ (let t = begin-fits n k d fits .0 in let z : _≡_ {A = ℕ} 0 1 = cc in absurd (omega arith))
@@ -97,7 +105,8 @@ unfolding frontOf
 length-frontOf n v = simp (length-append, length-header, length-primary, length-overflowPart) (omega arith)
 
 sets-frontOf : (n : ℕ) (v : ℕ → ℕ) (d : List ℕ)
-    → sets (sets (sets d 0 (header n (overflowCount n v))) 40 (primary n v)) (40 + n) (overflowPart n v) ≡ sets d 0 (frontOf n v)
+    → sets (sets (sets d 0 (header n (overflowCount n v))) 40 (primary n v)) (40 + n) (overflowPart n v)
+    ≡ sets d 0 (frontOf n v)
 unfolding frontOf
 sets-frontOf n v d =
     let H : List ℕ = header n (overflowCount n v) in
@@ -120,7 +129,8 @@ slot-inside n v j h = omega (arith, positions-at (λ (i : ℕ). inOverflow (v i)
 
 module _ (n : ℕ) (v : ℕ → ℕ) (few : n ≤ maxSlots) (q : List ℕ) where
   -- the slot of entry j
-  slot-read : (j : ℕ) → j < overflowCount n v → get 8 (frontOf n v ++ q) (40 + n + 12 * j) ≡ getD (overflowSlots n v) j 0
+  slot-read : (j : ℕ) → j < overflowCount n v
+      → get 8 (frontOf n v ++ q) (40 + n + 12 * j) ≡ getD (overflowSlots n v) j 0
   unfolding frontOf overflowPart overflowEntry overflowCount
   slot-read j h =
       let H : List ℕ = header n (overflowCount n v) in
@@ -152,14 +162,17 @@ module _ (n : ℕ) (v : ℕ → ℕ) (few : n ≤ maxSlots) (q : List ℕ) where
       let inside : i * indexStep k < k = rw same (index-inside k j here) in
       ap (λ (s : ℕ). le 8 s ++ le 8 (i * indexStep k)) (slot-read (i * indexStep k) inside)))
 
-  whole : (d D : List ℕ) → q ≡ drop (length (frontOf n v)) d → fileLen n (overflowCount n v) ≤ length d → D ≡ sets d 0 (frontOf n v)
-      → sets D (40 + n + 12 * overflowCount n v) (indexFrom D n (overflowCount n v)) ≡ file n v ++ drop (length (file n v)) d
+  whole : (d D : List ℕ) → q ≡ drop (length (frontOf n v)) d → fileLen n (overflowCount n v) ≤ length d
+      → D ≡ sets d 0 (frontOf n v)
+      → sets D (40 + n + 12 * overflowCount n v) (indexFrom D n (overflowCount n v)) ≡ file n v
+      ++ drop (length (file n v)) d
   whole d D tail fits is =
       let F : List ℕ = frontOf n v in
       let I : List ℕ = indexPart (overflowSlots n v) in
       let k : ℕ = overflowCount n v in
       let long : length F ≡ 40 + n + 12 * k = length-frontOf n v in
-      let split : D ≡ F ++ q = is ∙ sets-front F d (omega (arith, fileLen-is n k)) ∙ ap (λ (l : List ℕ). F ++ l) (sym tail) in
+      let split : D ≡ F ++ q = is ∙ sets-front F d (omega (arith, fileLen-is n k))
+      ∙ ap (λ (l : List ℕ). F ++ l) (sym tail) in
       let index : indexFrom D n k ≡ I = ap (λ (l : List ℕ). indexFrom l n k) split ∙ indexFrom-is in
       rw (index, is, ← long)
       (sym (sets-append F I d 0 ∙ ap (λ (j : ℕ). sets (sets d 0 F) j I) (zero-add (length F)))
@@ -181,7 +194,8 @@ module _ (n k : ℕ) (v : ℕ → ℕ) (count : k ≡ overflowCount n v) where
         → sets D (40 + n + 12 * k) (indexFrom D n k) ≡ file n v ++ drop (length (file n v)) d
     built d D fits is =
         rw count
-        (whole n v few (drop (length (frontOf n v)) d) d D refl (rw count at fits) ((rw count at is) ∙ sets-frontOf n v d))
+        (whole n v few (drop (length (frontOf n v)) d) d D refl (rw count at fits)
+        ((rw count at is) ∙ sets-frontOf n v d))
 
     -- the buffer after each of the parts
     pub built-done : (d d₁ d₂ d₃ d₄ : List ℕ) (s : Summary) → beginOutcome n k (length d) ≡ done s

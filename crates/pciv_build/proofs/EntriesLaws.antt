@@ -1,11 +1,17 @@
 -- The overflow entries, written one a step in the order of their slots.
---   slotsFrom-..   of the slots in overflow that are left; entries-.. of a walk that writes their entries
---   Counted        the invariant of a walk that counts them; counted-.. its laws
---   -start, -more, -skip, -gap, -end
---                  before the first slot; past a slot in overflow; past one that is not; past all slots up
---                  to s, none of which is in overflow; after the last slot
---   entries-over   where an entry is left, something else is written in its place first
---   entries-done   where no slot in overflow is left;  rest-before  what stands before the entries stays as it was
+--   slotsFrom-is, -start, -more, -skip, -gap, -end    the slots in overflow that are left
+--   count-slotsFrom     their number at first
+--   entries-start, -more, -skip, -gap, -end           a walk that writes their entries
+--   Counted, counted-start, -more, -skip, -gap, -end  a walk that counts them
+--   -start, -more, -skip, -gap, -end    before the first slot; past a slot in overflow; past one that is not; past all
+--                       slots up to s, none of which is in overflow; after the last slot
+--   entries-space       there is space for the entry of a slot in overflow
+--   entries-left        by the place that is reached an entry is left;  entries-all  none is
+--   entries-over        where an entry is left, something else is written in its place first
+--   entries-done        where no slot in overflow is left
+--   rest-before         what stands before the entries stays as it was
+--   overflowCount-sum   the number of slots in overflow as a sum
+-- Axioms: none.
 use mathlib.Core.Path.{_≡_, refl, sym, ap, _∙_}
 use Prim.Native.Nat.{ℕ, zero, suc, _+_, _-_, _*_, _≤_, _<_}
 use native.Mathlib.Nat.{add-zero, sub-zero, zero-add}
@@ -52,7 +58,8 @@ module _ (n : ℕ) (v : ℕ → ℕ) where
       ∙ gap-by c (i + 1) (omega arith) (λ j h₁ h₂. none j (omega arith) (omega arith))
       ∙ ap (slotsFrom n v) (omega arith)
 
-  pub slotsFrom-gap : (i s : ℕ) → i ≤ s → s ≤ n → ((j : ℕ) → i ≤ j → j < s → v j < 255) → slotsFrom n v i ≡ slotsFrom n v s
+  pub slotsFrom-gap : (i s : ℕ) → i ≤ s → s ≤ n → ((j : ℕ) → i ≤ j → j < s → v j < 255)
+      → slotsFrom n v i ≡ slotsFrom n v s
   slotsFrom-gap i s h₁ h₂ none =
       gap-by (s - i) i (omega arith) (λ j h₃ h₄. none j h₃ (omega arith)) ∙ ap (slotsFrom n v) (omega arith)
 
@@ -70,11 +77,13 @@ entriesFrom-start : (n : ℕ) (v : ℕ → ℕ) → entriesFrom n v 0 ≡ overfl
 unfolding entriesFrom overflowPart
 entriesFrom-start n v = rw (slotsFrom-start n v)
 
-entriesFrom-more : (n : ℕ) (v : ℕ → ℕ) (i : ℕ) → i < n → 255 ≤ v i → entriesFrom n v i ≡ overflowEntry v i ++ entriesFrom n v (i + 1)
+entriesFrom-more : (n : ℕ) (v : ℕ → ℕ) (i : ℕ) → i < n → 255 ≤ v i
+    → entriesFrom n v i ≡ overflowEntry v i ++ entriesFrom n v (i + 1)
 unfolding entriesFrom joined
 entriesFrom-more n v i h overflows = rw (slotsFrom-more n v i h overflows)
 
-entriesFrom-cong : (n : ℕ) (v : ℕ → ℕ) (i s : ℕ) → slotsFrom n v i ≡ slotsFrom n v s → entriesFrom n v i ≡ entriesFrom n v s
+entriesFrom-cong : (n : ℕ) (v : ℕ → ℕ) (i s : ℕ) → slotsFrom n v i ≡ slotsFrom n v s
+    → entriesFrom n v i ≡ entriesFrom n v s
 unfolding entriesFrom
 entriesFrom-cong n v i s same = ap (joined (overflowEntry v)) same
 
@@ -101,9 +110,11 @@ overflowEntry-is v s = refl
 pub rest-before : (xs ys d₀ d : List ℕ) (p₀ p : ℕ) → p₀ ≤ p → sets d₀ p₀ xs ≡ sets d p ys → (j : ℕ) → j < p₀
     → getD d j 0 ≡ getD d₀ j 0
 rest-before xs ys d₀ d p₀ p low rest j h =
-    sym (getD-sets-below ys d p j (omega arith)) ∙ ap (λ (l : List ℕ). getD l j 0) (sym rest) ∙ getD-sets-below xs d₀ p₀ j h
+    sym (getD-sets-below ys d p j (omega arith)) ∙ ap (λ (l : List ℕ). getD l j 0) (sym rest)
+    ∙ getD-sets-below xs d₀ p₀ j h
 
-pub entries-start : (n : ℕ) (v : ℕ → ℕ) (d : List ℕ) (p : ℕ) → p + 12 * overflowCount n v ≤ length d → EntriesLeft n v d p 0 d p
+pub entries-start : (n : ℕ) (v : ℕ → ℕ) (d : List ℕ) (p : ℕ) → p + 12 * overflowCount n v ≤ length d
+    → EntriesLeft n v d p 0 d p
 entries-start n v d p h =
     record {
       inside = omega arith;
@@ -119,8 +130,15 @@ module _ {n : ℕ} {v : ℕ → ℕ} {d₀ : List ℕ} {p₀ i : ℕ} {d : List 
   pub entries-space : i < n → 255 ≤ v i → p + 12 ≤ length d
   entries-space h overflows = omega (arith, e .space, ap length (slotsFrom-more n v i h overflows))
 
+  -- an entry is left, and there is space for it
+  pub entries-left : p < p₀ + 12 * overflowCount n v → (0 < length (slotsFrom n v i)) × (p + 12 ≤ length d)
+  entries-left more =
+      let count = count-slotsFrom n v in
+      (omega (arith, e .count), omega (arith, e .count, e .space))
+
   -- the entry of slot i is written
-  pub entries-more : i < n → 255 ≤ v i → (x : ℕ) (d' : List ℕ) (p' : ℕ) → x ≡ v i → d' ≡ sets d p (le 8 i ++ le 4 x) → p' ≡ p + 12
+  pub entries-more : i < n → 255 ≤ v i → (x : ℕ) (d' : List ℕ) (p' : ℕ) → x ≡ v i → d' ≡ sets d p (le 8 i ++ le 4 x)
+      → p' ≡ p + 12
       → EntriesLeft n v d₀ p₀ (i + 1) d' p'
   entries-more h overflows x d' p' is put next =
       let same : d' ≡ sets d p (overflowEntry v i) = put ∙ rw (is, overflowEntry-is v i) in
@@ -178,8 +196,14 @@ pub entries-done : {n : ℕ} {v : ℕ → ℕ} {d₀ : List ℕ} {p₀ i : ℕ} 
 entries-done {n} {v} {d₀} {p₀} {i} {d} {p} e none =
     sym (ap (sets d₀ p₀) (sym (entriesFrom-start n v)) ∙ e .rest ∙ rw (entriesFrom-none n v i none))
 
+-- all entries are written
+pub entries-all : {n : ℕ} {v : ℕ → ℕ} {d₀ : List ℕ} {p₀ i : ℕ} {d : List ℕ} {p : ℕ} → EntriesLeft n v d₀ p₀ i d p
+    → p₀ + 12 * overflowCount n v ≤ p → d ≡ sets d₀ p₀ (overflowPart n v)
+entries-all {n} {v} e h = entries-done e (omega (arith, e .count, count-slotsFrom n v))
+
 -- no slot is left
-pub entries-end : {n : ℕ} {v : ℕ → ℕ} {d₀ : List ℕ} {p₀ i : ℕ} {d : List ℕ} {p : ℕ} → EntriesLeft n v d₀ p₀ i d p → n ≤ i
+pub entries-end : {n : ℕ} {v : ℕ → ℕ} {d₀ : List ℕ} {p₀ i : ℕ} {d : List ℕ} {p : ℕ} → EntriesLeft n v d₀ p₀ i d p
+    → n ≤ i
     → d ≡ sets d₀ p₀ (overflowPart n v)
 entries-end {n} {v} {d₀} {p₀} {i} {d} {p} e h = entries-done e (ap length (slotsFrom-end n v i h))
 
@@ -192,7 +216,12 @@ pub record Counted (n : ℕ) (v : ℕ → ℕ) (i c : ℕ) : Type 0 where
 
 pub counted-start : (n : ℕ) (v : ℕ → ℕ) → Counted n v 0 0
 counted-start n v =
-    record { inside = omega arith; below = omega arith; rest = zero-add (length (slotsFrom n v 0)) ∙ count-slotsFrom n v }
+    record {
+      inside = omega arith;
+      below = omega arith;
+      rest = zero-add (length (slotsFrom n v 0))
+          ∙ count-slotsFrom n v;
+    }
 
 module _ {n : ℕ} {v : ℕ → ℕ} {i c : ℕ} (e : Counted n v i c) where
   pub counted-more : i < n → 255 ≤ v i → Counted n v (i + 1) (c + 1)

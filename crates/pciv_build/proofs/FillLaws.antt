@@ -1,7 +1,5 @@
 -- The overflow entries of (n, v), filled in one after another where `put_slots` has written their slots.
---   positions-first    the first of some positions, and the others
---   full-is            a primary byte is 255 where the distance is in overflow
---   same-slots, same-count    so the primary bytes of v tell its slots in overflow
+--   same-count         the primary bytes of v tell its slots in overflow
 --   Filling            the invariant: the entries of the slots from i on are left, and their slots stand in the buffer
 --   Next, fill-next    the next slot in overflow is the one that stands at the next entry
 --   fill-start, -more, -end    before the first entry; one entry on; after the last
@@ -17,19 +15,20 @@ use mathlib.Core.List.{List, [], _∷_, _++_, append-assoc}
 use lib.ListN.{length, getD, set, take, drop, length-append}
 use lib.Seq.{sets, length-sets, sets-eq, drop-set-lt, length-take-le}
 use lib.Dec.{eqb}
-use borrow.Author.Tests.{le-leb, lt-leb, leb-true, leb-false, eq-eqb, ne-eqb}
+use borrow.Author.Tests.{leb-true, leb-false}
 use Rattle.pciv_bytes.specs.Ranges.{positions, joined, keepIf}
 use Rattle.pciv_bytes.specs.LittleEndian.{le, get}
 use Rattle.pciv_bytes.proofs.PositionsLaws.{positions-at, positions-cong}
 use Rattle.pciv_bytes.proofs.JoinedLaws.{joined-piece}
 use Rattle.pciv_bytes.proofs.LittleEndianLaws.{length-le, get-past, get-at}
 use Rattle.pciv_bytes.proofs.WriteLaws.{sets-over}
-use Rattle.pciv_format.specs.Layout.{maxSlots, inOverflow, primaryByte, overflowCount, overflowPart}
-use Rattle.pciv_format.proofs.PartsLaws.{primaryByte-overflow, primaryByte-inline}
+use Rattle.pciv_format.specs.Layout.{maxSlots, inOverflow, overflowCount, overflowPart}
+use Rattle.pciv_format.proofs.PartsLaws.{primaryByte-full}
 use Rattle.pciv_format.proofs.LayoutLaws.{length-overflowPart}
 use Rattle.pciv_build.specs.Entries.{slotsFrom, EntriesLeft}
 use Rattle.pciv_build.specs.Slots.{isFull, fullSlots, blankEntry, blankEntries, HoldsPrimary}
-use Rattle.pciv_build.proofs.EntriesLaws.{slotsFrom-is, count-slotsFrom, entries-start, entries-more, entries-gap, entries-done}
+use Rattle.pciv_build.proofs.EntriesLaws.{slotsFrom-is, count-slotsFrom, entries-start, entries-more}
+use Rattle.pciv_build.proofs.EntriesLaws.{entries-gap, entries-left, entries-all}
 use Rattle.pciv_build.proofs.SlotsLaws.{length-blankEntry, length-blankEntries}
 
 -- ---- the first of some positions
@@ -77,19 +76,12 @@ positions-first p (suc c) i some = first-next p i c (p i) refl some (positions-f
 
 -- ---- primary bytes tell the slots in overflow
 
-pub full-is : (x : ℕ) → eqb (primaryByte x) 255 ≡ inOverflow x
-full-is x =
-    elim (decLe 255 x) [
-      | yes d ↦ eq-eqb (primaryByte x) 255 (primaryByte-overflow x d) ∙ sym (le-leb 255 x d)
-      | no d ↦ ne-eqb (primaryByte x) 255 (λ q. omega (arith, primaryByte-inline x (omega arith))) ∙ sym (lt-leb 255 x (omega arith))
-    ]
-
 module _ (n : ℕ) (v : ℕ → ℕ) (d : List ℕ) (holds : HoldsPrimary n v d) where
   same-slots : fullSlots d 0 n ≡ slotsFrom n v 0
   same-slots =
       let all : n - 0 ≡ n = omega arith in
       positions-cong (isFull d) (λ (j : ℕ). inOverflow (v j)) 0 n
-      (λ j h₁ h₂. ap (λ (x : ℕ). eqb x 255) (holds j (omega arith)) ∙ full-is (v j))
+      (λ j h₁ h₂. ap (λ (x : ℕ). eqb x 255) (holds j (omega arith)) ∙ primaryByte-full (v j))
       ∙ sym (slotsFrom-is n v 0 ∙ ap (positions (λ (j : ℕ). inOverflow (v j)) 0) all)
 
   pub same-count : length (fullSlots d 0 n) ≡ overflowCount n v
@@ -125,7 +117,8 @@ pub record Filling (n : ℕ) (v : ℕ → ℕ) (d₀ : List ℕ) (i : ℕ) (d : 
   pub left : EntriesLeft n v d₀ (40 + n) i d at
   pub stand : (j : ℕ) → j < length (slotsFrom n v i) → get 8 d (at + 12 * j) ≡ getD (slotsFrom n v i) j 0
 
-module _ (n : ℕ) (v : ℕ → ℕ) (d₀ d : List ℕ) (holds : HoldsPrimary n v d₀) (space : 40 + n + 12 * overflowCount n v ≤ length d₀)
+module _ (n : ℕ) (v : ℕ → ℕ) (d₀ d : List ℕ) (holds : HoldsPrimary n v d₀)
+    (space : 40 + n + 12 * overflowCount n v ≤ length d₀)
     (put : d ≡ sets d₀ (40 + n) (blankEntries (fullSlots d₀ 0 n))) where
   put-is : d ≡ sets d₀ (40 + n) (blankEntries (slotsFrom n v 0))
   put-is = put ∙ rw (same-slots n v d₀ holds)
@@ -166,7 +159,7 @@ pub record Next (n : ℕ) (v : ℕ → ℕ) (i : ℕ) (d : List ℕ) (at s : ℕ
 module _ {n : ℕ} {v : ℕ → ℕ} {d₀ : List ℕ} {i : ℕ} {d : List ℕ} {at : ℕ} (e : Filling n v d₀ i d at) where
   pub fill-next : at < 40 + n + 12 * overflowCount n v → Next n v i d at (get 8 d at)
   fill-next more =
-      let some : 0 < length (slotsFrom n v i) = omega (arith, e .left .count, count-slotsFrom n v) in
+      let some : 0 < length (slotsFrom n v i) = entries-left (e .left) more .0 in
       let here : at + 12 * 0 ≡ at = omega arith in
       let read : get 8 d at ≡ getD (slotsFrom n v i) 0 0 = ap (get 8 d) (sym here) ∙ e .stand 0 some in
       rw read (first some)
@@ -183,7 +176,8 @@ module _ {n : ℕ} {v : ℕ → ℕ} {d₀ : List ℕ} {i : ℕ} {d : List ℕ} 
             inside = omega (arith, f .high, e .left .inside);
             overflows = leb-true 255 (v s) (f .has);
             clear = λ j h₁ h₂. leb-false 255 (v j) (f .clear j h₁ h₂);
-            slots = is ∙ f .rest ∙ ap (λ (l : List ℕ). s ∷ l) (ap (positions (λ (j : ℕ). inOverflow (v j)) (s + 1)) left ∙ sym (slotsFrom-is n v (s + 1)));
+            slots = is ∙ f .rest ∙ ap (λ (l : List ℕ). s ∷ l)
+                (ap (positions (λ (j : ℕ). inOverflow (v j)) (s + 1)) left ∙ sym (slotsFrom-is n v (s + 1)));
             space = omega (arith, e .left .space, some);
           })
 
@@ -191,7 +185,9 @@ module _ {n : ℕ} {v : ℕ → ℕ} {d₀ : List ℕ} {i : ℕ} {d : List ℕ} 
       → at' ≡ at + 12 → Filling n v d₀ (s + 1) d' at'
   fill-more s x d' at' next is put after =
       record {
-        left = entries-more (entries-gap (e .left) s (next .low) (omega (arith, next .inside)) (next .clear)) (next .inside) (next .overflows)
+        left =
+            entries-more (entries-gap (e .left) s (next .low) (omega (arith, next .inside)) (next .clear))
+            (next .inside) (next .overflows)
             x d' at' is put after;
         stand = λ j h.
             (let there : at' + 12 * j ≡ at + 12 * suc j = omega arith in
@@ -205,4 +201,4 @@ module _ {n : ℕ} {v : ℕ → ℕ} {d₀ : List ℕ} {i : ℕ} {d : List ℕ} 
       length-entry s x = simp (length-append, length-le)
 
   pub fill-end : 40 + n + 12 * overflowCount n v ≤ at → d ≡ sets d₀ (40 + n) (overflowPart n v)
-  fill-end done = entries-done (e .left) (omega (arith, e .left .count, count-slotsFrom n v))
+  fill-end done = entries-all (e .left) done

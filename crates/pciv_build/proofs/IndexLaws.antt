@@ -1,6 +1,10 @@
 -- The sparse index, written one entry a step.
---   IndexLeft      the invariant: the entries from i on are left, and what stands before the index is unchanged
---   -start, -more, -end    before the first entry, one entry on, and after the last
+--   numbersFrom k i     the numbers of the index entries from i on
+--   IndexLeft           the invariant: these entries are left, and what stands before the index is unchanged
+--   index-start, -more, -end    before the first entry, one entry on, and after the last
+--   entry-before        the overflow entry that index entry i is read off stands before the index
+--   index-read          and is as it was
+-- Axioms: none.
 use mathlib.Core.Path.{_≡_, refl, sym, ap, _∙_}
 use Prim.Native.Nat.{ℕ, _+_, _-_, _*_, _≤_, _<_}
 use native.Mathlib.Nat.{add-zero, sub-zero}
@@ -73,7 +77,8 @@ module _ {n k : ℕ} {d₀ : List ℕ} {i : ℕ} {d : List ℕ} (e : IndexLeft n
         size = ap length same ∙ length-sets d at piece ∙ e .size;
         before = rw same (take-sets (40 + n + 12 * k) piece d at (omega arith) ∙ e .before);
         rest = e .rest
-            ∙ rw (numbersFrom-more k i h, same, ← next) (sets-append piece left d at ∙ rw (length-indexEntryFrom d₀ n k i));
+            ∙ rw (numbersFrom-more k i h, same, ← next)
+            (sets-append piece left d at ∙ rw (length-indexEntryFrom d₀ n k i));
       }
 
   pub index-end : indexLen k ≤ i → d ≡ sets d₀ (40 + n + 12 * k) (indexFrom d₀ n k)

@@ -1,7 +1,9 @@
 pub mod BuildLaws
 pub mod EntriesLaws
 pub mod IndexLaws
-pub mod PrimaryLaws
-pub mod WordLaws
+pub mod FullWordLaws
 pub mod SlotsLaws
 pub mod FillLaws
+pub mod AlongLaws
+pub mod IntoLaws
+pub mod ChainLaws

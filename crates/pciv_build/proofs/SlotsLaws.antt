@@ -1,7 +1,8 @@
 -- Entries for slots whose distances are not known yet, written in the order of the slots.
+--   length-blankEntry, length-blankEntries    how long they are
 --   BlanksLeft      the invariant: the entries of the slots xs are left
---   -start, -more, -part, -end    before the first; one entry on, several; after the last
---   blanks-space     there is space for the next ones
+--   blanks-start, -more, -part, -end    before the first; one entry on, several; after the last
+--   blanks-space    there is space for the next ones
 --   blanks-before   what stands before the entries stays as it was
 --   slots-same, word-same    the slots with primary byte 255, and their word, where the primary bytes stay
 --   slots-part      these slots: those of a block, and then the others
@@ -19,12 +20,12 @@ use lib.Seq.{sets, length-sets}
 use lib.Dec.{eqb}
 use Rattle.pciv_bytes.specs.Ranges.{positions, joined}
 use Rattle.pciv_bytes.specs.LittleEndian.{le}
-use Rattle.pciv_bytes.specs.Counts.{byteAt}
+use Rattle.pciv_bytes.specs.ByteAt.{byteAt}
 use Rattle.pciv_bytes.proofs.PositionsLaws.{positions-cong, positions-append}
 use Rattle.pciv_bytes.proofs.JoinedLaws.{joined-append, length-joined}
 use Rattle.pciv_bytes.proofs.WriteLaws.{sets-append}
 use Rattle.pciv_format.specs.Mask.{word}
-use Rattle.pciv_words.proofs.BitLaws.{word-cong}
+use Rattle.pciv_format.proofs.BitLaws.{word-cong}
 use Rattle.pciv_build.specs.Slots.{isFull, fullSlots, blankEntry, blankEntries}
 use Rattle.pciv_build.proofs.EntriesLaws.{rest-before}
 
@@ -106,7 +107,8 @@ unfolding positions
 slots-end d n i h = let e : n - i ≡ 0 = omega arith in rw e
 
 -- the slots of a word, and those behind it
-pub slots-word : (d₀ d : List ℕ) (i n : ℕ) → ((j : ℕ) → i ≤ j → j < i + min 64 (n - i) → byteAt d (40 + j) ≡ byteAt d₀ (40 + j))
+pub slots-word : (d₀ d : List ℕ) (i n : ℕ)
+    → ((j : ℕ) → i ≤ j → j < i + min 64 (n - i) → byteAt d (40 + j) ≡ byteAt d₀ (40 + j))
     → fullSlots d₀ i (n - i) ≡ fullSlots d i (min 64 (n - i)) ++ fullSlots d₀ (i + 64) (n - (i + 64))
 slots-word d₀ d i n same =
     elim (decLe 64 (n - i)) [

@@ -17,8 +17,8 @@ slotsFrom n v i = positions (λ (j : ℕ). inOverflow (v j)) i (n - i)
 unfoldable pub entriesFrom : ℕ → (ℕ → ℕ) → ℕ → List ℕ
 entriesFrom n v i = joined (overflowEntry v) (slotsFrom n v i)
 
--- the first entry was to stand at place p₀ of d₀, and that of the first slot from i on is to stand at place p of d: what
--- was left to write there is what is left to write here
+-- the first entry was to stand at place p₀ of d₀, and that of the first slot from i on is to stand at place p of d:
+-- what was left to write there is what is left to write here
 pub record EntriesLeft (n : ℕ) (v : ℕ → ℕ) (d₀ : List ℕ) (p₀ i : ℕ) (d : List ℕ) (p : ℕ) : Type 0 where
   pub inside : i ≤ n
   pub size : length d ≡ length d₀

@@ -13,7 +13,7 @@ use lib.ListN.{getD}
 use lib.Dec.{eqb}
 use Rattle.pciv_bytes.specs.Ranges.{positions, joined}
 use Rattle.pciv_bytes.specs.LittleEndian.{le}
-use Rattle.pciv_bytes.specs.Counts.{byteAt}
+use Rattle.pciv_bytes.specs.ByteAt.{byteAt}
 use Rattle.pciv_format.specs.Layout.{primaryByte}
 use Rattle.pciv_format.specs.Mask.{word}
 

@@ -1,44 +1,29 @@
 // A file written part by part (docs/FORMAT.md, "Writing"): what every routine that writes a file shares.
 // `begin` refuses a buffer that is too small and writes the header; the routine writes its primary array and its
 // overflow entries; `finish` adds the sparse index. The law `built` of proofs/BuildLaws.antt says that this is the file.
+pub mod slots;
+
 ghost use mathlib.Core.Path.{_≡_};
 ghost use mathlib.Core.List.{_++_};
 ghost use Prim.Native.Nat.{_+_, _*_, _≤_};
 ghost use lib.ListN.{length};
 ghost use lib.Seq.{sets};
 ghost use Rattle.pciv_bytes.specs.LittleEndian.{le};
-ghost use Rattle.pciv_format.specs.Layout.{maxSlots, fileLen, header, countsOf, primaryByte};
+ghost use Rattle.pciv_format.specs.Layout.{maxSlots, fileLen, header};
 ghost use Rattle.pciv_format.specs.Refusals.{fileAnswer};
 ghost use Rattle.pciv_build.specs.Build.{beginOutcome, beginBuffer, indexFrom};
 use pciv_bytes::little_endian::get64;
 use pciv_bytes::little_endian::put32;
 use pciv_bytes::little_endian::put64;
-use pciv_counts::file_len;
-use pciv_counts::index_len;
-use pciv_counts::index_step;
 use pciv_format::BUFFER_TOO_SMALL;
 use pciv_format::FileAnswer;
 use pciv_format::HEADER_LEN;
 use pciv_format::MAGIC;
-use pciv_format::Refusal;
-use pciv_format::SENTINEL;
-use pciv_format::Summary;
-
-pub mod slots;
-
-// The summary of a file with n slots and k overflow entries.
-pub fn counts(n: usize, k: usize) -> Summary
-    requires { ⌜ (n ≤ maxSlots) × (k ≤ n) ⌝ }
-    ensures { λ r. ⌜ r ≡ countsOf n k ⌝ }
-{
-    Summary {
-        n,
-        k,
-        m: index_len(k),
-        step: index_step(k),
-        len: file_len(n, k),
-    }
-}
+use pciv_layout::file_len;
+use pciv_layout::index_len;
+use pciv_layout::index_step;
+use pciv_layout::refusals::refuse_file;
+use pciv_layout::summary_of;
 
 // Writes the header of a file with n slots and k overflow entries.
 pub fn put_header(out: &mut [u8], n: usize, k: usize)
@@ -59,25 +44,10 @@ pub fn begin(out: &mut [u8], n: usize, k: usize) -> FileAnswer
     ensures buffer { λ _. ⌜ now (out .exit) ≡ beginBuffer n k (now (out .entry)) ⌝ }
 {
     if out.len() < file_len(n, k) {
-        return FileAnswer::Refused(Refusal {
-            number: BUFFER_TOO_SMALL,
-            map: 0,
-            place: 0,
-        });
+        return refuse_file(BUFFER_TOO_SMALL, 0, 0);
     }
     put_header(out, n, k);
-    FileAnswer::Done(counts(n, k))
-}
-
-// The primary byte of a distance.
-pub fn primary_byte(x: u32) -> u8
-    ensures { λ r. ⌜ r ≡ primaryByte x ⌝ }
-{
-    if x < SENTINEL as u32 {
-        x as u8
-    } else {
-        SENTINEL
-    }
+    FileAnswer::Done(summary_of(n, k))
 }
 
 // Writes an overflow entry, and answers the place after it.

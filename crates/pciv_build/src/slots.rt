@@ -8,12 +8,13 @@ ghost use lib.Seq.{sets};
 ghost use Rattle.pciv_format.specs.Mask.{word};
 ghost use Rattle.pciv_build.specs.Slots.{isFull, fullSlots, blankEntries, TellFull};
 use crate::put_entry;
-use pciv_flags::flags_into;
+use pciv_bits::flags::flags_into;
 use pciv_format::HEADER_LEN;
 use pciv_format::SENTINEL;
 
 // The words of a block.
 const WORDS: usize = 64;
+
 // The slots of a block: one for each bit.
 const BLOCK: usize = 4096;
 

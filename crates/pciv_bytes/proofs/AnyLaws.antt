@@ -1,4 +1,7 @@
--- Laws of `anyFrom`: a search that goes on, from i up to `to`, and what holds where nothing was found.
+-- Laws of `anyFrom`: a search that goes on, from i up to `to`, with what was found before.
+--   anyFrom-more, anyFrom-end    one number more; no number is left
+--   anyFrom-none                 where nothing was found, no number has p
+-- Axioms: none.
 use mathlib.Core.Path.{_≡_, refl, ap, _∙_}
 use Prim.Native.Nat.{ℕ, zero, suc, _+_, _-_, _≤_, _<_}
 use native.Mathlib.Numerals.{add-one}
@@ -21,7 +24,8 @@ or-none false = refl
 
 module _ (p : ℕ → Bool) (found : Bool) where
   -- one number more
-  pub anyFrom-more : (i to : ℕ) → i < to → found || anyFrom p i (to - i) ≡ (found || p i) || anyFrom p (i + 1) (to - (i + 1))
+  pub anyFrom-more : (i to : ℕ) → i < to
+      → found || anyFrom p i (to - i) ≡ (found || p i) || anyFrom p (i + 1) (to - (i + 1))
   unfolding anyFrom
   anyFrom-more i to h =
       let e : to - i ≡ suc (to - (i + 1)) = omega arith in

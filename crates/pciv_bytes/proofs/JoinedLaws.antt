@@ -1,4 +1,8 @@
--- Laws of `joined`, where every piece is c bytes long.
+-- Laws of `joined`, a list of pieces one after another.
+--   joined-cong, joined-append    the same pieces; the pieces of two lists
+--   length-joined                 where every piece is c bytes long: its length,
+--   joined-piece, joined-is       where the piece of an element stands, and bytes that are such pieces
+-- Axioms: none.
 use mathlib.Core.Path.{_≡_, refl, sym, ap, ap₂, _∙_}
 use Prim.Native.Nat.{ℕ, zero, suc, _+_, _*_, _≤_, _<_}
 use native.Mathlib.Nat.{mul-suc, mul-zero}

@@ -1,8 +1,8 @@
 pub mod RangesLaws
 pub mod PositionsLaws
 pub mod SumLaws
-pub mod ExtremesLaws
 pub mod JoinedLaws
 pub mod LittleEndianLaws
 pub mod WriteLaws
 pub mod AnyLaws
+pub mod MoveLaws

@@ -1,4 +1,14 @@
 -- Laws of little-endian numbers, at any width w.
+--   bytes-drop, bytes-take     a part of a list of bytes is one
+--   length-le                  a number as w bytes is w bytes long
+--   number-le, le-number       a number that fits is read back; bytes are written back
+--   number-lt, get-lt          what w bytes can tell is below 256 ^ w
+--   get-past, get-in           a number behind a first part, and within one
+--   get-at, get-below          a number at a place whose rest is known, and in the first n bytes of two lists
+--   le-get                     the bytes of a number that was read
+--   get-suc, get-zero          a number by its lowest byte; of no byte
+--   get-more                   with the byte above the lowest w, put in place by a shift
+-- Axioms: none.
 use mathlib.Core.Path.{_≡_, refl, sym, ap, ap₂, _∙_, subst}
 use Prim.Native.Nat.{ℕ, zero, suc, _+_, _*_, _/_, _%_, _^_, _≤_, _<_}
 use native.Mathlib.Nat.{div-lt-iff-lt-mul, pow-suc, lt-of-lt-of-le, min-le-left, pow-le-pow-right, add-zero, mul-assoc}
@@ -49,14 +59,11 @@ number-lt (b ∷ bs) h =
     let hb : b < 256 = h 0 in
     rw pow-suc (omega arith)
 
--- past a first part, and at the front
+-- behind a first part
 pub get-past : (w : ℕ) (p q : List ℕ) (a at : ℕ) → length p ≡ a → get w (p ++ q) (a + at) ≡ get w q at
 unfolding get
-get-past w p q a at e = ap (λ (l : List ℕ). number (take w l)) (sym (drop-drop at a (p ++ q)) ∙ ap (drop at) (drop-at p q a e))
-
-pub get-front : (w x : ℕ) (q : List ℕ) → x < 256 ^ w → get w (le w x ++ q) 0 ≡ x
-unfolding get
-get-front w x q h = ap number (take-at (le w x) q w (length-le w x)) ∙ number-le w x h
+get-past w p q a at e =
+    ap (λ (l : List ℕ). number (take w l)) (sym (drop-drop at a (p ++ q)) ∙ ap (drop at) (drop-at p q a e))
 
 -- within a first part
 pub get-in : (w : ℕ) (p q : List ℕ) (at : ℕ) → at + w ≤ length p → get w (p ++ q) at ≡ get w p at
@@ -69,14 +76,16 @@ get-in w p q at h =
 -- at a place whose rest is known
 pub get-at : (w : ℕ) (b : List ℕ) (at x : ℕ) (q : List ℕ) → drop at b ≡ le w x ++ q → x < 256 ^ w → get w b at ≡ x
 unfolding get
-get-at w b at x q e h = ap (λ (l : List ℕ). number (take w l)) e ∙ ap number (take-at (le w x) q w (length-le w x)) ∙ number-le w x h
+get-at w b at x q e h =
+    ap (λ (l : List ℕ). number (take w l)) e ∙ ap number (take-at (le w x) q w (length-le w x)) ∙ number-le w x h
 
 -- the bytes of a number that was read
 pub le-get : (w : ℕ) (b : List ℕ) (at : ℕ) → Bytes b → at + w ≤ length b → le w (get w b at) ≡ take w (drop at b)
 unfolding get
 le-get w b at hb h =
-    let e : length (take w (drop at b)) ≡ w = length-take-le w (drop at b) (simp length-drop (omega arith)) in
-    ap (λ (k : ℕ). le k (number (take w (drop at b)))) (sym e) ∙ le-number (take w (drop at b)) (bytes-take w (drop at b) (bytes-drop at b hb))
+    let t : List ℕ = take w (drop at b) in
+    let e : length t ≡ w = length-take-le w (drop at b) (simp length-drop (omega arith)) in
+    ap (λ (k : ℕ). le k (number t)) (sym e) ∙ le-number t (bytes-take w (drop at b) (bytes-drop at b hb))
 
 pub get-suc : (w : ℕ) (b : List ℕ) (at : ℕ) → at < length b → get (suc w) b at ≡ getD b at 0 + 256 * get w b (suc at)
 unfolding get number
@@ -91,7 +100,8 @@ get-lt w b at hb =
     lt-of-lt-of-le h (pow-le-pow-right (lit< tt) m)
 
 -- what is read below n stands in the first n bytes
-pub get-below : (w n at : ℕ) (b c : List ℕ) → take n b ≡ take n c → at + w ≤ n → n ≤ length b → n ≤ length c → get w b at ≡ get w c at
+pub get-below : (w n at : ℕ) (b c : List ℕ) → take n b ≡ take n c → at + w ≤ n → n ≤ length b → n ≤ length c
+    → get w b at ≡ get w c at
 get-below w n at b c e h hb hc =
     let p : (l : List ℕ) → n ≤ length l → get w l at ≡ get w (take n l) at =
     λ l hl.

@@ -1,4 +1,14 @@
 -- Laws of `positions`: what each element is, and when a rising list is the list of positions.
+--   Position p i c x           x is one of the c numbers from i on, and has p
+--   Among l s                  s is an element of l
+--   positions-count, -at       how many they are at most, and what each one is
+--   positions-rise, -all       they rise, and every number with p is among them
+--   positions-cong             of properties that agree
+--   positions-append, -around    a range in two, and around a number
+--   rises                      a function that rises step by step rises from any place to any later one
+--   Rising p f i c a t         t values of f from a on are the numbers with p, rising
+--   positions-are              such values are the positions
+-- Axioms: none.
 use mathlib.Core.Path.{_≡_, refl, sym, ap, ap₂, _∙_}
 use Prim.Native.Nat.{ℕ, zero, suc, _+_, _-_, _≤_, _<_}
 use native.Mathlib.Nat.{add-zero, zero-add, add-suc, le-refl}
@@ -18,6 +28,10 @@ pub record Position (p : ℕ → Bool) (i c x : ℕ) : Type 0 where
 
 later : (p : ℕ → Bool) (i c x : ℕ) → Position p (suc i) c x → Position p i (suc c) x
 later p i c x q = record { low = omega (arith, q .low); high = omega (arith, q .high); has = q .has }
+
+-- s is an element of l
+abbrev pub Among : List ℕ → ℕ → Type 0
+Among l s = (j : ℕ) × (j < length l) × (getD l j 0 ≡ s)
 
 module _ (p : ℕ → Bool) where
   pub positions-count : (i c : ℕ) → length (positions p i c) ≤ c
@@ -59,15 +73,14 @@ module _ (p : ℕ → Bool) where
       go false j h ih = ih j h
 
   -- every number with p is among them
-  pub positions-all : (i c s : ℕ) → i ≤ s → s < i + c → p s ≡ true
-      → (j : ℕ) × (j < length (positions p i c)) × (getD (positions p i c) j 0 ≡ s)
+  pub positions-all : (i c s : ℕ) → i ≤ s → s < i + c → p s ≡ true → Among (positions p i c) s
   unfolding positions
   positions-all i zero s low high has = absurd (omega arith)
   positions-all i (suc c) s low high has = go (p i) refl (positions-all (suc i) c s)
     where
       go : (b : Bool) → p i ≡ b
-          → (suc i ≤ s → s < suc i + c → p s ≡ true → (j : ℕ) × (j < length (positions p (suc i) c)) × (getD (positions p (suc i) c) j 0 ≡ s))
-          → (j : ℕ) × (j < length (keepIf b i (positions p (suc i) c))) × (getD (keepIf b i (positions p (suc i) c)) j 0 ≡ s)
+          → (suc i ≤ s → s < suc i + c → p s ≡ true → Among (positions p (suc i) c) s)
+          → Among (keepIf b i (positions p (suc i) c)) s
       go true e ih =
           elim (decLe s i) [
             | yes d ↦ (0, omega arith, omega arith)
@@ -79,7 +92,8 @@ module _ (p : ℕ → Bool) where
             | no d ↦ ih (omega arith) (omega arith) has
           ]
 
-pub positions-cong : (p q : ℕ → Bool) (i c : ℕ) → ((j : ℕ) → i ≤ j → j < i + c → p j ≡ q j) → positions p i c ≡ positions q i c
+pub positions-cong : (p q : ℕ → Bool) (i c : ℕ) → ((j : ℕ) → i ≤ j → j < i + c → p j ≡ q j)
+    → positions p i c ≡ positions q i c
 unfolding positions
 positions-cong p q i zero same = refl
 positions-cong p q i (suc c) same =
@@ -153,7 +167,9 @@ module _ (p : ℕ → Bool) (f : ℕ → ℕ) where
       let q = r .every i (le-refl i) (omega arith) e in
       elim (decLe (q .0) a) [
         | yes d ↦ (let z : q .0 ≡ a = omega (arith, q .1) in ap f (sym z) ∙ q .3)
-        | no d ↦ absurd (omega (arith, r .rise a (q .0) (le-refl a) (omega arith) (q .2), r .each a (le-refl a) (omega arith) .low, q .3))
+        | no d ↦
+            (let rise = r .rise a (q .0) (le-refl a) (omega arith) (q .2) in
+            absurd (omega (arith, rise, r .each a (le-refl a) (omega arith) .low, q .3)))
       ]
 
   past : (i c a t : ℕ) → f a ≡ i → Rising p f i (suc c) a (suc t) → Rising p f (suc i) c (suc a) t
@@ -181,7 +197,8 @@ module _ (p : ℕ → Bool) (f : ℕ → ℕ) where
   pub positions-are : (c i a t : ℕ) → Rising p f i c a t → positions p i c ≡ table f a t
   unfolding positions table
   positions-are zero i a zero r = refl
-  positions-are zero i a (suc t) r = (let q = r .each a (le-refl a) (omega arith) in absurd (omega (arith, q .low, q .high)))
+  positions-are zero i a (suc t) r =
+      (let q = r .each a (le-refl a) (omega arith) in absurd (omega (arith, q .low, q .high)))
   positions-are (suc c) i a zero r = go (p i) refl (positions-are c (suc i))
     where
       go : (b : Bool) → p i ≡ b → ((a t : ℕ) → Rising p f (suc i) c a t → positions p (suc i) c ≡ table f a t)

@@ -1,9 +1,16 @@
--- Laws of `firstBelow` and `table`.
---   firstBelow-none/-at     its value, from what holds of each number
---   firstBelow-clear/-has   what holds of each number, from its value
---   table-rest/-done        what is left of a table at index i of n
---   table-shift, -append    the same elements from another place on; a table in two parts
---   getD-inside             inside a list the default does not matter
+-- Laws of `flag`, `firstBelow` and `table`, and of the elements of a list.
+--   true-false                no test is both
+--   flag-le, flag-zero        a flag is at most 1; where it is 0, the test fails
+--   boolByte-flag             a test, cast to a number
+--   getD-inside               inside a list the default does not matter
+--   map-cong                  functions that agree on the elements of a list
+--   firstBelow-none, -at      its value, from what holds of each number
+--   firstBelow-le, -clear, -has, -all, -lt    what holds of each number, from its value
+--   firstFrom-cong, firstBelow-cong    of tests that agree
+--   length-table, getD-table, table-cong      a table's length and elements; functions that agree
+--   table-rest, table-done    what is left of a table at index i of n
+--   table-shift, table-append    the same elements from another place on; a table in two parts
+-- Axioms: none.
 use mathlib.Core.Path.{_≡_, refl, sym, ap, ap₂, _∙_}
 use Prim.Native.Nat.{ℕ, zero, suc, _+_, _-_, _≤_, _<_}
 use native.Mathlib.Nat.{zero-add, add-zero}
@@ -11,40 +18,68 @@ use native.Mathlib.Omega.{arith}
 use native.Mathlib.Decide.{decLe}
 use native.Mathlib.Numerals.{add-one}
 use mathlib.Core.Bool.{Bool, true, false, cond}
-use mathlib.Core.List.{List, [], _∷_, _++_}
+use mathlib.Core.List.{List, [], _∷_, _++_, map}
 use lib.ListN.{length, getD}
-use Rattle.pciv_bytes.specs.Ranges.{firstFrom, firstBelow, table}
+use mir.Val.{boolByte}
+use Rattle.pciv_bytes.specs.Ranges.{flag, firstFrom, firstBelow, table}
 
 pub true-false : true ≡ false → ⊥
 true-false e = let z : _≡_ {A = ℕ} 0 1 = cc in omega arith
 
--- ---- an element of a list
+-- ---- flag
+
+pub flag-le : (b : Bool) → flag b ≤ 1
+flag-le true = omega arith
+flag-le false = omega arith
+
+pub flag-zero : (b : Bool) → flag b ≡ 0 → b ≡ false
+flag-zero true e = absurd (omega arith)
+flag-zero false e = refl
+
+-- a test, cast to a number
+pub boolByte-flag : (b : Bool) → boolByte b ≡ flag b
+boolByte-flag true = refl
+boolByte-flag false = refl
+
+-- ---- the elements of a list
 
 pub getD-inside : {A : Type 0} (xs : List A) (j : ℕ) (a b : A) → j < length xs → getD xs j a ≡ getD xs j b
 getD-inside [] j a b h = absurd (omega arith)
 getD-inside (x ∷ xs) zero a b h = refl
 getD-inside (x ∷ xs) (suc j) a b h = getD-inside xs j a b (omega arith)
 
+pub map-cong : (f g : ℕ → ℕ) (xs : List ℕ) → ((i : ℕ) → i < length xs → f (getD xs i 0) ≡ g (getD xs i 0))
+    → map f xs ≡ map g xs
+map-cong f g [] same = refl
+map-cong f g (x ∷ xs) same =
+    ap₂ (λ (y : ℕ) (l : List ℕ). y ∷ l) (same 0 (omega arith)) (map-cong f g xs (λ i h. same (suc i) (omega arith)))
+
 -- ---- firstBelow
 
 module _ (p : ℕ → Bool) where
-  from-none : (c i : ℕ) → ((j : ℕ) → j < i + c → p j ≡ false) → firstFrom p i c ≡ i + c
+  -- where none of the c numbers from i on has p
+  pub firstFrom-none : (c i : ℕ) → ((j : ℕ) → i ≤ j → j < i + c → p j ≡ false) → firstFrom p i c ≡ i + c
   unfolding firstFrom
-  from-none zero i none = omega arith
-  from-none (suc c) i none =
-      rw (none i (omega arith)) (from-none c (suc i) (λ j h. none j (omega arith)) ∙ omega arith)
+  firstFrom-none zero i none = omega arith
+  firstFrom-none (suc c) i none =
+      rw (none i (omega arith) (omega arith))
+      (firstFrom-none c (suc i) (λ j h l. none j (omega arith) (omega arith)) ∙ omega arith)
 
-  from-at : (c i a : ℕ) → i ≤ a → a < i + c → ((j : ℕ) → j < a → p j ≡ false) → p a ≡ true → firstFrom p i c ≡ a
+  -- the least of them with p
+  pub firstFrom-at : (c i a : ℕ) → i ≤ a → a < i + c → ((j : ℕ) → i ≤ j → j < a → p j ≡ false) → p a ≡ true
+      → firstFrom p i c ≡ a
   unfolding firstFrom
-  from-at zero i a low high none has = absurd (omega arith)
-  from-at (suc c) i a low high none has =
+  firstFrom-at zero i a low high none has = absurd (omega arith)
+  firstFrom-at (suc c) i a low high none has =
       elim (decLe a i) [
         | yes d ↦ (let q : i ≡ a = omega arith in rw (q, has))
-        | no d ↦ rw (none i (omega arith)) (from-at c (suc i) a (omega arith) (omega arith) none has)
+        | no d ↦ rw (none i (omega arith) (omega arith))
+            (firstFrom-at c (suc i) a (omega arith) (omega arith) (λ j h. none j (omega arith)) has)
       ]
 
-  -- what is known of firstFrom: it is at most i + c, nothing before it has p, and below i + c it has p
+  -- what is known of firstFrom: it is from i up to i + c, nothing before it has p, and below i + c it has p
   record First (i c r : ℕ) : Type 0 where
+    low : i ≤ r
     high : r ≤ i + c
     clear : (j : ℕ) → i ≤ j → j < r → p j ≡ false
     has : r < i + c → p r ≡ true
@@ -52,21 +87,42 @@ module _ (p : ℕ → Bool) where
   from-is : (c i : ℕ) → First i c (firstFrom p i c)
   unfolding firstFrom
   from-is zero i =
-      record { high = omega arith; clear = λ j h₁ h₂. absurd (omega arith); has = λ h. absurd (omega arith) }
+      record {
+        low = omega arith;
+        high = omega arith;
+        clear = λ j h₁ h₂. absurd (omega arith);
+        has = λ h. absurd (omega arith);
+      }
   from-is (suc c) i = go (p i) refl (from-is c (suc i))
     where
       go : (b : Bool) → p i ≡ b → First (suc i) c (firstFrom p (suc i) c)
           → First i (suc c) (cond b i (firstFrom p (suc i) c))
       go true e ih =
-          record { high = omega arith; clear = λ j h₁ h₂. absurd (omega arith); has = λ h. e }
+          record { low = omega arith; high = omega arith; clear = λ j h₁ h₂. absurd (omega arith); has = λ h. e }
       go false e ih =
           record {
+            low = omega (arith, ih .low);
             high = omega (arith, ih .high);
             clear = λ j h₁ h₂.
                 elim (decLe j i)
                 [ yes d ↦ (let q : j ≡ i = omega arith in rw (q, e)) | no d ↦ ih .clear j (omega arith) h₂ ];
             has = λ h. ih .has (omega arith);
           }
+
+  module _ (c i : ℕ) where
+    pub firstFrom-low : i ≤ firstFrom p i c
+    firstFrom-low = from-is c i .low
+
+    pub firstFrom-le : firstFrom p i c ≤ i + c
+    firstFrom-le = from-is c i .high
+
+    -- nothing before it has p
+    pub firstFrom-clear : (j : ℕ) → i ≤ j → j < firstFrom p i c → p j ≡ false
+    firstFrom-clear = from-is c i .clear
+
+    -- below i + c it has p
+    pub firstFrom-has : firstFrom p i c < i + c → p (firstFrom p i c) ≡ true
+    firstFrom-has = from-is c i .has
 
   below-is : (k : ℕ) → First 0 k (firstBelow p k)
   unfolding firstBelow
@@ -75,12 +131,12 @@ module _ (p : ℕ → Bool) where
   -- where no number below k has p
   pub firstBelow-none : (k : ℕ) → ((j : ℕ) → j < k → p j ≡ false) → firstBelow p k ≡ k
   unfolding firstBelow
-  firstBelow-none k none = from-none k 0 (λ j h. none j (omega arith)) ∙ omega arith
+  firstBelow-none k none = firstFrom-none k 0 (λ j h l. none j (omega arith)) ∙ omega arith
 
   -- the least number with p
   pub firstBelow-at : (k a : ℕ) → a < k → ((j : ℕ) → j < a → p j ≡ false) → p a ≡ true → firstBelow p k ≡ a
   unfolding firstBelow
-  firstBelow-at k a inside none has = from-at k 0 a (omega arith) (omega arith) none has
+  firstBelow-at k a inside none has = firstFrom-at k 0 a (omega arith) (omega arith) (λ j h. none j) has
 
   pub firstBelow-le : (k : ℕ) → firstBelow p k ≤ k
   firstBelow-le k = omega (arith, below-is k .high)
@@ -107,7 +163,8 @@ pub firstFrom-cong : (p q : ℕ → Bool) (c i : ℕ) → ((j : ℕ) → j < i +
 unfolding firstFrom
 firstFrom-cong p q zero i same = refl
 firstFrom-cong p q (suc c) i same =
-    ap₂ (λ (b : Bool) (r : ℕ). cond b i r) (same i (omega arith)) (firstFrom-cong p q c (suc i) (λ j h. same j (omega arith)))
+    ap₂ (λ (b : Bool) (r : ℕ). cond b i r) (same i (omega arith))
+    (firstFrom-cong p q c (suc i) (λ j h. same j (omega arith)))
 
 pub firstBelow-cong : (p q : ℕ → Bool) (k : ℕ) → ((j : ℕ) → j < k → p j ≡ q j) → firstBelow p k ≡ firstBelow q k
 unfolding firstBelow
@@ -131,7 +188,8 @@ module _ {A : Type 0} where
   unfolding table
   table-cong f g i zero same = refl
   table-cong f g i (suc c) same =
-      ap₂ (λ (x : A) (l : List A). x ∷ l) (same i (omega arith)) (table-cong f g (suc i) c (λ j h. same j (omega arith)))
+      ap₂ (λ (x : A) (l : List A). x ∷ l) (same i (omega arith))
+      (table-cong f g (suc i) c (λ j h. same j (omega arith)))
 
   pub table-rest : (f : ℕ → A) (n i : ℕ) → i < n → table f i (n - i) ≡ f i ∷ table f (i + 1) (n - (i + 1))
   unfolding table

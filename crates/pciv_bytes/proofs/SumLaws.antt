@@ -1,27 +1,24 @@
 -- Laws of `sumFrom`. A sum from i up to `to` is written `sumFrom f i (to - i)`.
--- The invariant of a loop that adds up, a term or a block a turn, is `Added`.
+--   sumFrom-none, -more, -split    no term, the first term, and a range in two
+--   sumFrom-le, -flag-le, -byteIs-le, -byteAt-le    at most b for each term; of flags and of bytes
+--   sumFrom-cong, -plus, -rest     of terms that agree, of two sums, and of flags and the others
+--   sumFrom-zeros                  of terms that are 0
+--   sumFrom-shift                  the same terms, from another place on
+--   Added f to whole i sum         the invariant of a loop that adds up: `sum` and the terms from i on are the whole
+--   added-none, added-part, added-one, added-all    no term, terms up to s, one term, and all
+-- Axioms: none.
 use mathlib.Core.Path.{_≡_, refl, ap, ap₂, _∙_}
-use mathlib.Core.Bool.{Bool, true, false}
+use mathlib.Core.Bool.{Bool}
 use mathlib.Core.List.{List}
 use Prim.Native.Nat.{ℕ, zero, suc, _+_, _-_, _*_, _≤_, _<_}
 use native.Mathlib.Nat.{zero-add, add-zero}
 use native.Mathlib.Numerals.{add-one}
 use native.Mathlib.Omega.{arith}
-use native.Mathlib.Decide.{decLe}
 use lib.Dec.{eqb}
-use mir.Val.{boolByte}
 use Rattle.pciv_bytes.specs.Ranges.{flag, sumFrom}
 use Rattle.pciv_bytes.specs.LittleEndian.{Bytes}
-use Rattle.pciv_bytes.specs.Counts.{byteAt, byteIs}
-
-pub flag-le : (b : Bool) → flag b ≤ 1
-flag-le true = omega arith
-flag-le false = omega arith
-
--- a test, cast to a number
-pub boolByte-flag : (b : Bool) → boolByte b ≡ flag b
-boolByte-flag true = refl
-boolByte-flag false = refl
+use Rattle.pciv_bytes.specs.ByteAt.{byteAt, byteIs}
+use Rattle.pciv_bytes.proofs.RangesLaws.{flag-le}
 
 pub sumFrom-none : (f : ℕ → ℕ) (i to : ℕ) → to ≤ i → sumFrom f i (to - i) ≡ 0
 unfolding sumFrom
@@ -64,26 +61,22 @@ sumFrom-byteIs-le xs x i c = sumFrom-flag-le (λ (j : ℕ). eqb (byteAt xs j) x)
 pub sumFrom-byteAt-le : (xs : List ℕ) → Bytes xs → (i c : ℕ) → sumFrom (byteAt xs) i c ≤ 255 * c
 sumFrom-byteAt-le xs bytes i c = sumFrom-le (byteAt xs) 255 (λ j. omega (arith, bytes j)) i c
 
--- a sum of 0 has only terms 0
-pub sumFrom-zero : (f : ℕ → ℕ) (c i j : ℕ) → sumFrom f i c ≡ 0 → i ≤ j → j < i + c → f j ≡ 0
-unfolding sumFrom
-sumFrom-zero f zero i j e low high = absurd (omega arith)
-sumFrom-zero f (suc c) i j e low high =
-    elim (decLe j i) [
-      | yes d ↦ (let same : j ≡ i = omega arith in rw same (omega arith))
-      | no d ↦ sumFrom-zero f c (suc i) j (omega arith) (omega arith) (omega arith)
-    ]
-
-pub flag-zero : (b : Bool) → flag b ≡ 0 → b ≡ false
-flag-zero true e = absurd (omega arith)
-flag-zero false e = refl
-
 pub sumFrom-cong : (f g : ℕ → ℕ) (i c : ℕ) → ((j : ℕ) → i ≤ j → j < i + c → f j ≡ g j) → sumFrom f i c ≡ sumFrom g i c
 unfolding sumFrom
 sumFrom-cong f g i zero same = refl
 sumFrom-cong f g i (suc c) same =
     ap₂ (λ (x y : ℕ). x + y) (same i (omega arith) (omega arith))
     (sumFrom-cong f g (suc i) c (λ j h₁ h₂. same j (omega arith) (omega arith)))
+
+pub sumFrom-zeros : (f : ℕ → ℕ) (i c : ℕ) → ((j : ℕ) → i ≤ j → j < i + c → f j ≡ 0) → sumFrom f i c ≡ 0
+unfolding sumFrom
+sumFrom-zeros f i zero none = refl
+sumFrom-zeros f i (suc c) none =
+    omega (
+      arith,
+      none i (omega arith) (omega arith),
+      sumFrom-zeros f (suc i) c (λ j h₁ h₂. none j (omega arith) (omega arith)),
+    )
 
 -- of c flags, those that are set and those that are not
 pub sumFrom-rest : (f g : ℕ → ℕ) → ((j : ℕ) → f j + g j ≡ 1) → (i c : ℕ) → sumFrom f i c + sumFrom g i c ≡ c

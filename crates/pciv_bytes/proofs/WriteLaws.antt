@@ -1,14 +1,31 @@
 -- Laws of `sets`, which writes a list over another from a place on, and of lists written one element a turn.
 -- A loop's invariant is the work that remains: writing all from the start equals writing the rest from here.
+--   sets-append, sets-cons         a list in two parts; the first element and the rest
+--   take-sets, sets-front          what stands before; a list at the front
+--   set-behind, sets-behind, sets-first    written behind a list, or over its front
+--   getD-sets, sets-at             what is read where a list was written
+--   getD-sets-below, -above        what is read beside it
+--   set-sets, set-before-sets      an element set where a list was written, or before it
+--   sets-swap                      two lists written to disjoint places, in either order
+--   sets-set-inside, sets-over, sets-again    what was written before under a list does not count
+--   sets-same                      a list that stands there already
+--   sets-table-start, -more, -end, -part    a table, an element or c of them a turn
+--   Left f n out₀ out i            the invariant of a loop that writes a table to the front of a list
+--   left-start, left-more, left-end    no element, one more, and all
+--   sets-copy-more, -end           a copy of a list
+--   sets-same-more, -end           the same element, over and over
+--   sets-le-start, -more, -end     a number, a byte a turn
+-- Axioms: none.
 use mathlib.Core.Path.{_≡_, refl, sym, ap, ap₂, _∙_}
 use Prim.Native.Nat.{ℕ, suc, _+_, _-_, _/_, _%_, _≤_, _<_}
-use native.Mathlib.Nat.{add-zero, zero-add, sub-zero, le-refl}
+use native.Mathlib.Nat.{add-zero, zero-add, sub-zero}
 use native.Mathlib.Numerals.{add-one}
 use native.Mathlib.Omega.{arith}
 use native.Mathlib.Decide.{decLe}
 use mathlib.Core.List.{List, [], _∷_, _++_, append-assoc}
-use lib.ListN.{length, getD, take, drop, set, replicate, drop-of-length-le, length-append, length-set, List·getD-append}
-use lib.Seq.{sets, length-sets, drop-at, sets-eq, length-take-le, take-set-le, drop-cons, getD-append-add, set-getD, set-set, set-comm, set-append-left, getD-set-other}
+use lib.ListN.{length, length-append, getD, take, drop, set, replicate, drop-of-length-le, length-set, List·getD-append}
+use lib.Seq.{sets, sets-eq, length-take-le, take-set-le, drop-cons, drop-at, getD-append-add, set-getD}
+use lib.Seq.{set-set, set-comm, set-append-left, getD-set-other}
 use Rattle.pciv_bytes.specs.LittleEndian.{le}
 use Rattle.pciv_bytes.specs.Ranges.{table}
 use Rattle.pciv_bytes.proofs.RangesLaws.{length-table, table-rest, table-done, table-append}
@@ -17,8 +34,8 @@ module _ {A : Type 0} where
   pub sets-append : (a b d : List A) (i : ℕ) → sets d i (a ++ b) ≡ sets (sets d i a) (i + length a) b
   sets-append [] b d i = rw add-zero
   sets-append (x ∷ a) b d i =
-      sets-append a b (set d i x) (suc i)
-      ∙ ap (λ (j : ℕ). sets (sets (set d i x) (suc i) a) j b) (let e : suc i + length a ≡ i + suc (length a) = omega arith in e)
+      let e : suc i + length a ≡ i + suc (length a) = omega arith in
+      sets-append a b (set d i x) (suc i) ∙ ap (λ (j : ℕ). sets (sets (set d i x) (suc i) a) j b) e
 
   pub take-sets : (n : ℕ) (vs d : List A) (i : ℕ) → n ≤ i → take n (sets d i vs) ≡ take n d
   take-sets n [] d i h = refl
@@ -33,21 +50,45 @@ module _ {A : Type 0} where
   sets-split d l p space = sets-eq l d p space ∙ append-assoc (take p d) l (drop (p + length l) d)
 
   -- what is read where a list was written
+  pub getD-sets : (vs d : List A) (z : A) (i j : ℕ) → j < length vs → i + length vs ≤ length d
+      → getD (sets d i vs) (i + j) z ≡ getD vs j z
+  getD-sets vs d z i j h space =
+      let rest : List A = drop (i + length vs) d in
+      let front : length (take i d) ≡ i = length-take-le i d (omega arith) in
+      ap (λ (m : List A). getD m (i + j) z) (sets-split d vs i space)
+      ∙ ap (λ (m : ℕ). getD (take i d ++ (vs ++ rest)) (m + j) z) (sym front)
+      ∙ getD-append-add (take i d) (vs ++ rest) j z
+      ∙ List·getD-append vs rest z j h
+
   pub sets-at : (d l : List A) (p i : ℕ) (z : A) → p + length l ≤ length d → i < length l
       → getD (sets d p l) (p + i) z ≡ getD l i z
-  sets-at d l p i z space h =
-      let rest : List A = drop (p + length l) d in
-      let front : length (take p d) ≡ p = length-take-le p d (omega arith) in
-      ap (λ (m : List A). getD m (p + i) z) (sets-split d l p space)
-      ∙ ap (λ (m : ℕ). getD (take p d ++ (l ++ rest)) (m + i) z) (sym front)
-      ∙ getD-append-add (take p d) (l ++ rest) i z
-      ∙ List·getD-append l rest z i h
+  sets-at d l p i z space h = getD-sets l d z p i h space
 
-  set-behind : (xs ys : List A) (i : ℕ) (x : A) → set (xs ++ ys) (length xs + i) x ≡ xs ++ set ys i x
+  -- one of two joined lists written to
+  pub set-behind : (xs ys : List A) (i : ℕ) (x : A) → set (xs ++ ys) (length xs + i) x ≡ xs ++ set ys i x
   set-behind [] ys i x = rw zero-add
   set-behind (y ∷ xs) ys i x =
       let e : suc (length xs) + i ≡ suc (length xs + i) = omega arith in
       rw e (ap (λ (l : List A). y ∷ l) (set-behind xs ys i x))
+
+  pub sets-behind : (xs ys : List A) (i : ℕ) (vs : List A) → sets (xs ++ ys) (length xs + i) vs ≡ xs ++ sets ys i vs
+  sets-behind xs ys i [] = refl
+  sets-behind xs ys i (v ∷ vs) =
+      let e : suc (length xs + i) ≡ length xs + suc i = omega arith in
+      ap₂ (λ (l : List A) (j : ℕ). sets l j vs) (set-behind xs ys i v) e ∙ sets-behind xs (set ys i v) (suc i) vs
+
+  pub sets-append-left : (xs ys : List A) (i : ℕ) (vs : List A) → i + length vs ≤ length xs
+      → sets (xs ++ ys) i vs ≡ sets xs i vs ++ ys
+  sets-append-left xs ys i [] h = refl
+  sets-append-left xs ys i (v ∷ vs) h =
+      ap (λ (l : List A). sets l (suc i) vs) (set-append-left xs ys i v (omega arith))
+      ∙ sets-append-left (set xs i v) ys (suc i) vs (rw length-set (omega arith))
+
+  -- the first of them replaced
+  pub sets-first : (xs ys vs : List A) → length vs ≡ length xs → sets (xs ++ ys) 0 vs ≡ vs ++ ys
+  sets-first xs ys vs same =
+      sets-front vs (xs ++ ys) (simp length-append (omega arith))
+      ∙ ap (λ (l : List A). vs ++ l) (drop-at xs ys (length vs) (sym same))
 
   -- an element written where a list was written
   pub set-sets : (d l : List A) (p i : ℕ) (x : A) → p + length l ≤ length d → i < length l
@@ -62,37 +103,16 @@ module _ {A : Type 0} where
       ∙ ap (λ (m : List A). take p d ++ m) (set-append-left l rest i x h)
       ∙ sym (sets-split d (set l i x) p (rw same space) ∙ rw same)
 
-  -- the second of two lists of one length, written to the same place
-  pub sets-again : (d l l' : List A) (p : ℕ) → length l ≡ length l' → p + length l ≤ length d
-      → sets (sets d p l) p l' ≡ sets d p l'
-  sets-again d l l' p same space =
-      let at : ℕ = p + length l' in
-      let front : length (take p d ++ l) ≡ at = simp (length-append, length-take-le p d (omega arith)) (omega arith) in
-      let behind : drop at (sets d p l) ≡ drop at d =
-      ap (drop at) (sets-eq l d p space) ∙ drop-at (take p d ++ l) (drop (p + length l) d) at front
-      ∙ ap (λ (c : ℕ). drop (p + c) d) same in
-      sets-eq l' (sets d p l) p (rw length-sets (omega arith))
-      ∙ ap₂ (λ (x y : List A). x ++ l' ++ y) (take-sets p l d p (le-refl p)) behind
-      ∙ sym (sets-eq l' d p (omega arith))
-
   -- the first element of what is left to write
   pub sets-cons : (d l : List A) (x : A) (rest : List A) (i next : ℕ) → l ≡ x ∷ rest → next ≡ i + 1
       → sets d i l ≡ sets (set d i x) next rest
   sets-cons d l x rest i next e n = rw (e, n, add-one i)
 
-  -- ---- what is written over, or read back
-
-  pub getD-sets : (vs d : List A) (z : A) (i j : ℕ) → j < length vs → i + length vs ≤ length d
-      → getD (sets d i vs) (i + j) z ≡ getD vs j z
-  getD-sets vs d z i j h space =
-      let front : length (take i d) ≡ i = length-take-le i d (omega arith) in
-      ap (λ (l : List A). getD l (i + j) z) (sets-eq vs d i space)
-      ∙ List·getD-append (take i d ++ vs) (drop (i + length vs) d) z (i + j) (simp length-append (omega arith))
-      ∙ ap (λ (k : ℕ). getD (take i d ++ vs) (k + j) z) (sym front)
-      ∙ getD-append-add (take i d) vs j z
+  -- ---- what is written over
 
   -- an element within a part that is written afterwards
-  pub sets-set-inside : (vs d : List A) (i s : ℕ) (x : A) → i ≤ s → s < i + length vs → sets (set d s x) i vs ≡ sets d i vs
+  pub sets-set-inside : (vs d : List A) (i s : ℕ) (x : A) → i ≤ s → s < i + length vs
+      → sets (set d s x) i vs ≡ sets d i vs
   sets-set-inside [] d i s x low high = absurd (omega arith)
   sets-set-inside (v ∷ vs) d i s x low high =
       elim (decLe s i) [
@@ -101,16 +121,35 @@ module _ {A : Type 0} where
             ∙ sets-set-inside vs (set d i v) (suc i) s x (omega arith) (omega arith)
       ]
 
-  -- a list within such a part
-  pub sets-sets-inside : (us vs d : List A) (i s : ℕ) → i ≤ s → s + length us ≤ i + length vs
-      → sets (sets d s us) i vs ≡ sets d i vs
-  sets-sets-inside [] vs d i s low high = refl
-  sets-sets-inside (u ∷ us) vs d i s low high =
-      sets-sets-inside us vs (set d s u) i (suc s) (omega arith) (omega arith)
-      ∙ sets-set-inside vs d i s u low (omega arith)
+  pub set-before-sets : (g d : List A) (i j : ℕ) (x : A) → i < j → set (sets d j g) i x ≡ sets (set d i x) j g
+  set-before-sets [] d i j x h = refl
+  set-before-sets (a ∷ g) d i j x h =
+      set-before-sets g (set d j a) i (suc j) x (omega arith)
+      ∙ ap (λ (l : List A). sets l (suc j) g) (set-comm d j i a x (λ e. omega arith))
+
+  -- writes to disjoint places, in either order
+  pub sets-swap : (e x d : List A) (i j : ℕ) → i + length e ≤ j → sets (sets d j x) i e ≡ sets (sets d i e) j x
+  sets-swap [] x d i j h = refl
+  sets-swap (a ∷ e) x d i j h =
+      ap (λ (l : List A). sets l (suc i) e) (set-before-sets x d i j a (omega arith))
+      ∙ sets-swap e x (set d i a) (suc i) j (omega arith)
+
+  -- a list under one that is as long or longer
+  pub sets-over : (g f d : List A) (i : ℕ) → length g ≤ length f → sets (sets d i g) i f ≡ sets d i f
+  sets-over [] f d i h = refl
+  sets-over (a ∷ g) [] d i h = absurd (omega arith)
+  sets-over (a ∷ g) (x ∷ f) d i h =
+      ap (λ (l : List A). sets l (suc i) f) (set-before-sets g (set d i a) i (suc i) x (omega arith))
+      ∙ ap (λ (l : List A). sets (sets l (suc i) g) (suc i) f) (set-set d i a x)
+      ∙ sets-over g f (set d i x) (suc i) (omega arith)
+
+  pub sets-again : (d l l' : List A) (p : ℕ) → length l ≡ length l' → p + length l ≤ length d
+      → sets (sets d p l) p l' ≡ sets d p l'
+  sets-again d l l' p same space = sets-over l l' d p (omega arith)
 
   -- a list that stands there already
-  pub sets-same : (vs d : List A) (z : A) (i : ℕ) → ((j : ℕ) → j < length vs → getD d (i + j) z ≡ getD vs j z) → sets d i vs ≡ d
+  pub sets-same : (vs d : List A) (z : A) (i : ℕ)
+      → ((j : ℕ) → j < length vs → getD d (i + j) z ≡ getD vs j z) → sets d i vs ≡ d
   sets-same [] d z i same = refl
   sets-same (v ∷ vs) d z i same =
       let here : getD d i z ≡ v = rw add-zero at (same 0 (omega arith)) in
@@ -120,7 +159,8 @@ module _ {A : Type 0} where
 
   -- ---- a table
 
-  pub sets-table-start : (f : ℕ → A) (at n : ℕ) (d : List A) → sets d at (table f 0 n) ≡ sets d (at + 0) (table f 0 (n - 0))
+  pub sets-table-start : (f : ℕ → A) (at n : ℕ) (d : List A)
+      → sets d at (table f 0 n) ≡ sets d (at + 0) (table f 0 (n - 0))
   sets-table-start f at n d = rw (add-zero, sub-zero)
 
   pub sets-table-more : (f : ℕ → A) (at n i : ℕ) (d : List A) → i < n
@@ -132,7 +172,8 @@ module _ {A : Type 0} where
 
   -- c elements of what is left of a table
   pub sets-table-part : (f : ℕ → A) (at n i c : ℕ) (d : List A) → i + c ≤ n
-      → sets d (at + i) (table f i (n - i)) ≡ sets (sets d (at + i) (table f i c)) (at + (i + c)) (table f (i + c) (n - (i + c)))
+      → sets d (at + i) (table f i (n - i))
+      ≡ sets (sets d (at + i) (table f i c)) (at + (i + c)) (table f (i + c) (n - (i + c)))
   sets-table-part f at n i c d h =
       let e : n - i ≡ c + (n - (i + c)) = omega arith in
       let g : at + i + c ≡ at + (i + c) = omega arith in
@@ -189,20 +230,24 @@ getD-sets-above [] d i j h = refl
 getD-sets-above (x ∷ vs) d i j h =
     getD-sets-above vs (set d i x) (suc i) j (omega arith) ∙ getD-set-other d i j x 0 (λ q. omega arith)
 
--- ---- a list written over another
+-- ---- a table of numbers at the front of a list, one a turn
 
-module _ {A : Type 0} where
-  pub set-before-sets : (g d : List A) (i j : ℕ) (x : A) → i < j → set (sets d j g) i x ≡ sets (set d i x) j g
-  set-before-sets [] d i j x h = refl
-  set-before-sets (a ∷ g) d i j x h =
-      set-before-sets g (set d j a) i (suc j) x (omega arith)
-      ∙ ap (λ (l : List A). sets l (suc j) g) (set-comm d j i a x (λ e. omega arith))
+-- writing all from the start equals writing the rest from i on
+pub record Left (f : ℕ → ℕ) (n : ℕ) (out₀ out : List ℕ) (i : ℕ) : Type 0 where
+  pub same : length out ≡ length out₀
+  pub rest : sets out₀ 0 (table f 0 n) ≡ sets out i (table f i (n - i))
 
-  -- what was written there before does not count
-  pub sets-over : (g f d : List A) (i : ℕ) → length g ≤ length f → sets (sets d i g) i f ≡ sets d i f
-  sets-over [] f d i h = refl
-  sets-over (a ∷ g) [] d i h = absurd (omega arith)
-  sets-over (a ∷ g) (x ∷ f) d i h =
-      ap (λ (l : List A). sets l (suc i) f) (set-before-sets g (set d i a) i (suc i) x (omega arith))
-      ∙ ap (λ (l : List A). sets (sets l (suc i) g) (suc i) f) (set-set d i a x)
-      ∙ sets-over g f (set d i x) (suc i) (omega arith)
+pub left-start : (f : ℕ → ℕ) (n : ℕ) (out : List ℕ) → Left f n out out 0
+left-start f n out = record { same = refl; rest = rw sub-zero }
+
+module _ {f : ℕ → ℕ} {n : ℕ} {out₀ out : List ℕ} {i : ℕ} (left : Left f n out₀ out i) where
+  -- with word i
+  pub left-more : (x : ℕ) → i < n → x ≡ f i → Left f n out₀ (set out i x) (i + 1)
+  left-more x h e =
+      record {
+        same = length-set out i x ∙ left .same;
+        rest = left .rest ∙ rw e (sets-cons out _ (f i) _ i (i + 1) (table-rest f n i h) refl);
+      }
+
+  pub left-end : n ≤ i → out ≡ sets out₀ 0 (table f 0 n)
+  left-end h = sym (left .rest ∙ ap (sets out i) (table-done f n i h))

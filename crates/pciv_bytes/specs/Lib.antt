@@ -1,6 +1,4 @@
 pub mod Ranges
 pub mod LittleEndian
-pub mod Counts
+pub mod ByteAt
 pub mod Any
-pub mod Pairs
-pub mod Extremes

@@ -1,7 +1,6 @@
-// Bytes: little-endian numbers, counts and sums, copies, two lists byte by byte. Nothing here knows of PCIV.
+// Bytes and lists: little-endian numbers, copies, moves, a search, the smaller of two numbers. Nothing of PCIV.
 pub mod copies;
-pub mod counts;
-pub mod extremes;
 pub mod find;
 pub mod little_endian;
-pub mod pairs;
+pub mod moves;
+pub mod numbers;

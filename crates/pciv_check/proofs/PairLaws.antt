@@ -4,15 +4,15 @@
 --   file-pairCounts             on the files of two lists: refusal 10, or the counts of both
 --   pairOutcome-is              what follows the check of two files follows its counts; -ready and -refused
 --   pairAnswer-ready, -refused  what an answer says of its outcome
-use mathlib.Core.Path.{_≡_, refl, sym, ap, _∙_}
+-- Axioms: none.
+use mathlib.Core.Path.{_≡_, refl, _∙_}
 use Prim.Native.Nat.{ℕ}
-use native.Mathlib.Omega.{arith}
 use mathlib.Core.Bool.{Bool, true, false, not}
 use mathlib.Core.List.{List}
 use lib.Dec.{eqb}
 use Rattle.pciv_format.specs.Layout.{countsOf, summary, fileOf, summaryOf, Limits}
 use Rattle.pciv_format.specs.Refusals.{Outcome, done, refused, refuse, refuseIf, andThen}
-use Rattle.pciv_format.specs.Check.{checkFile, CheckedMap}
+use Rattle.pciv_format.specs.Check.{checkFile}
 use Rattle.pciv_format.specs.Arith.{pairOutcome}
 use Rattle.pciv_format.specs.declared.Summary.{Summary}
 use Rattle.pciv_format.specs.declared.Refusal.{Refusal}

@@ -1,6 +1,11 @@
--- Which refusal a file gets, case by case.
-use mathlib.Core.Path.{_≡_, refl, sym, ap, _∙_}
-use Prim.Native.Nat.{ℕ, _+_, _*_, _≤_, _<_}
+-- What the check of a file's header and length answers, case by case.
+--   wrongLength-fits          a file whose length is not wrong is inside the bytes
+--   badCounts-k, -step, -m    wrong counts: too many entries, another step, another number of index entries
+--   header-short, -mark, -slots, -counts    the refusals 1 to 4
+--   header-inside             a header that states its file's counts, before bytes enough
+-- Axioms: none.
+use mathlib.Core.Path.{_≡_, ap}
+use Prim.Native.Nat.{ℕ, _≤_, _<_}
 use native.Mathlib.Omega.{arith}
 use mathlib.Core.Bool.{Bool, true, false, not, _||_}
 use mathlib.Core.List.{List}
@@ -8,22 +13,18 @@ use lib.ListN.{length}
 use lib.Dec.{ltb, eqb}
 use borrow.Author.Tests.{lt-ltb, le-ltb, ltb-false}
 use Rattle.pciv_bytes.specs.LittleEndian.{get}
-use Rattle.pciv_bytes.specs.Ranges.{firstBelow}
 use Rattle.pciv_format.specs.Layout.{maxSlots, magic, indexStep, indexLen, countsOf}
 use Rattle.pciv_format.specs.Refusals.{done, refuse}
-use Rattle.pciv_format.specs.Parts.{badEntry, badSlot}
-use Rattle.pciv_format.specs.Check.{nField, kField, mField, stepField, fileParts, badIndexEntry, badCounts, checkHeader, checkParts}
+use Rattle.pciv_format.specs.Check.{nField, kField, mField, stepField, badCounts, checkHeader}
 use Rattle.pciv_format.specs.declared.Summary.{Summary}
 use Rattle.pciv_format.proofs.PartsLaws.{or-true, not-eqb, eqb-not, neb-not}
-use Rattle.pciv_format.proofs.RefusalsLaws.{refuseFirst-none, refuseFirst-some}
 use Rattle.pciv_format.proofs.LayoutLaws.{fileLen-is}
 use Rattle.pciv_format.proofs.CheckLaws.{done-checkHeader}
-use Rattle.pciv_check.specs.Inside.{PartsInside}
+use Rattle.pciv_check_parts.specs.Inside.{PartsInside}
 use Rattle.pciv_check.specs.Length.{wrongLength}
 
 -- ---- the length
 
--- a file whose length is not wrong is inside the bytes
 pub wrongLength-fits : (whole : Bool) (len l : ℕ) → wrongLength whole len l ≡ false → l ≤ len
 wrongLength-fits true len l h = let same : len ≡ l = not-eqb len l h in omega arith
 wrongLength-fits false len l h = ltb-false len l h
@@ -66,7 +67,6 @@ module _ (mp : ℕ) (b : List ℕ) where
       header-counts small h =
           rw (le-ltb (length b) 40 long, eqb-not (get 8 b 0) magic mark, le-ltb maxSlots (nField b) small, h)
 
-  -- a header that states its file's counts, before bytes enough
   pub header-inside : (s : Summary) → checkHeader mp b ≡ done s → s .len ≤ length b → PartsInside b (s .n) (s .k)
   unfolding countsOf
   header-inside s e fits =
@@ -78,33 +78,3 @@ module _ (mp : ℕ) (b : List ℕ) where
         few = h .few;
         inside = omega (arith, ap (λ (z : Summary). z .len) (d .1), fileLen-is (nField b) (kField b));
       })
-
--- ---- the parts
-
-module _ (mp : ℕ) (b : List ℕ) (n k place : ℕ) where
-  pub parts-entry : place ≡ firstBelow (badEntry (fileParts b n k)) k → place < k → checkParts mp b n k ≡ refuse 6 mp place
-  unfolding checkParts
-  parts-entry e h = refuseFirst-some 6 mp (badEntry (fileParts b n k)) k place _ e h
-
-  module _ (entries : (j : ℕ) → j < k → badEntry (fileParts b n k) j ≡ false) where
-    pub parts-slot : place ≡ firstBelow (badSlot (fileParts b n k)) n → place < n → checkParts mp b n k ≡ refuse 7 mp place
-    unfolding checkParts
-    parts-slot e h =
-        refuseFirst-none 6 mp (badEntry (fileParts b n k)) k _ entries
-        ∙ refuseFirst-some 7 mp (badSlot (fileParts b n k)) n place _ e h
-
-    pub parts-index : ((i : ℕ) → i < n → badSlot (fileParts b n k) i ≡ false)
-        → place ≡ firstBelow (badIndexEntry b n k) (indexLen k) → place < indexLen k → checkParts mp b n k ≡ refuse 8 mp place
-    unfolding checkParts
-    parts-index slots e h =
-        refuseFirst-none 6 mp (badEntry (fileParts b n k)) k _ entries
-        ∙ refuseFirst-none 7 mp (badSlot (fileParts b n k)) n _ slots
-        ∙ refuseFirst-some 8 mp (badIndexEntry b n k) (indexLen k) place _ e h
-
-    pub parts-done : ((i : ℕ) → i < n → badSlot (fileParts b n k) i ≡ false)
-        → ((i : ℕ) → i < indexLen k → badIndexEntry b n k i ≡ false) → checkParts mp b n k ≡ done (countsOf n k)
-    unfolding checkParts
-    parts-done slots index =
-        refuseFirst-none 6 mp (badEntry (fileParts b n k)) k _ entries
-        ∙ refuseFirst-none 7 mp (badSlot (fileParts b n k)) n _ slots
-        ∙ refuseFirst-none 8 mp (badIndexEntry b n k) (indexLen k) _ index

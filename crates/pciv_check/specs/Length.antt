@@ -1,4 +1,7 @@
--- Which length refusal 5 asks for: a whole file's, or at least the file's.
+-- Which length refusal 5 asks for.
+--   wrongLength whole have len    `have` bytes are wrong for a file of len: others than len, or, for the front of a
+--                                 buffer, fewer
+-- Laws are in proofs/RefusalLaws.antt. Axioms: none.
 use Prim.Native.Nat.{ℕ}
 use mathlib.Core.Bool.{Bool, true, false}
 use lib.Dec.{ltb}

@@ -1,3 +1,2 @@
-pub mod Inside
 pub mod Pair
 pub mod Length

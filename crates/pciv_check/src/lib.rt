@@ -1,204 +1,53 @@
 // The check of a whole file, and of the file at the front of a buffer (docs/FORMAT.md, "Refusals"): refusals 1 to 8,
-// first case first, else the summary.
-// One pass over the overflow entries and a count of the bytes 255 decide refusals 6 and 7; only where the
-// count is off does a walk over the slots look for the least one without an entry.
+// first case first, else the summary. Its header and length are checked here, its parts in pciv_check_parts.
+pub mod pair;
+
 ghost use mathlib.Core.Path.{_≡_};
 ghost use mathlib.Core.Bool.{false};
-ghost use Prim.Native.Nat.{ℕ, _+_, _*_, _≤_, _<_};
-ghost use lib.ListN.{length};
-ghost use Rattle.pciv_bytes.specs.Ranges.{firstBelow};
-ghost use Rattle.pciv_format.specs.Layout.{indexLen};
-ghost use Rattle.pciv_format.specs.Refusals.{refuse, fileAnswer};
-ghost use Rattle.pciv_format.specs.Parts.{lowestSlot, badEntry, badSlot};
-ghost use Rattle.pciv_format.specs.Check.{fileParts, badIndexEntry, checkHeader, checkParts, checkWith, checkFile, checkBuffer};
-ghost use Rattle.pciv_check.specs.Inside.{PartsInside};
+ghost use Prim.Native.Nat.{_<_};
+ghost use Rattle.pciv_format.specs.Refusals.{fileAnswer};
+ghost use Rattle.pciv_format.specs.Check.{checkHeader, checkWith, checkFile, checkBuffer};
 ghost use Rattle.pciv_check.specs.Length.{wrongLength};
-use pciv_bytes::counts::count_byte;
-use pciv_bytes::little_endian::get32;
 use pciv_bytes::little_endian::get64;
-use pciv_counts::file_len;
-use pciv_counts::index_len;
-use pciv_counts::index_step;
+use pciv_check_parts::check_parts;
 use pciv_format::BAD_COUNTS;
-use pciv_format::BAD_INDEX_ENTRY;
 use pciv_format::BAD_LENGTH;
 use pciv_format::BAD_MAGIC;
-use pciv_format::BAD_OVERFLOW_ENTRY;
 use pciv_format::FileAnswer;
 use pciv_format::HEADER_LEN;
 use pciv_format::MAGIC;
 use pciv_format::MAX_SLOTS;
-use pciv_format::MISSING_OVERFLOW_ENTRY;
-use pciv_format::Refusal;
-use pciv_format::SENTINEL;
-use pciv_format::Summary;
 use pciv_format::TOO_MANY_SLOTS;
 use pciv_format::TRUNCATED_HEADER;
-
-pub mod pair;
-
-// A refusal as an answer.
-fn refused(number: usize, map: usize, place: usize) -> FileAnswer
-    ensures { λ r. ⌜ r ≡ fileAnswer (refuse number map place) ⌝ }
-{
-    FileAnswer::Refused(Refusal { number, map, place })
-}
-
-// Overflow entry j is wrong; its slot may be `lowest` at the least.
-fn bad_entry(file: &[u8], n: usize, k: usize, lowest: usize, j: usize) -> bool
-    requires { ⌜ PartsInside (now file) n k ⌝ }
-    requires { ⌜ (j < k) × (lowest ≡ lowestSlot (fileParts (now file) n k) j) ⌝ }
-    ensures { λ r. ⌜ r ≡ badEntry (fileParts (now (file .entry)) n k) j ⌝ }
-{
-    let at = HEADER_LEN + n + 12 * j;
-    let slot = get64(file, at);
-    if n <= slot {
-        return true;
-    }
-    if slot < lowest {
-        return true;
-    }
-    if get32(file, at + 8) < 255 {
-        return true;
-    }
-    file[HEADER_LEN + slot] != SENTINEL
-}
-
-// The least overflow entry that is wrong, or k.
-fn first_bad_entry(file: &[u8], n: usize, k: usize) -> usize
-    requires { ⌜ PartsInside (now file) n k ⌝ }
-    ensures { λ r. ⌜ r ≡ firstBelow (badEntry (fileParts (now (file .entry)) n k)) k ⌝ }
-{
-    let mut lowest: usize = 0;
-    let mut j: usize = 0;
-    while j < k {
-        if bad_entry(file, n, k, lowest, j) {
-            return j;
-        }
-        lowest = get64(file, HEADER_LEN + n + 12 * j) + 1;
-        j += 1;
-    }
-    k
-}
-
-// The least slot with byte 255 and no overflow entry, or n, by a walk over all slots.
-fn walk_slots(file: &[u8], n: usize, k: usize) -> usize
-    requires { ⌜ PartsInside (now file) n k ⌝ }
-    requires { ⌜ ((j : ℕ) → j < k → badEntry (fileParts (now file) n k) j ≡ false) ⌝ }
-    ensures { λ r. ⌜ r ≡ firstBelow (badSlot (fileParts (now (file .entry)) n k)) n ⌝ }
-{
-    let mut j: usize = 0;
-    let mut i: usize = 0;
-    while i < n {
-        if file[HEADER_LEN + i] == SENTINEL {
-            if k <= j {
-                return i;
-            }
-            if get64(file, HEADER_LEN + n + 12 * j) != i {
-                return i;
-            }
-            j += 1;
-        }
-        i += 1;
-    }
-    n
-}
-
-// The same; where the bytes 255 are as many as the entries, each has one.
-fn first_bad_slot(file: &[u8], n: usize, k: usize) -> usize
-    requires { ⌜ PartsInside (now file) n k ⌝ }
-    requires { ⌜ ((j : ℕ) → j < k → badEntry (fileParts (now file) n k) j ≡ false) ⌝ }
-    ensures { λ r. ⌜ r ≡ firstBelow (badSlot (fileParts (now (file .entry)) n k)) n ⌝ }
-{
-    let end = HEADER_LEN + n;
-    if count_byte(&file[HEADER_LEN..end], SENTINEL) == k {
-        return n;
-    }
-    walk_slots(file, n, k)
-}
-
-// The least index entry that is wrong, or the number of index entries.
-fn first_bad_index_entry(file: &[u8], n: usize, k: usize) -> usize
-    requires { ⌜ PartsInside (now file) n k ⌝ }
-    ensures { λ r. ⌜ r ≡ firstBelow (badIndexEntry (now (file .entry)) n k) (indexLen k) ⌝ }
-{
-    let step = index_step(k);
-    let m = index_len(k);
-    let mut i: usize = 0;
-    while i < m {
-        let j = i * step;
-        let at = HEADER_LEN + n + 12 * k + 16 * i;
-        if get64(file, at) != get64(file, HEADER_LEN + n + 12 * j) {
-            return i;
-        }
-        if get64(file, at + 8) != j {
-            return i;
-        }
-        i += 1;
-    }
-    m
-}
-
-// Refusals 6 to 8, else the counts.
-fn check_parts(file: &[u8], map: usize, n: usize, k: usize) -> FileAnswer
-    requires { ⌜ PartsInside (now file) n k ⌝ }
-    ensures { λ r. ⌜ r ≡ fileAnswer (checkParts map (now (file .entry)) n k) ⌝ }
-{
-    let entry = first_bad_entry(file, n, k);
-    if entry < k {
-        return refused(BAD_OVERFLOW_ENTRY, map, entry);
-    }
-    let slot = first_bad_slot(file, n, k);
-    if slot < n {
-        return refused(MISSING_OVERFLOW_ENTRY, map, slot);
-    }
-    let m = index_len(k);
-    let index = first_bad_index_entry(file, n, k);
-    if index < m {
-        return refused(BAD_INDEX_ENTRY, map, index);
-    }
-    FileAnswer::Done(Summary {
-        n,
-        k,
-        m,
-        step: index_step(k),
-        len: file_len(n, k),
-    })
-}
+use pciv_layout::refusals::refuse_file;
+use pciv_layout::summary_of;
 
 // Refusals 1 to 4, else the counts of the header.
 fn check_header(file: &[u8], map: usize) -> FileAnswer
     ensures { λ r. ⌜ r ≡ fileAnswer (checkHeader map (now (file .entry))) ⌝ }
 {
     if file.len() < HEADER_LEN {
-        return refused(TRUNCATED_HEADER, map, 0);
+        return refuse_file(TRUNCATED_HEADER, map, 0);
     }
     if get64(file, 0) != MAGIC {
-        return refused(BAD_MAGIC, map, 0);
+        return refuse_file(BAD_MAGIC, map, 0);
     }
     let n = get64(file, 8);
     if MAX_SLOTS < n {
-        return refused(TOO_MANY_SLOTS, map, 0);
+        return refuse_file(TOO_MANY_SLOTS, map, 0);
     }
     let k = get64(file, 16);
     if n < k {
-        return refused(BAD_COUNTS, map, 0);
+        return refuse_file(BAD_COUNTS, map, 0);
     }
-    let step = index_step(k);
-    if get64(file, 32) != step {
-        return refused(BAD_COUNTS, map, 0);
+    let counts = summary_of(n, k);
+    if get64(file, 32) != counts.step {
+        return refuse_file(BAD_COUNTS, map, 0);
     }
-    let m = index_len(k);
-    if get64(file, 24) != m {
-        return refused(BAD_COUNTS, map, 0);
+    if get64(file, 24) != counts.m {
+        return refuse_file(BAD_COUNTS, map, 0);
     }
-    FileAnswer::Done(Summary {
-        n,
-        k,
-        m,
-        step,
-        len: file_len(n, k),
-    })
+    FileAnswer::Done(counts)
 }
 
 // A file of `len` bytes is wrong in a slice of `have`: a whole file has exactly its length, and a buffer to be edited
@@ -214,7 +63,7 @@ fn wrong_length(whole: bool, have: usize, len: usize) -> bool
 
 // Refusals 1 to 8 with the map's number, of a whole file or of the file at the front of a buffer. The number is 1, or 2
 // for the second map of a call.
-fn check_with(file: &[u8], map: usize, whole: bool) -> FileAnswer
+pub(crate) fn check_with(file: &[u8], map: usize, whole: bool) -> FileAnswer
     ensures { λ r. ⌜ r ≡ fileAnswer (checkWith (wrongLength whole) map (now (file .entry))) ⌝ }
 {
     let counts = check_header(file, map);
@@ -225,7 +74,7 @@ fn check_with(file: &[u8], map: usize, whole: bool) -> FileAnswer
             let k = s.k;
             let len = s.len;
             if wrong_length(whole, file.len(), len) {
-                return refused(BAD_LENGTH, map, 0);
+                return refuse_file(BAD_LENGTH, map, 0);
             }
             check_parts(file, map, n, k)
         }

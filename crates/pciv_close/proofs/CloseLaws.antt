@@ -1,45 +1,26 @@
--- Laws of the parts that close is given: the test of an entry, case by case; entries that one list lacks; the
--- parts with the distances left out.
+-- The parts that close is given: two lists of entries, and these with the distances left out.
+--   slot-is, entry-is       the slot of entry j, and its test
+--   first-bad-end           where the entries that both lists have are right: the first that one of them lacks, if any
+--   lengths-same            where all are right, the lists are equally long
+--   slotParts-right, -slot  with the distances left out: every entry is right, and the same slots lack an entry
+-- Axioms: none.
 use mathlib.Core.Path.{_≡_, refl, sym, ap, _∙_}
 use Prim.Native.Nat.{ℕ, zero, suc, min, max, _≤_, _<_}
 use native.Mathlib.Nat.{max-eq-left}
 use native.Mathlib.Omega.{arith}
 use native.Mathlib.Decide.{decLe}
-use mathlib.Core.Bool.{true, false, not, _&&_, _||_}
-use mathlib.Core.List.{List, [], _∷_}
+use mathlib.Core.Bool.{true, false, _&&_}
+use mathlib.Core.List.{List}
 use lib.ListN.{length, getD, List·getD-eq-default}
-use lib.Dec.{ltb, leb, eqb}
-use borrow.Author.Tests.{lt-ltb, le-ltb, le-leb, lt-leb}
+use lib.Dec.{leb, eqb}
 use Rattle.pciv_bytes.specs.Ranges.{firstBelow}
 use Rattle.pciv_bytes.proofs.RangesLaws.{true-false, getD-inside, firstBelow-none, firstBelow-at, firstBelow-cong}
 use Rattle.pciv_format.specs.Layout.{at}
-use Rattle.pciv_format.specs.Parts.{Parts, lowestSlot, badEntry, entryOf, badSlot}
+use Rattle.pciv_format.specs.Parts.{Parts, wrongEntry, lowestSlot, badEntry, entryOf, badSlot, EntriesRight}
 use Rattle.pciv_format.specs.Write.{closeParts}
-use Rattle.pciv_format.proofs.PartsLaws.{GoodEntry, goodEntry-of-test, badEntry-good, or-true}
-use Rattle.pciv_check.proofs.EntryLaws.{badEntry-outside, badEntry-inline}
-use Rattle.pciv_close.specs.Close.{wrongEntry, slotParts, EntriesRight}
-
--- ---- the test of an entry
-
-module _ (bytes : List ℕ) (lowest slot distance : ℕ) where
-  pub wrongEntry-outside : length bytes ≤ slot → wrongEntry bytes lowest slot distance ≡ true
-  unfolding wrongEntry
-  wrongEntry-outside h = rw (le-leb (length bytes) slot h)
-
-  pub wrongEntry-low : slot < lowest → wrongEntry bytes lowest slot distance ≡ true
-  unfolding wrongEntry
-  wrongEntry-low h = rw (lt-ltb slot lowest h, or-true (leb (length bytes) slot))
-
-  pub wrongEntry-inline : distance < 255 → wrongEntry bytes lowest slot distance ≡ true
-  unfolding wrongEntry
-  wrongEntry-inline h = rw (lt-ltb distance 255 h, or-true (leb (length bytes) slot || ltb slot lowest))
-
-  -- the rest is right: the primary byte decides
-  pub wrongEntry-byte : slot < length bytes → lowest ≤ slot → 255 ≤ distance
-      → wrongEntry bytes lowest slot distance ≡ not (eqb (at bytes slot) 255)
-  unfolding wrongEntry
-  wrongEntry-byte inside above overflows =
-      rw (lt-leb (length bytes) slot inside, le-ltb slot lowest above, le-ltb distance 255 overflows)
+use Rattle.pciv_format.proofs.PartsLaws.{GoodEntry, goodEntry-of-test, badEntry-good}
+use Rattle.pciv_format.proofs.BadEntryLaws.{wrongEntry-outside, wrongEntry-inline, badEntry-is}
+use Rattle.pciv_close.specs.Close.{slotParts}
 
 -- ---- two lists of entries
 
@@ -48,18 +29,20 @@ module _ (bytes slots distances : List ℕ) where
   slot-is j h = getD-inside slots j (length bytes) 0 h
 
   pub entry-is : (j lowest : ℕ) → j < length slots → lowest ≡ lowestSlot (closeParts bytes slots distances) j
-      → badEntry (closeParts bytes slots distances) j ≡ wrongEntry bytes lowest (at slots j) (at distances j)
-  unfolding badEntry wrongEntry
-  entry-is j lowest h e = rw (e, slot-is j h)
+      → badEntry (closeParts bytes slots distances) j
+      ≡ wrongEntry (length bytes) (at bytes) lowest (at slots j) (at distances j)
+  entry-is j lowest h e = badEntry-is (closeParts bytes slots distances) j ∙ rw (e, slot-is j h)
 
   -- an entry that a list lacks
   lacks-slot : (j : ℕ) → length slots ≤ j → badEntry (closeParts bytes slots distances) j ≡ true
   lacks-slot j h =
-      badEntry-outside (closeParts bytes slots distances) j (omega (arith, List·getD-eq-default slots (length bytes) h))
+      badEntry-is (closeParts bytes slots distances) j
+      ∙ wrongEntry-outside _ _ _ _ _ (omega (arith, List·getD-eq-default slots (length bytes) h))
 
   lacks-distance : (j : ℕ) → length distances ≤ j → badEntry (closeParts bytes slots distances) j ≡ true
   lacks-distance j h =
-      badEntry-inline (closeParts bytes slots distances) j (omega (arith, List·getD-eq-default distances 0 h))
+      badEntry-is (closeParts bytes slots distances) j
+      ∙ wrongEntry-inline _ _ _ _ _ (omega (arith, List·getD-eq-default distances 0 h))
 
   lacks : (j : ℕ) → min (length slots) (length distances) ≤ j → badEntry (closeParts bytes slots distances) j ≡ true
   lacks j h =
@@ -87,7 +70,8 @@ module _ (bytes slots distances : List ℕ) where
               absurd (true-false (sym (lacks j (omega arith)) ∙ right j (omega arith))))
         ]
 
-    lowest-is : (j : ℕ) → j < length slots → lowestSlot (slotParts bytes slots) j ≡ lowestSlot (closeParts bytes slots distances) j
+    lowest-is : (j : ℕ) → j < length slots
+        → lowestSlot (slotParts bytes slots) j ≡ lowestSlot (closeParts bytes slots distances) j
     lowest-is zero h = refl
     lowest-is (suc j) h = rw (slot-is j (omega arith))
 

@@ -2,6 +2,7 @@
 --   primary-close, overflowPart-close, overflowCount-close
 --                                these, for the parts that close is given
 --   entries-start, -more, -end   writing them: before the first entry, one entry on, after the last
+-- Axioms: none.
 use mathlib.Core.Path.{_≡_, refl, sym, ap, ap₂, _∙_}
 use Prim.Native.Nat.{ℕ, zero, suc, _+_, _-_, _*_, max, _≤_, _<_}
 use native.Mathlib.Nat.{add-zero, sub-zero, zero-add, max-eq-left}
@@ -46,7 +47,8 @@ module _ (P : Parts) (sound : SoundParts P) (bytes : (i : ℕ) → P .byte i < 2
       ap (joined (overflowEntry (valueOf P))) (overflowSlots-are P sound bytes)
       ∙ joined-entries (valueOf P) (P .slot) (P .distance) (P .k) 0 (λ j h₁ h₂. valueOf-slot P sound j (omega arith))
 
-module _ (bytes slots distances : List ℕ) (sound : SoundParts (closeParts bytes slots distances)) (each : Bytes bytes) where
+module _ (bytes slots distances : List ℕ) (sound : SoundParts (closeParts bytes slots distances))
+    (each : Bytes bytes) where
   k-is : max (length slots) (length distances) ≡ length slots
   k-is = max-eq-left (omega (arith, lengths-same bytes slots distances (sound .entries)))
 

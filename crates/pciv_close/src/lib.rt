@@ -1,103 +1,51 @@
 // Close: the file of a primary array and its overflow entries (docs/FORMAT.md, "Writing").
 // One pass over the entries and a count of the bytes 255 decide refusals 6 and 7; only where the count is off
 // does a search between the entries look for the least slot without one. Then the file is written.
-pub mod entries;
-
 ghost use mathlib.Core.Path.{_≡_};
-ghost use Prim.Native.Nat.{_+_, _*_, min, max, _≤_};
+ghost use Prim.Native.Nat.{_+_, _*_, max, _≤_};
 ghost use lib.ListN.{length};
 ghost use lib.Seq.{sets};
 ghost use Rattle.pciv_bytes.specs.Ranges.{firstBelow};
 ghost use Rattle.pciv_format.specs.Layout.{maxSlots, at};
-ghost use Rattle.pciv_format.specs.Refusals.{refuse, fileAnswer};
-ghost use Rattle.pciv_format.specs.Parts.{badEntry, badSlot, SoundParts};
+ghost use Rattle.pciv_format.specs.Refusals.{fileAnswer};
+ghost use Rattle.pciv_format.specs.Parts.{badEntry, badSlot, EntriesRight, SoundParts};
 ghost use Rattle.pciv_format.specs.Write.{closeParts, closeOutcome, closeBuffer};
-ghost use Rattle.pciv_close.specs.Close.{wrongEntry, firstFull, slotParts, EntriesRight, entriesFrom, partsOutcome, partsBuffer};
+ghost use Rattle.pciv_close.specs.Close.{slotParts, entriesFrom, partsOutcome, partsBuffer};
 use pciv_build::begin;
 use pciv_build::finish;
 use pciv_build::put_entry;
 use pciv_bytes::copies::copy_bytes;
-use pciv_bytes::counts::count_byte;
+use pciv_bytes::find::find_byte;
+use pciv_bytes::numbers::larger;
+use pciv_bytes::numbers::smaller;
 use pciv_format::BAD_OVERFLOW_ENTRY;
 use pciv_format::FileAnswer;
 use pciv_format::HEADER_LEN;
 use pciv_format::MAX_SLOTS;
 use pciv_format::MISSING_OVERFLOW_ENTRY;
-use pciv_format::Refusal;
 use pciv_format::SENTINEL;
 use pciv_format::TOO_MANY_SLOTS;
-
-// A refusal of the map that is to be closed, as an answer.
-fn refused(number: usize, place: usize) -> FileAnswer
-    ensures { λ r. ⌜ r ≡ fileAnswer (refuse number 1 place) ⌝ }
-{
-    FileAnswer::Refused(Refusal {
-        number,
-        map: 1,
-        place,
-    })
-}
-
-fn shorter(a: usize, b: usize) -> usize
-    ensures { λ r. ⌜ r ≡ min a b ⌝ }
-{
-    if a < b { a } else { b }
-}
-
-fn longer(a: usize, b: usize) -> usize
-    ensures { λ r. ⌜ r ≡ max a b ⌝ }
-{
-    if a < b { b } else { a }
-}
+use pciv_layout::entries::wrong_entry;
+use pciv_layout::refusals::refuse_file;
+use pciv_passes::counts::count_byte;
 
 // ---- what is refused
-
-// An entry with this slot and distance is wrong; its slot may be `lowest` at the least.
-fn bad_entry(primary: &[u8], lowest: usize, slot: usize, distance: u32) -> bool
-    ensures { λ r. ⌜ r ≡ wrongEntry (now (primary .entry)) lowest slot distance ⌝ }
-{
-    if primary.len() <= slot {
-        return true;
-    }
-    if slot < lowest {
-        return true;
-    }
-    if distance < 255 {
-        return true;
-    }
-    primary[slot] != SENTINEL
-}
 
 // The least entry that is wrong, or how many there are. Where one list is shorter, the entry that it lacks is wrong.
 fn first_bad_entry(primary: &[u8], slots: &[usize], distances: &[u32]) -> usize
     ensures { λ r. ⌜ r ≡ firstBelow (badEntry (closeParts (now (primary .entry)) (now (slots .entry)) (now (distances .entry)))) (max (length (now (slots .entry))) (length (now (distances .entry)))) ⌝ }
 {
-    let end = shorter(slots.len(), distances.len());
+    let end = smaller(slots.len(), distances.len());
     let mut lowest: usize = 0;
     let mut j: usize = 0;
     while j < end {
-        if bad_entry(primary, lowest, slots[j], distances[j]) {
+        if wrong_entry(primary, lowest, slots[j], distances[j]) {
             return j;
         }
         lowest = slots[j] + 1;
         j += 1;
     }
     end
-}
-
-// The least slot from `from` up to `to` with byte 255, or `to`.
-fn first_full(primary: &[u8], from: usize, to: usize) -> usize
-    requires { ⌜ to ≤ length (now primary) ⌝ }
-    ensures { λ r. ⌜ r ≡ firstFull (at (now (primary .entry))) from to ⌝ }
-{
-    let mut i = from;
-    while i < to {
-        if primary[i] == SENTINEL {
-            return i;
-        }
-        i += 1;
-    }
-    to
 }
 
 // The least slot with byte 255 that is not among the entries' slots, or n, by a search between them.
@@ -109,14 +57,14 @@ fn search_slots(primary: &[u8], slots: &[usize]) -> usize
     let mut j: usize = 0;
     while j < slots.len() {
         let slot = slots[j];
-        let full = first_full(primary, from, slot);
+        let full = find_byte(primary, from, slot, SENTINEL);
         if full < slot {
             return full;
         }
         from = slot + 1;
         j += 1;
     }
-    first_full(primary, from, primary.len())
+    find_byte(primary, from, primary.len(), SENTINEL)
 }
 
 // The same; where the bytes 255 are as many as the entries, each has one.
@@ -175,15 +123,15 @@ pub fn close(primary: &[u8], slots: &[usize], distances: &[u32], out: &mut [u8])
 {
     let n = primary.len();
     if MAX_SLOTS < n {
-        return refused(TOO_MANY_SLOTS, 0);
+        return refuse_file(TOO_MANY_SLOTS, 1, 0);
     }
     let entry = first_bad_entry(primary, slots, distances);
-    if entry < longer(slots.len(), distances.len()) {
-        return refused(BAD_OVERFLOW_ENTRY, entry);
+    if entry < larger(slots.len(), distances.len()) {
+        return refuse_file(BAD_OVERFLOW_ENTRY, 1, entry);
     }
     let slot = first_bad_slot(primary, slots);
     if slot < n {
-        return refused(MISSING_OVERFLOW_ENTRY, slot);
+        return refuse_file(MISSING_OVERFLOW_ENTRY, 1, slot);
     }
     put_file(out, primary, slots, distances)
 }

@@ -3,8 +3,8 @@
 --   parts-fit        the difference is not negative, and neither part is above 2 ^ 53
 --   figure-refused   a refused pair
 --   figure-ready     two maps with counts c, as the code has it
---   figure-exact     two maps with counts c: both parts are at most 2 ^ 53, so that both are floats without loss, and the
---                    figure is the float that is nearest to their fraction
+--   figure-exact     two maps with counts c: both parts are at most 2 ^ 53, so that both are floats without loss, and
+--                    the figure is the float that is nearest to their fraction
 -- Axioms: none.
 use mathlib.Core.Path.{_≡_, refl, sym, ap, ap₂, _∙_}
 use Prim.Native.Nat.{ℕ, _+_, _-_, _^_, _≤_, _<_, min, max}
@@ -18,7 +18,7 @@ use lib.Ieee.{Float, binary64, round}
 use borrow.Author.Tests.{le-leb, lt-leb}
 use Rattle.pciv_bytes.specs.Ranges.{flag, sumFrom}
 use Rattle.pciv_bytes.specs.LittleEndian.{Bytes}
-use Rattle.pciv_bytes.specs.declared.extremes.Extremes.{Extremes}
+use Rattle.pciv_passes.specs.declared.extremes.Extremes.{Extremes}
 use Rattle.pciv_bytes.proofs.SumLaws.{sumFrom-cong, sumFrom-plus, sumFrom-flag-le}
 use Rattle.pciv_format.specs.Layout.{at}
 use Rattle.pciv_format.specs.Refusals.{Outcome, done, refused}
@@ -32,13 +32,13 @@ use Rattle.pciv_format.proofs.ReadLaws.{length-listOf, at-list, total-is}
 use Rattle.pciv_check.specs.Pair.{pairCounts, CheckedPair}
 use Rattle.pciv_check.specs.declared.pair.PairCounts.{PairCounts}
 use Rattle.pciv_check.proofs.PairLaws.{pair-checked, pairOutcome-ready, pairOutcome-refused}
-use Rattle.pciv_map.proofs.MapLaws.{sum-lt}
+use Rattle.pciv_format.proofs.MapLaws.{sum-lt}
 use Rattle.pciv_compare.specs.Weigh.{weightOf, over, Weighed}
 use Rattle.pciv_compare.specs.Figure.{figureOutcome, numeratorOf, denominatorOf, divisorOf}
 use Rattle.pciv_compare.specs.declared.weigh.Weight.{Weight}
 use Rattle.pciv_compare.specs.declared.weigh.Weight.the-variants.{Distance, From}
 use Rattle.pciv_compare.proofs.WeighLaws.{weighed-both}
-use Rattle.pciv_compare.proofs.ExactLaws.{quotient-nearest}
+use Rattle.pciv_format.proofs.QuotientLaws.{quotient-nearest}
 
 -- ---- at one slot
 
@@ -91,7 +91,8 @@ module _ (a b : List ℕ) (n ka kb : ℕ) (pair : CheckedPair a b n ka kb) where
       rw (length-listOf a, ha .nIs)
       (sumFrom-cong (λ (i : ℕ). f (at (listOf a) i) (at (listOf b) i)) (λ (i : ℕ). f (u i) (v i)) 0 n
       (λ i h₁ h₂.
-      ap₂ f (at-list a n ka (ha .nIs) (ha .kIs) i (omega arith)) (at-list b n kb (hb .nIs) (hb .kIs) i (omega arith))))
+      ap₂ f (at-list a n ka (ha .nIs) (ha .kIs) i (omega arith))
+      (at-list b n kb (hb .nIs) (hb .kIs) i (omega arith))))
 
   totals : total (listOf a) + total (listOf b) ≡ sumFrom u 0 n + sumFrom v 0 n
   totals =
@@ -100,16 +101,18 @@ module _ (a b : List ℕ) (n ka kb : ℕ) (pair : CheckedPair a b n ka kb) where
       ap₂ (λ (x y : ℕ). x + y) (total-is a n ka (ha .nIs) (ha .kIs)) (total-is b n kb (hb .nIs) (hb .kIs))
 
   -- the numerator and what the smaller distances weigh are what the larger ones do
-  numerator-is : (w : Weight) → numeratorOf w (listOf a) (listOf b) + over min (weightOf w) u v n ≡ over max (weightOf w) u v n
+  numerator-is : (w : Weight)
+      → numeratorOf w (listOf a) (listOf b) + over min (weightOf w) u v n ≡ over max (weightOf w) u v n
   unfolding distanceBetween countAt
   numerator-is Distance =
       rw (over-lists (λ (x y : ℕ). (x - y) + (y - x)))
-      (sumFrom-plus (λ (i : ℕ). (u i - v i) + (v i - u i)) (λ (i : ℕ). min (u i) (v i)) (λ (i : ℕ). max (u i) (v i)) 0 n
-      (λ i h₁ h₂. omega arith))
+      (sumFrom-plus (λ (i : ℕ). (u i - v i) + (v i - u i)) (λ (i : ℕ). min (u i) (v i))
+      (λ (i : ℕ). max (u i) (v i)) 0 n (λ i h₁ h₂. omega arith))
   numerator-is (From t) =
       rw (over-lists (λ (x y : ℕ). flag (xor (leb t x) (leb t y))))
       (sumFrom-plus (λ (i : ℕ). flag (xor (leb t (u i)) (leb t (v i)))) (λ (i : ℕ). flag (leb t (min (u i) (v i))))
-      (λ (i : ℕ). flag (leb t (max (u i) (v i)))) 0 n (λ i h₁ h₂. rw (leb-min t (u i) (v i), leb-max t (u i) (v i)) (flag-xor (leb t (u i)) (leb t (v i)))))
+      (λ (i : ℕ). flag (leb t (max (u i) (v i)))) 0 n
+      (λ i h₁ h₂. rw (leb-min t (u i) (v i), leb-max t (u i) (v i)) (flag-xor (leb t (u i)) (leb t (v i)))))
 
   -- those at t or above in either map
   either-is : (t : ℕ) → countAt _||_ t (listOf a) (listOf b) ≡ over max (weightOf (From t)) u v n
@@ -194,7 +197,8 @@ module _ (w : Weight) (a b : List ℕ) where
     figure-exact bytesA bytesB =
         let u : ℕ → ℕ = valueOf (fileParts a (c .n) (c .ka)) in
         let v : ℕ → ℕ = valueOf (fileParts b (c .n) (c .kb)) in
-        let r : Extremes = record { least = over min (weightOf w) u v (c .n); most = over max (weightOf w) u v (c .n) } in
+        let f : ℕ → ℕ = weightOf w in
+        let r : Extremes = record { least = over min f u v (c .n); most = over max f u v (c .n) } in
         let x : Weighed (weightOf w) u v (c .n) r = record { least = refl; most = refl } in
         let are = parts-are a b (c .n) (c .ka) (c .kb) checked r w x in
         let fit = parts-fit a b (c .n) (c .ka) (c .kb) checked r bytesA bytesB w x in

@@ -1,3 +1,2 @@
-pub mod ExactLaws
 pub mod WeighLaws
 pub mod FigureLaws

@@ -4,7 +4,7 @@
 --   combined-shared        what a walk along the entries of the first map finds
 --   weighed-overflow       what the distances weigh more than their bytes, from the overflow entries
 --   weighed-bytes          what the primary bytes weigh, as parts of the files
---   weighed-distance, -from, late-distance, -from    what the distances weigh, from the two
+--   weighed-distance, weighed-from, late-distance, late-from    what the distances weigh, from the two
 -- Axioms: none.
 use mathlib.Core.Path.{_≡_, refl, sym, ap, ap₂, _∙_}
 use Prim.Native.Nat.{ℕ, _+_, _-_, _*_, _^_, _≤_, _<_, min, max}
@@ -16,22 +16,24 @@ use lib.Dec.{leb}
 use borrow.Author.Tests.{le-leb, lt-leb}
 use Rattle.pciv_bytes.specs.Ranges.{flag, sumFrom}
 use Rattle.pciv_bytes.specs.LittleEndian.{Bytes}
-use Rattle.pciv_bytes.specs.Counts.{byteAt, termOf}
-use Rattle.pciv_bytes.specs.Extremes.{ExtremeSums}
-use Rattle.pciv_bytes.specs.declared.counts.Term.{Term}
-use Rattle.pciv_bytes.specs.declared.counts.Term.the-variants.{Passing, Byte}
-use Rattle.pciv_bytes.specs.declared.counts.Test.the-variants.{AtLeast}
-use Rattle.pciv_bytes.specs.declared.extremes.Extremes.{Extremes}
-use Rattle.pciv_bytes.proofs.SumLaws.{flag-le, sumFrom-le, sumFrom-cong, sumFrom-plus}
+use Rattle.pciv_bytes.specs.ByteAt.{byteAt}
+use Rattle.pciv_passes.specs.Counts.{termOf}
+use Rattle.pciv_passes.specs.Extremes.{ExtremeSums}
+use Rattle.pciv_passes.specs.declared.counts.Term.{Term}
+use Rattle.pciv_passes.specs.declared.counts.Term.the-variants.{Passing, Byte}
+use Rattle.pciv_passes.specs.declared.counts.Test.the-variants.{AtLeast}
+use Rattle.pciv_passes.specs.declared.extremes.Extremes.{Extremes}
+use Rattle.pciv_bytes.proofs.RangesLaws.{flag-le}
+use Rattle.pciv_bytes.proofs.SumLaws.{sumFrom-le, sumFrom-cong, sumFrom-zeros, sumFrom-plus}
 use Rattle.pciv_bytes.proofs.LittleEndianLaws.{get-lt}
 use Rattle.pciv_format.specs.Parts.{Parts, valueOf, SoundParts}
 use Rattle.pciv_format.specs.Check.{fileParts, CheckedMap}
 use Rattle.pciv_format.specs.declared.SlotOp.the-variants.{Minimum}
 use Rattle.pciv_format.proofs.PartsLaws.{valueOf-slot, slot-cases}
-use Rattle.pciv_map.proofs.EntryLaws.{sum-entries-of}
-use Rattle.pciv_map.proofs.MapLaws.{primaryOf, primary-length, primary-at}
-use Rattle.pciv_merge.specs.Merge.{CombinedAt}
-use Rattle.pciv_merge.specs.declared.led.Combined.{Combined}
+use Rattle.pciv_format.proofs.EntryLaws.{sum-entries-of}
+use Rattle.pciv_format.proofs.MapLaws.{primaryOf, primary-length, primary-at}
+use Rattle.pciv_arith_merge.specs.Merge.{CombinedAt}
+use Rattle.pciv_arith_merge.specs.declared.led.Combined.{Combined}
 use Rattle.pciv_compare.specs.Weigh.{weightOf, beyondOf, Late, sharedAt, over, Weighed}
 use Rattle.pciv_compare.specs.declared.weigh.Weight.{Weight}
 use Rattle.pciv_compare.specs.declared.weigh.Weight.the-variants.{Distance, From}
@@ -91,9 +93,6 @@ module _ (w : Weight) (a : List ℕ) (bytes : Bytes a) (n k : ℕ) where
   pub shared-le : (B : Parts) → sumFrom (λ (j : ℕ). beyondOf w (sharedAt (fileParts a n k) B j)) 0 k ≤ 4294967296 * k
   shared-le B = beyond-le (sharedAt (fileParts a n k) B) (λ j. omega arith)
 
-sumFrom-zeros : (f : ℕ → ℕ) → ((j : ℕ) → f j ≡ 0) → (i c : ℕ) → sumFrom f i c ≡ 0
-sumFrom-zeros f none i c = omega (arith, sumFrom-le f 0 (λ j. omega (arith, none j)) i c)
-
 -- f of every slot and its distance, where it is 0 for what a byte can tell
 entries-alone : (P : Parts) → SoundParts P → ((i : ℕ) → P .byte i < 256) → (f : ℕ → ℕ → ℕ)
     → ((i x : ℕ) → x ≤ 255 → f i x ≡ 0)
@@ -101,7 +100,9 @@ entries-alone : (P : Parts) → SoundParts P → ((i : ℕ) → P .byte i < 256)
 entries-alone P s bytes f late =
     let all = sum-entries-of P s bytes f (λ (j : ℕ). f (P .slot j) (P .distance j))
     (λ j h. omega (arith, late (P .slot j) 255 (omega arith))) in
-    omega (arith, all, sumFrom-zeros (λ (i : ℕ). f i (P .byte i)) (λ i. late i (P .byte i) (omega (arith, bytes i))) 0 (P .n))
+    let none =
+    sumFrom-zeros (λ (i : ℕ). f i (P .byte i)) 0 (P .n) (λ i h₁ h₂. late i (P .byte i) (omega (arith, bytes i))) in
+    omega (arith, all, none)
 
 pub combined-shared : (A B : Parts) → SoundParts A → (j : ℕ) → j < A .k → (r : Combined) → CombinedAt Minimum A B j r
     → r .distance ≡ sharedAt A B j
@@ -116,48 +117,53 @@ module _ (A B : Parts) (n : A .n ≡ B .n) (sa : SoundParts A) (sb : SoundParts 
         entries-alone A sa bytesA (λ (i x : ℕ). beyondOf w (min x (valueOf B i)))
         (λ i x h. late (min x (valueOf B i)) (omega arith))
 
-    entries-both : over min (beyondOf w) (valueOf A) (valueOf B) (A .n) + over max (beyondOf w) (valueOf A) (valueOf B) (A .n)
-        ≡ sumFrom (λ (j : ℕ). beyondOf w (A .distance j)) 0 (A .k) + sumFrom (λ (j : ℕ). beyondOf w (B .distance j)) 0 (B .k)
+    entries-both :
+        over min (beyondOf w) (valueOf A) (valueOf B) (A .n) + over max (beyondOf w) (valueOf A) (valueOf B) (A .n)
+        ≡ sumFrom (λ (j : ℕ). beyondOf w (A .distance j)) 0 (A .k)
+        + sumFrom (λ (j : ℕ). beyondOf w (B .distance j)) 0 (B .k)
     entries-both =
         over-both (beyondOf w) (valueOf A) (valueOf B) (A .n)
         ∙ ap₂ (λ (x y : ℕ). x + y) (entries-alone A sa bytesA (λ (i x : ℕ). beyondOf w x) (λ i x h. late x h))
         (rw n (entries-alone B sb bytesB (λ (i x : ℕ). beyondOf w x) (λ i x h. late x h)))
 
-    pub weighed-overflow : (shared first second : ℕ) → shared ≡ sumFrom (λ (j : ℕ). beyondOf w (sharedAt A B j)) 0 (A .k)
+    pub weighed-overflow : (shared first second : ℕ)
+        → shared ≡ sumFrom (λ (j : ℕ). beyondOf w (sharedAt A B j)) 0 (A .k)
         → first ≡ sumFrom (λ (j : ℕ). beyondOf w (A .distance j)) 0 (A .k)
         → second ≡ sumFrom (λ (j : ℕ). beyondOf w (B .distance j)) 0 (B .k)
         → (shared ≤ first + second)
-        × Weighed (beyondOf w) (valueOf A) (valueOf B) (A .n) (record { least = shared; most = first + second - shared })
+        × Weighed (beyondOf w) (valueOf A) (valueOf B) (A .n)
+        (record { least = shared; most = first + second - shared })
     weighed-overflow shared first second es ea eb = (
       omega (arith, shared-all, entries-both),
       record { least = es ∙ sym shared-all; most = omega (arith, shared-all, entries-both) },
     )
 
-  -- ---- of primary bytes: each is the distance, cut at 255
+  -- ---- of primary bytes: each is the distance, at most 255
 
-  byte-cut : (P : Parts) → SoundParts P → ((i : ℕ) → P .byte i < 256) → (i : ℕ) → i < P .n → P .byte i ≡ min (valueOf P i) 255
-  byte-cut P s bytes i h = slot-cases P s bytes i h (λ small e. omega arith) (λ j hj at e w overflows. omega arith)
+  byte-capped : (P : Parts) → SoundParts P → ((i : ℕ) → P .byte i < 256) → (i : ℕ) → i < P .n
+      → P .byte i ≡ min (valueOf P i) 255
+  byte-capped P s bytes i h = slot-cases P s bytes i h (λ small e. omega arith) (λ j hj at e w overflows. omega arith)
 
-  cut-at : (i : ℕ) → i < A .n
+  capped-at : (i : ℕ) → i < A .n
       → (min (A .byte i) (B .byte i) ≡ min (min (valueOf A i) (valueOf B i)) 255)
       × (max (A .byte i) (B .byte i) ≡ min (max (valueOf A i) (valueOf B i)) 255)
-  cut-at i h =
-      let x = byte-cut A sa bytesA i h in
-      let y = byte-cut B sb bytesB i (omega arith) in
+  capped-at i h =
+      let x = byte-capped A sa bytesA i h in
+      let y = byte-capped B sb bytesB i (omega arith) in
       (omega arith, omega arith)
 
-  weighed-cut : (f g : ℕ → ℕ) → ((x : ℕ) → f (min x 255) ≡ g x) → (r : Extremes) → Weighed f (A .byte) (B .byte) (A .n) r
-      → Weighed g (valueOf A) (valueOf B) (A .n) r
-  weighed-cut f g each r w =
+  weighed-capped : (f g : ℕ → ℕ) → ((x : ℕ) → f (min x 255) ≡ g x) → (r : Extremes)
+      → Weighed f (A .byte) (B .byte) (A .n) r → Weighed g (valueOf A) (valueOf B) (A .n) r
+  weighed-capped f g each r w =
       record {
         least =
             w .least
             ∙ over-same min (A .n) f g (A .byte) (B .byte) (valueOf A) (valueOf B)
-            (λ i h. ap f (cut-at i h .0) ∙ each (min (valueOf A i) (valueOf B i)));
+            (λ i h. ap f (capped-at i h .0) ∙ each (min (valueOf A i) (valueOf B i)));
         most =
             w .most
             ∙ over-same max (A .n) f g (A .byte) (B .byte) (valueOf A) (valueOf B)
-            (λ i h. ap f (cut-at i h .1) ∙ each (max (valueOf A i) (valueOf B i)));
+            (λ i h. ap f (capped-at i h .1) ∙ each (max (valueOf A i) (valueOf B i)));
       }
 
   -- ---- of distances
@@ -167,29 +173,32 @@ module _ (A B : Parts) (n : A .n ≡ B .n) (sa : SoundParts A) (sb : SoundParts 
       → Weighed (weightOf Distance) (valueOf A) (valueOf B) (A .n)
       (record { least = r .least + s .least; most = r .most + s .most })
   weighed-distance r s wr ws =
-      let cut : ℕ → ℕ = λ x. min x 255 in
-      let w = weighed-cut (termOf Byte) cut (λ x. refl) r wr in
+      let capped : ℕ → ℕ = λ x. min x 255 in
+      let w = weighed-capped (termOf Byte) capped (λ x. refl) r wr in
       record {
         least =
             ap₂ (λ (x y : ℕ). x + y) (w .least) (ws .least)
-            ∙ over-plus min (A .n) cut (beyondOf Distance) (weightOf Distance) (valueOf A) (valueOf B) (λ x. omega arith);
+            ∙ over-plus min (A .n) capped (beyondOf Distance) (weightOf Distance) (valueOf A) (valueOf B)
+            (λ x. omega arith);
         most =
             ap₂ (λ (x y : ℕ). x + y) (w .most) (ws .most)
-            ∙ over-plus max (A .n) cut (beyondOf Distance) (weightOf Distance) (valueOf A) (valueOf B) (λ x. omega arith);
+            ∙ over-plus max (A .n) capped (beyondOf Distance) (weightOf Distance) (valueOf A) (valueOf B)
+            (λ x. omega arith);
       }
 
-  -- a threshold up to 255 is met before and after the cut
-  leb-cut : (t x : ℕ) → t ≤ 255 → leb t (min x 255) ≡ leb t x
-  leb-cut t x h =
+  -- a threshold up to 255 is met before and after
+  leb-capped : (t x : ℕ) → t ≤ 255 → leb t (min x 255) ≡ leb t x
+  leb-capped t x h =
       elim (decLe t x) [
         | yes d ↦ le-leb t (min x 255) (omega arith) ∙ sym (le-leb t x d)
         | no d ↦ lt-leb t (min x 255) (omega arith) ∙ sym (lt-leb t x (omega arith))
       ]
 
-  pub weighed-from : (t : ℕ) → t ≤ 255 → (r : Extremes) → Weighed (termOf (Passing (AtLeast t))) (A .byte) (B .byte) (A .n) r
+  pub weighed-from : (t : ℕ) → t ≤ 255 → (r : Extremes)
+      → Weighed (termOf (Passing (AtLeast t))) (A .byte) (B .byte) (A .n) r
       → Weighed (weightOf (From t)) (valueOf A) (valueOf B) (A .n) r
   weighed-from t h r w =
-      weighed-cut (termOf (Passing (AtLeast t))) (weightOf (From t)) (λ x. ap flag (leb-cut t x h)) r w
+      weighed-capped (termOf (Passing (AtLeast t))) (weightOf (From t)) (λ x. ap flag (leb-capped t x h)) r w
 
 -- distances weigh more than their bytes only above 255
 pub late-distance : Late Distance
@@ -207,10 +216,10 @@ module _ (a b : List ℕ) (n ka kb : ℕ) (ca : CheckedMap a n ka) (cb : Checked
       → Weighed (termOf of) (fileParts a n ka .byte) (fileParts b n kb .byte) n r
   weighed-bytes of r e =
       let whole : length (primaryOf a n) - 0 ≡ n = omega (arith, primary-length a n ka ca) in
-      let same : (m : ℕ → ℕ → ℕ)
-      → over m (termOf of) (byteAt (primaryOf a n)) (byteAt (primaryOf b n)) n
+      let x : ℕ → ℕ = byteAt (primaryOf a n) in
+      let y : ℕ → ℕ = byteAt (primaryOf b n) in
+      let same : (m : ℕ → ℕ → ℕ) → over m (termOf of) x y n
       ≡ over m (termOf of) (fileParts a n ka .byte) (fileParts b n kb .byte) n =
-      λ m. over-same m n (termOf of) (termOf of) (byteAt (primaryOf a n)) (byteAt (primaryOf b n)) (fileParts a n ka .byte)
-      (fileParts b n kb .byte)
+      λ m. over-same m n (termOf of) (termOf of) x y (fileParts a n ka .byte) (fileParts b n kb .byte)
       (λ i h. ap₂ (λ (x y : ℕ). termOf of (m x y)) (primary-at a n ka ca i h) (primary-at b n kb cb i h)) in
       record { least = (rw whole at (e .least)) ∙ same min; most = (rw whole at (e .most)) ∙ same max }

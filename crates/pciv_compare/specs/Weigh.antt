@@ -9,7 +9,7 @@ use mathlib.Core.Path.{_≡_}
 use Prim.Native.Nat.{ℕ, _-_, _≤_, min, max}
 use lib.Dec.{leb}
 use Rattle.pciv_bytes.specs.Ranges.{flag, sumFrom}
-use Rattle.pciv_bytes.specs.declared.extremes.Extremes.{Extremes}
+use Rattle.pciv_passes.specs.declared.extremes.Extremes.{Extremes}
 use Rattle.pciv_format.specs.Parts.{Parts, valueOf}
 use Rattle.pciv_compare.specs.declared.weigh.Weight.{Weight}
 use Rattle.pciv_compare.specs.declared.weigh.Weight.the-variants.{Distance, From}

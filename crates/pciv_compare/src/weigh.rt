@@ -5,19 +5,19 @@
 ghost use mathlib.Core.Path.{_≡_};
 ghost use Prim.Native.Nat.{ℕ};
 ghost use Rattle.pciv_bytes.specs.Ranges.{sumFrom};
-ghost use Rattle.pciv_bytes.specs.Counts.{termOf};
+ghost use Rattle.pciv_passes.specs.Counts.{termOf};
 ghost use Rattle.pciv_format.specs.Parts.{valueOf};
 ghost use Rattle.pciv_format.specs.Check.{fileParts, CheckedMap};
 ghost use Rattle.pciv_check.specs.Pair.{CheckedPair};
 ghost use Rattle.pciv_compare.specs.Weigh.{weightOf, beyondOf, Late, sharedAt, Weighed};
-use pciv_bytes::counts::Term;
-use pciv_bytes::counts::Test;
-use pciv_bytes::extremes::Extremes;
-use pciv_bytes::extremes::add_extremes;
+use pciv_arith_merge::led::combine_entry;
 use pciv_format::HEADER_LEN;
 use pciv_format::SlotOp;
 use pciv_map::entries::entry_distance;
-use pciv_merge::led::combine_entry;
+use pciv_passes::counts::Term;
+use pciv_passes::counts::Test;
+use pciv_passes::extremes::Extremes;
+use pciv_passes::extremes::add_extremes;
 
 // What a distance weighs: itself, or 1 where it is the given one or more.
 pub enum Weight {
@@ -28,7 +28,8 @@ pub enum Weight {
 // What the primary bytes weigh.
 fn weigh_bytes(of: Term, a: &[u8], b: &[u8], n: usize, ka: usize, kb: usize) -> Extremes
     requires { ⌜ CheckedPair (now a) (now b) n ka kb ⌝ }
-    ensures { λ r. ⌜ Weighed (termOf of) (fileParts (now (a .entry)) n ka .byte) (fileParts (now (b .entry)) n kb .byte) n r ⌝ }
+    ensures { λ r. ⌜ Weighed (termOf of) (fileParts (now (a .entry)) n ka .byte)
+        (fileParts (now (b .entry)) n kb .byte) n r ⌝ }
 {
     let end = HEADER_LEN + n;
     add_extremes(of, &a[HEADER_LEN..end], &b[HEADER_LEN..end])
@@ -61,7 +62,8 @@ fn weigh_entries(of: Weight, file: &[u8], n: usize, k: usize) -> usize
 // The same of the smaller distance at the slot of every overflow entry of the first map.
 fn weigh_shared(of: Weight, a: &[u8], b: &[u8], n: usize, ka: usize, kb: usize) -> usize
     requires { ⌜ CheckedPair (now a) (now b) n ka kb ⌝ }
-    ensures { λ r. ⌜ r ≡ sumFrom (λ (j : ℕ). beyondOf of (sharedAt (fileParts (now (a .entry)) n ka) (fileParts (now (b .entry)) n kb) j)) 0 ka ⌝ }
+    ensures { λ r. ⌜ r ≡ sumFrom (λ (j : ℕ). beyondOf of
+        (sharedAt (fileParts (now (a .entry)) n ka) (fileParts (now (b .entry)) n kb) j)) 0 ka ⌝ }
 {
     let mut sum: usize = 0;
     let mut t: usize = 0;
@@ -79,7 +81,8 @@ fn weigh_shared(of: Weight, a: &[u8], b: &[u8], n: usize, ka: usize, kb: usize) 
 fn weigh_overflow(of: Weight, a: &[u8], b: &[u8], n: usize, ka: usize, kb: usize) -> Extremes
     requires { ⌜ CheckedPair (now a) (now b) n ka kb ⌝ }
     requires { ⌜ Late of ⌝ }
-    ensures { λ r. ⌜ Weighed (beyondOf of) (valueOf (fileParts (now (a .entry)) n ka)) (valueOf (fileParts (now (b .entry)) n kb)) n r ⌝ }
+    ensures { λ r. ⌜ Weighed (beyondOf of) (valueOf (fileParts (now (a .entry)) n ka))
+        (valueOf (fileParts (now (b .entry)) n kb)) n r ⌝ }
 {
     let shared = weigh_shared(of, a, b, n, ka, kb);
     let first = weigh_entries(of, a, n, ka);
@@ -93,7 +96,8 @@ fn weigh_overflow(of: Weight, a: &[u8], b: &[u8], n: usize, ka: usize, kb: usize
 // What the distances weigh. A threshold up to 255 is met by a primary byte where it is met by the distance.
 pub(crate) fn weigh(of: Weight, a: &[u8], b: &[u8], n: usize, ka: usize, kb: usize) -> Extremes
     requires { ⌜ CheckedPair (now a) (now b) n ka kb ⌝ }
-    ensures { λ r. ⌜ Weighed (weightOf of) (valueOf (fileParts (now (a .entry)) n ka)) (valueOf (fileParts (now (b .entry)) n kb)) n r ⌝ }
+    ensures { λ r. ⌜ Weighed (weightOf of) (valueOf (fileParts (now (a .entry)) n ka))
+        (valueOf (fileParts (now (b .entry)) n kb)) n r ⌝ }
 {
     match of {
         Weight::Distance => {

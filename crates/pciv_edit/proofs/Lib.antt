@@ -1,3 +1,1 @@
-pub mod CaseLaws
-pub mod CrossLaws
-pub mod RunLaws
+pub mod EditListLaws

@@ -1,15 +1,13 @@
 // The editor (docs/FORMAT.md, "The editor"): one slot of the file at the front of the caller's buffer gets a new
 // distance, in place. What it answers and leaves is defined in pciv_format, specs/Edit.antt.
-mod change;
-mod checked;
 pub mod run;
 
 ghost use mathlib.Core.Path.{_≡_};
 ghost use Rattle.pciv_format.specs.Edit.{editOutcome, editAnswer, editBuffer};
-use crate::checked::edit_checked;
 use pciv_check::check_buffer;
 use pciv_format::EditAnswer;
 use pciv_format::FileAnswer;
+use pciv_slot::edit_checked;
 
 // Sets the slot to the distance, and answers the new file's summary. Refusals: 1 to 8, with map 1 and 5 only where the
 // buffer is shorter than the file; then 9 and 12. Only the new file's length is compared with the buffer.
@@ -26,9 +24,7 @@ pub fn edit(buffer: &mut [u8], slot: usize, distance: u32) -> EditAnswer
         FileAnswer::Done(s) => {
             let n = s.n;
             let k = s.k;
-            EditAnswer {
-                outcome: edit_checked(buffer, n, k, slot, distance),
-            }
+            edit_checked(buffer, n, k, slot, distance)
         }
     }
 }

@@ -1,13 +1,14 @@
-// A run of edits in one call (docs/FORMAT.md, "A run of edits"): the file is checked once, and each edit gets the buffer
-// as the one before left it. What the run answers and leaves is defined in pciv_format, specs/Edit.antt.
+// A run of edits in one call (docs/FORMAT.md, "A run of edits"): the file is checked once, and each edit gets the
+// buffer as the one before left it. What the run answers and leaves is defined in pciv_format, specs/Edit.antt.
 ghost use mathlib.Core.Path.{_≡_};
 ghost use Prim.Native.Nat.{_+_, _*_, _≤_};
 ghost use lib.ListN.{length};
 ghost use lib.Seq.{sets};
-ghost use Rattle.pciv_format.specs.Refusals.{refuse, numberAnswer};
+ghost use Rattle.pciv_format.specs.Refusals.{numberAnswer};
 ghost use Rattle.pciv_format.specs.Check.{CheckedMap};
-ghost use Rattle.pciv_format.specs.Edit.{editOutcome, editBuffer, editRun, editOutcomes, answerLen, cellsOf, answerCells, allCells, editsOf, editListOutcome, editListBuffer, editListAnswers};
-use crate::checked::edit_checked;
+ghost use Rattle.pciv_format.specs.Edit.{editOutcome, editBuffer, editRun, editOutcomes, answerLen};
+ghost use Rattle.pciv_format.specs.Edit.{cellsOf, answerCells, allCells, editsOf, editListOutcome};
+ghost use Rattle.pciv_format.specs.Edit.{editListBuffer, editListAnswers};
 use pciv_check::check_buffer;
 use pciv_format::ANSWER_LEN;
 use pciv_format::BUFFER_TOO_SMALL;
@@ -16,31 +17,20 @@ use pciv_format::NumberAnswer;
 use pciv_format::Refusal;
 use pciv_format::SLOT_OUT_OF_RANGE;
 use pciv_format::Summary;
-
-// A refusal that concerns no map.
-fn refused(number: usize, place: usize) -> NumberAnswer
-    ensures { λ r. ⌜ r ≡ numberAnswer (refuse number 0 place) ⌝ }
-{
-    NumberAnswer::Refused(Refusal {
-        number,
-        map: 0,
-        place,
-    })
-}
+use pciv_layout::refusals::refuse_number;
+use pciv_slot::edit_checked;
 
 // Writes the numbers of one answer.
 fn put_cells(answers: &mut [usize], at: usize, r: Refusal, s: Summary)
     requires { ⌜ at + answerLen ≤ length (now answers) ⌝ }
     ensures { λ _. ⌜ now (answers .exit) ≡ sets (now (answers .entry)) at (cellsOf r s) ⌝ }
 {
-    answers[at] = r.number;
-    answers[at + 1] = r.map;
-    answers[at + 2] = r.place;
-    answers[at + 3] = s.n;
-    answers[at + 4] = s.k;
-    answers[at + 5] = s.m;
-    answers[at + 6] = s.step;
-    answers[at + 7] = s.len;
+    let cells = [r.number, r.map, r.place, s.n, s.k, s.m, s.step, s.len];
+    let mut j = 0;
+    while j < ANSWER_LEN {
+        answers[at + j] = cells[j];
+        j += 1;
+    }
 }
 
 // One edit of a checked map; its answer goes to the caller's list. Answers how many overflow entries there are now.
@@ -59,7 +49,7 @@ fn edit_next(
     ensures buffer { λ _. ⌜ now (buffer .exit) ≡ editBuffer (now (buffer .entry)) (record { slot = slot; distance = distance }) ⌝ }
     ensures answers { λ _. ⌜ now (answers .exit) ≡ sets (now (answers .entry)) at (answerCells (editOutcome (now (buffer .entry)) (record { slot = slot; distance = distance }))) ⌝ }
 {
-    let told = edit_checked(buffer, n, k, slot, distance);
+    let told = edit_checked(buffer, n, k, slot, distance).outcome;
     match told {
         FileAnswer::Refused(r) => {
             let no_summary = Summary {
@@ -116,11 +106,11 @@ fn edit_all(
 }
 
 // Makes a run of edits on the file at the front of the buffer: edit j sets slot `slots[j]` to `distances[j]`.
-// Its answer is ANSWER_LEN numbers from `answers[ANSWER_LEN * j]` on: refusal number, map and place, then n, k, m, step
-// and length; 0 where it is the other. A refused edit changes no byte, and the run goes on. Answers how many edits.
-// Refusals of the run: 1 to 8, with map 1; then 9 where the lists differ in length, with the least position that has no
-// edit; then 12 where `answers` is too short. A refused run changes nothing. The 9 for lists of unequal length is chosen
-// here: the format's source has no such case.
+// Its answer is ANSWER_LEN numbers from `answers[ANSWER_LEN * j]` on: refusal number, map and place, then n, k, m,
+// step and length; 0 where it is the other. A refused edit changes no byte, and the run goes on. Answers how many edits.
+// Refusals of the run: 1 to 8, with map 1; then 9 where the lists differ in length, with the least position that has
+// no edit; then 12 where `answers` is too short. A refused run changes nothing. The 9 for lists of unequal length is
+// chosen here: the format's source has no such case.
 pub fn edit_list(
     buffer: &mut [u8],
     slots: &[usize],
@@ -138,13 +128,13 @@ pub fn edit_list(
             let n = s.n;
             let k = s.k;
             if slots.len() < distances.len() {
-                return refused(SLOT_OUT_OF_RANGE, slots.len());
+                return refuse_number(SLOT_OUT_OF_RANGE, 0, slots.len());
             }
             if distances.len() < slots.len() {
-                return refused(SLOT_OUT_OF_RANGE, distances.len());
+                return refuse_number(SLOT_OUT_OF_RANGE, 0, distances.len());
             }
             if answers.len() / ANSWER_LEN < slots.len() {
-                return refused(BUFFER_TOO_SMALL, 0);
+                return refuse_number(BUFFER_TOO_SMALL, 0, 0);
             }
             edit_all(buffer, answers, n, k, slots, distances);
             NumberAnswer::Number(slots.len())

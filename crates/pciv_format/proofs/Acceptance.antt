@@ -5,10 +5,11 @@
 --                     the file of n slots with distances v is the file of the list of these distances, with its
 --                     counts; that list is within the limits where n and every distance are
 --   file-table-read   so it is read as that list: what a routine that computes each slot's distance has written
---   accepted-is-file  an accepted file is the file of the list that it is read as, which is within the limits,
---                     and the answer is that list's summary
+--   IsFile b s        b is the file of the list that it is read as, which is within the limits and has the summary s
+--   accepted-is-file  so it is with an accepted file and the answer
 --   accepted-iff      so a file is accepted exactly when it is the file of some list within the limits
 --   fileOf-inj        two lists within the limits with one file are one list: it is read as no other
+-- Axioms: none.
 use mathlib.Core.Path.{_≡_, sym, ap, _∙_}
 use mathlib.Core.Logic.{_↔_}
 use Prim.Native.Nat.{ℕ, _≤_, _<_}
@@ -20,7 +21,8 @@ use lib.Seq.{ext-getD}
 use Rattle.pciv_bytes.specs.Ranges.{table}
 use Rattle.pciv_bytes.specs.LittleEndian.{Bytes}
 use Rattle.pciv_bytes.proofs.RangesLaws.{length-table, getD-table}
-use Rattle.pciv_format.specs.Layout.{maxSlots, maxDistance, overflowCount, file, countsOf, summary, at, fileOf, summaryOf, Limits}
+use Rattle.pciv_format.specs.Layout.{maxSlots, maxDistance, overflowCount, file, countsOf, summary}
+use Rattle.pciv_format.specs.Layout.{at, fileOf, summaryOf, Limits}
 use Rattle.pciv_format.specs.Refusals.{done}
 use Rattle.pciv_format.specs.Check.{nField, kField, checkFile, CheckedMap}
 use Rattle.pciv_format.specs.Read.{valueAt, listOf}
@@ -28,14 +30,15 @@ use Rattle.pciv_format.specs.declared.Summary.{Summary}
 use Rattle.pciv_format.proofs.LayoutLaws.{length-file, file-cong, summary-cong}
 use Rattle.pciv_format.proofs.CheckLaws.{checkFile-done, done-checkFile, accepted-length}
 use Rattle.pciv_format.proofs.FileLaws.{file-checked, file-value}
-use Rattle.pciv_format.proofs.ExactLaws.{checked-value-le, checked-count, checked-file}
+use Rattle.pciv_format.proofs.CheckedFileLaws.{checked-value-le, checked-count, checked-file}
 use Rattle.pciv_format.proofs.ReadLaws.{length-listOf, at-listOf}
 
 pub file-accepted : (mp : ℕ) (xs : List ℕ) → Limits xs → checkFile mp (fileOf xs) ≡ done (summaryOf xs)
 unfolding summary
 file-accepted mp xs l =
     let n : ℕ = length xs in
-    checkFile-done mp (fileOf xs) n (overflowCount n (at xs)) (file-checked n (at xs) (l .count) (l .each)) (length-file n (at xs))
+    checkFile-done mp (fileOf xs) n (overflowCount n (at xs)) (file-checked n (at xs) (l .count) (l .each))
+    (length-file n (at xs))
 
 pub file-read : (xs : List ℕ) → Limits xs → listOf (fileOf xs) ≡ xs
 file-read xs l =
@@ -90,11 +93,16 @@ accepted-is-file mp b s bytes e =
       limits =
           record {
             count = omega (arith, len, c .header .small);
-            each = λ i h. (let h' : i < n = omega (arith, len) in omega (arith, same i h', checked-value-le b n k bytes c i h'));
+            each = λ i h.
+                (let h' : i < n = omega (arith, len) in omega (arith, same i h', checked-value-le b n k bytes c i h'));
           };
       bytes =
-          sym (rw len (file-cong n (at (listOf b)) (valueAt b) same ∙ checked-file b n k bytes c (accepted-length b n k s a)));
-      counts = a .counts ∙ ap (countsOf n) (sym (checked-count b n k bytes c)) ∙ sym (rw len (summary-cong n (at (listOf b)) (valueAt b) same));
+          sym
+          (rw len
+          (file-cong n (at (listOf b)) (valueAt b) same ∙ checked-file b n k bytes c (accepted-length b n k s a)));
+      counts = a .counts
+          ∙ ap (countsOf n) (sym (checked-count b n k bytes c))
+          ∙ sym (rw len (summary-cong n (at (listOf b)) (valueAt b) same));
     }
 
 pub accepted-iff : (mp : ℕ) (b : List ℕ) → Bytes b

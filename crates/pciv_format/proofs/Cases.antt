@@ -1,11 +1,12 @@
 -- The worked examples of docs/FORMAT.md, proved for the definitions by computing them.
---   A, B        the two maps of "Worked examples"
+--   A, B        the two maps of "Worked examples";  M  64 slots at 1 and one at 300;  ones  a word of set bits
+--   counts, setTo, Gives, LengthRow    short forms of what the statements repeat
 --   cases       the cases that "Worked examples" marks as proved, under one statement: a component for each
 --   lengths     the table of "Derived counts"
 --   further     cases of the routines that the examples leave out, edits before other bytes, and masks of more
 --               than a word
 --   examples    the other cases of "Worked examples", and texts of "The report program"
--- A caller's buffer or list holds 7 in each place, so that what is left unchanged shows.
+-- A caller's buffer or list holds 7 in each place, so that what is left unchanged shows. Axioms: none.
 use mathlib.Core.Path.{_≡_, refl}
 use Prim.Native.Nat.{ℕ, _+_}
 use mathlib.Core.Bool.{xor}
@@ -16,27 +17,29 @@ use lib.Ieee.{ofBits, ofInt, div, binary64}
 use Rattle.pciv_bytes.specs.Ranges.{firstFrom, firstBelow, table, positions, joined, sumFrom}
 use Rattle.pciv_bytes.specs.LittleEndian.{le, number, get}
 use Rattle.pciv_format.specs.Layout.{indexStep, indexLen, fileLen, primary, overflowSlots}
-use Rattle.pciv_format.specs.Layout.{overflowCount, overflowEntry, overflowPart, indexEntry, indexPart}
-use Rattle.pciv_format.specs.Layout.{header, file, countsOf, summary, at, fileOf, summaryOf}
+use Rattle.pciv_format.specs.Layout.{overflowCount, overflowEntry, overflowPart, indexEntry}
+use Rattle.pciv_format.specs.Layout.{indexPart, header, file, countsOf, summary, at, fileOf}
+use Rattle.pciv_format.specs.Layout.{summaryOf}
 use Rattle.pciv_format.specs.Refusals.{done, refuse}
-use Rattle.pciv_format.specs.Parts.{badEntry, entryOf, badSlot, valueOf}
-use Rattle.pciv_format.specs.Check.{badIndexEntry, badCounts, checkParts}
-use Rattle.pciv_format.specs.Check.{checkHeader, checkWith, checkFile}
+use Rattle.pciv_format.specs.Parts.{wrongEntry, badEntry, entryOf, badSlot, valueOf}
+use Rattle.pciv_format.specs.Check.{badIndexEntry, badCounts, checkParts, checkHeader, checkWith, checkFile}
 use Rattle.pciv_format.specs.Read.{listOf, primaryPart, lookupOutcome, total, readings}
 use Rattle.pciv_format.specs.Read.{lookupListOutcome, lookupListBuffer, scanOutcome, scanBuffer}
 use Rattle.pciv_format.specs.Write.{writeOutcome, writeBuffer, closeOutcome, closeBuffer}
-use Rattle.pciv_format.specs.Mask.{maskLen, bitAt, maskHas, word, maskOf, badMask}
-use Rattle.pciv_format.specs.Mask.{setBits, setBitsOutcome}
-use Rattle.pciv_format.specs.Mask.{combineOutcome, combineWords, complementOutcome, complementWords}
-use Rattle.pciv_format.specs.Mask.{mapOfMaskOutcome, mapOfMaskBuffer, keepMaskedOutcome, keepMaskedBuffer}
-use Rattle.pciv_format.specs.Mask.{incrementMaskedOutcome, incrementMaskedBuffer}
-use Rattle.pciv_format.specs.Mask.{thresholdOutcome, thresholdWords, nearMaskOutcome, nearMaskWords}
-use Rattle.pciv_format.specs.Arith.{combineMapsOutcome, combineMapsBuffer, shiftedBy, shiftOutcome, shiftBuffer}
-use Rattle.pciv_format.specs.Arith.{signedDifferences, signedDifferenceOutcome, signedDifferenceList}
+use Rattle.pciv_format.specs.Mask.{maskLen, bitAt, maskHas, word, maskOf, badMask, setBits}
+use Rattle.pciv_format.specs.Mask.{setBitsOutcome, combineOutcome, combineWords, complementOutcome}
+use Rattle.pciv_format.specs.Mask.{complementWords, mapOfMaskOutcome, mapOfMaskBuffer}
+use Rattle.pciv_format.specs.Mask.{keepMaskedOutcome, keepMaskedBuffer, incrementMaskedOutcome}
+use Rattle.pciv_format.specs.Mask.{incrementMaskedBuffer, thresholdOutcome, thresholdWords}
+use Rattle.pciv_format.specs.Mask.{nearMaskOutcome, nearMaskWords}
+use Rattle.pciv_format.specs.Arith.{combineMapsOutcome, combineMapsBuffer, shiftedBy, shiftOutcome}
+use Rattle.pciv_format.specs.Arith.{shiftBuffer, signedDifferences, signedDifferenceOutcome}
+use Rattle.pciv_format.specs.Arith.{signedDifferenceList}
 use Rattle.pciv_format.specs.Figures.{quotient, distanceBetween, brayCurtisOutcome, countAt, jaccardOutcome}
 use Rattle.pciv_format.specs.Edit.{Edit, plainOutcome, editedFile, editOutcome, replaced, editBuffer}
-use Rattle.pciv_format.specs.Edit.{plainStart, plainStep, plainRun, plainOutcomes, bufferOf, answerCells, allCells}
-use Rattle.pciv_format.specs.Edit.{editsOf, editListOutcome, editListBuffer, editListAnswers}
+use Rattle.pciv_format.specs.Edit.{plainStart, plainStep, plainRun, plainOutcomes, bufferOf}
+use Rattle.pciv_format.specs.Edit.{answerCells, allCells, editsOf, editListOutcome, editListBuffer}
+use Rattle.pciv_format.specs.Edit.{editListAnswers}
 use Rattle.pciv_format.specs.Report.{digits, decimal, field, line, mapLines, refusedLine, reportText}
 use Rattle.pciv_format.specs.declared.Summary.{Summary}
 use Rattle.pciv_format.specs.declared.SlotOp.{SlotOp}
@@ -107,7 +110,7 @@ pub cases :
 unfolding
     firstFrom firstBelow table positions joined sumFrom le number get indexStep indexLen fileLen primary
     overflowSlots overflowCount overflowEntry overflowPart indexEntry indexPart header file countsOf summary
-    badEntry entryOf badSlot valueOf badIndexEntry badCounts checkParts checkHeader checkWith
+    wrongEntry badEntry entryOf badSlot valueOf badIndexEntry badCounts checkParts checkHeader checkWith
     listOf primaryPart lookupOutcome bitAt maskHas word maskOf badMask setBits setBitsOutcome
     thresholdOutcome thresholdWords nearMaskOutcome nearMaskWords combineMapsOutcome combineMapsBuffer
     plainOutcome editedFile editOutcome replaced editBuffer
@@ -168,7 +171,7 @@ pub examples :
 unfolding
     firstFrom firstBelow table positions joined sumFrom le number get indexStep indexLen fileLen primary
     overflowSlots overflowCount overflowEntry overflowPart indexEntry indexPart header file countsOf summary
-    badEntry entryOf badSlot valueOf badIndexEntry badCounts checkParts checkHeader checkWith
+    wrongEntry badEntry entryOf badSlot valueOf badIndexEntry badCounts checkParts checkHeader checkWith
     listOf total readings plainOutcome editedFile editOutcome replaced editBuffer
     quotient distanceBetween brayCurtisOutcome ofBits ofInt div
     digits decimal field line mapLines refusedLine reportText
@@ -231,7 +234,7 @@ pub further :
 unfolding
     firstFrom firstBelow table positions joined sumFrom le number get indexStep indexLen fileLen primary
     overflowSlots overflowCount overflowEntry overflowPart indexEntry indexPart header file countsOf summary
-    badEntry entryOf badSlot valueOf badIndexEntry badCounts checkParts checkHeader checkWith
+    wrongEntry badEntry entryOf badSlot valueOf badIndexEntry badCounts checkParts checkHeader checkWith
     listOf bitAt maskHas word maskOf badMask thresholdOutcome thresholdWords combineOutcome combineWords
     complementOutcome complementWords setBits setBitsOutcome mapOfMaskOutcome mapOfMaskBuffer
     keepMaskedOutcome keepMaskedBuffer incrementMaskedOutcome incrementMaskedBuffer

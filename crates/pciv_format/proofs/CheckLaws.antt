@@ -1,17 +1,26 @@
 -- Laws of the check: it is done exactly for what `CheckedMap` describes, and then answers the file's counts.
+--   checked-length                      a checked map's parts are inside of its bytes
+--   checkHeader-done, checkWith-done, checkFile-done    done, from what is checked
+--   Accepted wrong b n k s              what a done check says: the map, the right length, and the summary
+--   done-checkHeader, done-checkFile    what is checked, from done
+--   done-counts, done-buffer            the same at the counts of the summary, of a file and of a buffer
+--   accepted-length                     a whole file has exactly its length
+-- Axioms: none.
 use mathlib.Core.Path.{_≡_, refl, sym, ap, ap₂, _∙_}
-use Prim.Native.Nat.{ℕ, _+_, _*_, _≤_, _<_}
+use Prim.Native.Nat.{ℕ, _+_, _*_, _≤_}
 use native.Mathlib.Omega.{arith}
-use mathlib.Core.Bool.{Bool, true, false, not, _||_}
+use mathlib.Core.Bool.{Bool, false, not}
 use mathlib.Core.List.{List}
 use lib.ListN.{length}
 use lib.Dec.{ltb, eqb}
-use borrow.Author.Tests.{lt-ltb, le-ltb, ltb-false}
+use borrow.Author.Tests.{le-ltb, ltb-false}
 use Rattle.pciv_bytes.specs.LittleEndian.{get}
 use Rattle.pciv_format.specs.Layout.{maxSlots, magic, indexStep, indexLen, fileLen, countsOf}
-use Rattle.pciv_format.specs.Refusals.{Outcome, done, refuse, refuseIf, refuseFirst}
-use Rattle.pciv_format.specs.Parts.{badEntry, badSlot, SoundParts}
-use Rattle.pciv_format.specs.Check.{nField, kField, mField, stepField, fileParts, badIndexEntry, badCounts, checkParts, checkHeader, checkWith, otherLength, checkFile, checkBuffer, CheckedHeader, CheckedMap}
+use Rattle.pciv_format.specs.Refusals.{done}
+use Rattle.pciv_format.specs.Parts.{badEntry, badSlot}
+use Rattle.pciv_format.specs.Check.{nField, kField, mField, stepField, fileParts, badIndexEntry}
+use Rattle.pciv_format.specs.Check.{badCounts, checkParts, checkHeader, checkWith, otherLength}
+use Rattle.pciv_format.specs.Check.{checkFile, checkBuffer, CheckedHeader, CheckedMap}
 use Rattle.pciv_format.specs.declared.Summary.{Summary}
 use Rattle.pciv_format.proofs.PartsLaws.{or-false, not-eqb, eqb-not}
 use Rattle.pciv_format.proofs.RefusalsLaws.{refuseIf-done, refuseFirst-done, refuseFirst-none, andThen-done}
@@ -19,13 +28,18 @@ use Rattle.pciv_format.proofs.LayoutLaws.{fileLen-is}
 
 -- ---- the counts of the header
 
-pub badCounts-good : (n k m step : ℕ) → k ≤ n → step ≡ indexStep k → m ≡ indexLen k → badCounts n k m step ≡ false
+badCounts-good : (n k m step : ℕ) → k ≤ n → step ≡ indexStep k → m ≡ indexLen k → badCounts n k m step ≡ false
 unfolding badCounts
-badCounts-good n k m step few e₁ e₂ = rw (le-ltb n k few, eqb-not step (indexStep k) e₁, eqb-not m (indexLen k) e₂)
+badCounts-good n k m step few e₁ e₂ =
+    rw (le-ltb n k few, eqb-not step (indexStep k) e₁, eqb-not m (indexLen k) e₂)
 
 -- ---- done, from what is checked
 
-pub checkHeader-done : (mp : ℕ) (b : List ℕ) (n k : ℕ) → 40 ≤ length b → CheckedHeader b n k → checkHeader mp b ≡ done (countsOf n k)
+pub checked-length : (b : List ℕ) (n k : ℕ) → CheckedMap b n k → 40 + n + 12 * k + 16 * indexLen k ≤ length b
+checked-length b n k c = omega (arith, c .fits, fileLen-is n k)
+
+pub checkHeader-done : (mp : ℕ) (b : List ℕ) (n k : ℕ) → 40 ≤ length b → CheckedHeader b n k
+    → checkHeader mp b ≡ done (countsOf n k)
 unfolding checkHeader
 checkHeader-done mp b n k long h =
     rw (
@@ -39,7 +53,7 @@ checkHeader-done mp b n k long h =
       badCounts-good n k (indexLen k) (indexStep k) (h .few) refl refl,
     )
 
-pub checkParts-done : (mp : ℕ) (b : List ℕ) (n k : ℕ) → CheckedMap b n k → checkParts mp b n k ≡ done (countsOf n k)
+checkParts-done : (mp : ℕ) (b : List ℕ) (n k : ℕ) → CheckedMap b n k → checkParts mp b n k ≡ done (countsOf n k)
 unfolding checkParts
 checkParts-done mp b n k c =
     refuseFirst-none 6 mp (badEntry (fileParts b n k)) k _ (c .parts .entries)
@@ -50,7 +64,8 @@ pub checkWith-done : (wrong : ℕ → ℕ → Bool) (mp : ℕ) (b : List ℕ) (n
     → wrong (length b) (fileLen n k) ≡ false → checkWith wrong mp b ≡ done (countsOf n k)
 unfolding checkWith countsOf
 checkWith-done wrong mp b n k c right =
-    rw (checkHeader-done mp b n k (omega (arith, c .fits, fileLen-is n k)) (c .header), right) (checkParts-done mp b n k c)
+    rw (checkHeader-done mp b n k (omega (arith, checked-length b n k c)) (c .header), right)
+    (checkParts-done mp b n k c)
 
 -- ---- what is checked, from done
 
@@ -84,8 +99,9 @@ pub record Accepted (wrong : ℕ → ℕ → Bool) (b : List ℕ) (n k : ℕ) (s
   pub right : wrong (length b) (fileLen n k) ≡ false
   pub counts : s ≡ countsOf n k
 
-module _ (wrong : ℕ → ℕ → Bool) (fits : (len l : ℕ) → wrong len l ≡ false → l ≤ len) (mp : ℕ) (b : List ℕ) (s : Summary) where
-  pub done-checkWith : checkWith wrong mp b ≡ done s → Accepted wrong b (nField b) (kField b) s
+module _ (wrong : ℕ → ℕ → Bool) (fits : (len l : ℕ) → wrong len l ≡ false → l ≤ len)
+    (mp : ℕ) (b : List ℕ) (s : Summary) where
+  done-checkWith : checkWith wrong mp b ≡ done s → Accepted wrong b (nField b) (kField b) s
   unfolding checkWith checkParts countsOf
   done-checkWith e =
       let n : ℕ = nField b in

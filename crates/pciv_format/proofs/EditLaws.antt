@@ -1,54 +1,65 @@
--- How a file changes where one slot's distance does: v before, w after, which differ at slot s alone.
--- p counts the overflow entries with smaller slots.
---   file-inline      both inline: the primary byte of s
---   file-overflow    both in overflow: the four distance bytes of the slot's entry
---   entries-in       into overflow: the entry of s is put in behind p entries
---   entries-out      out of overflow: it is taken out
---   count-in         into overflow: one entry more;  count-stays  else as many;  count-below  p is at most k
-use mathlib.Core.Path.{_≡_, refl, sym, ap, ap₂, _∙_}
-use Prim.Native.Nat.{ℕ, zero, suc, _+_, _-_, _*_, _≤_, _<_}
+-- What one edit makes of a list and of its file. Of the file: v before, w after, which differ at slot s alone; p
+-- entries stand before the place of the entry of s.
+--   edited-at, -other, length-edited, file-edited, edited-limits
+--                      the list that an edit leaves: at the slot, elsewhere, its length, its file, its limits
+--   primary-edited     of the primary array, the byte of s is set
+--   file-inline        both inline: so it is of the file
+--   file-overflow      both in overflow: the four distance bytes of the slot's entry are set
+--   entries-in, -out   into overflow: the entry of s is put in behind p entries;  out of it: it is taken out
+--   count-in, -stays   how many entries there are after a move into overflow, and where s stays inline or in overflow
+--   count-below        p is at most the number of entries;  count-inside  less, where s is in overflow
+--   below-count        p is the same of v and of w
+-- Axioms: none.
+use mathlib.Core.Path.{_≡_, sym, ap, ap₂, _∙_}
+use Prim.Native.Nat.{ℕ, suc, _+_, _-_, _*_, _≤_, _<_}
 use native.Mathlib.Nat.{zero-add}
 use native.Mathlib.Omega.{arith}
-use native.Mathlib.Decide.{decLe}
-use mathlib.Core.Bool.{Bool, true, false}
-use mathlib.Core.List.{List, [], _∷_, _++_, append-assoc}
+use native.Mathlib.Decide.{ℕ-discrete}
+use mathlib.Core.Bool.{Bool}
+use mathlib.Core.List.{List, _∷_, _++_, append-assoc}
 use lib.ListN.{length, getD, take, drop, set, length-append, length-set}
-use lib.Seq.{take-at, drop-at, drop-drop, ext-getD, getD-set-same, getD-set-other, set-getD, sets, sets-eq}
-use lib.Dec.{leb}
+use lib.Seq.{take-at, drop-at, drop-drop, ext-getD, getD-set-same, getD-set-other, set-getD, set-append-left, sets}
 use borrow.Author.Tests.{le-leb, lt-leb}
 use Rattle.pciv_bytes.specs.Ranges.{table, keepIf, positions, joined}
 use Rattle.pciv_bytes.specs.LittleEndian.{le}
-use Rattle.pciv_bytes.proofs.RangesLaws.{length-table, getD-table, table-cong}
+use Rattle.pciv_bytes.proofs.RangesLaws.{length-table, getD-table}
 use Rattle.pciv_bytes.proofs.PositionsLaws.{positions-at, positions-cong, positions-around}
 use Rattle.pciv_bytes.proofs.JoinedLaws.{length-joined, joined-cong, joined-append}
 use Rattle.pciv_bytes.proofs.LittleEndianLaws.{length-le}
-use Rattle.pciv_format.specs.Layout.{inOverflow, primaryByte, primary, overflowSlots, overflowCount, overflowEntry, overflowPart, indexPart, header, file}
+use Rattle.pciv_bytes.proofs.WriteLaws.{set-behind, sets-behind, sets-first}
+use Rattle.pciv_format.specs.Layout.{maxDistance, inOverflow, primaryByte, primary, overflowSlots}
+use Rattle.pciv_format.specs.Layout.{overflowCount, overflowEntry, overflowPart, indexPart, header}
+use Rattle.pciv_format.specs.Layout.{file, at, fileOf, Limits}
+use Rattle.pciv_format.specs.Edit.{Edit, edited}
 use Rattle.pciv_format.proofs.PartsLaws.{primaryByte-inline, primaryByte-overflow}
-use Rattle.pciv_format.proofs.LayoutLaws.{length-header, length-primary, length-overflowEntry, length-overflowPart}
+use Rattle.pciv_format.proofs.LayoutLaws.{length-header, length-primary, length-overflowEntry}
 
--- ---- lists
+-- ---- the list that an edit leaves
 
-pub set-behind : (xs ys : List ℕ) (i a : ℕ) → set (xs ++ ys) (length xs + i) a ≡ xs ++ set ys i a
-set-behind [] ys i a = rw zero-add
-set-behind (x ∷ xs) ys i a =
-    let e : suc (length xs) + i ≡ suc (length xs + i) = omega arith in
-    rw e (ap (λ (l : List ℕ). x ∷ l) (set-behind xs ys i a))
+module _ (x : List ℕ) (e : Edit) where
+  pub edited-at : e .slot < length x → at (edited x e) (e .slot) ≡ e .distance
+  edited-at inside = getD-set-same x (e .slot) (e .distance) 0 inside
 
-pub set-front : (xs ys : List ℕ) (i a : ℕ) → i < length xs → set (xs ++ ys) i a ≡ set xs i a ++ ys
-set-front [] ys i a h = absurd (omega arith)
-set-front (x ∷ xs) ys zero a h = refl
-set-front (x ∷ xs) ys (suc i) a h = ap (λ (l : List ℕ). x ∷ l) (set-front xs ys i a (omega arith))
+  pub edited-other : (i : ℕ) → (i ≡ e .slot → ⊥) → at x i ≡ at (edited x e) i
+  edited-other i ne = sym (getD-set-other x (e .slot) i (e .distance) 0 ne)
 
-pub sets-behind : (xs ys : List ℕ) (i : ℕ) (vs : List ℕ) → sets (xs ++ ys) (length xs + i) vs ≡ xs ++ sets ys i vs
-sets-behind xs ys i [] = refl
-sets-behind xs ys i (v ∷ vs) =
-    let e : suc (length xs + i) ≡ length xs + suc i = omega arith in
-    ap₂ (λ (l : List ℕ) (j : ℕ). sets l j vs) (set-behind xs ys i v) e ∙ sets-behind xs (set ys i v) (suc i) vs
+  pub length-edited : length (edited x e) ≡ length x
+  length-edited = length-set x (e .slot) (e .distance)
 
-pub sets-over : (a b : List ℕ) (vs : List ℕ) → length vs ≡ length a → sets (a ++ b) 0 vs ≡ vs ++ b
-sets-over a b vs e =
-    sets-eq vs (a ++ b) 0 (simp length-append (omega arith))
-    ∙ ap (λ (l : List ℕ). vs ++ l) (drop-at a b (0 + length vs) (omega arith))
+  pub file-edited : fileOf (edited x e) ≡ file (length x) (at (edited x e))
+  file-edited = ap (λ (n : ℕ). file n (at (edited x e))) length-edited
+
+  pub edited-limits : Limits x → e .distance ≤ maxDistance → Limits (edited x e)
+  edited-limits l small =
+      record {
+        count = rw length-edited (l .count);
+        each = λ i h.
+            (let h' : i < length x = omega (arith, length-edited) in
+            elim (ℕ-discrete i (e .slot)) [
+              | yes here ↦ rw (here, edited-at (omega arith)) small
+              | no other ↦ rw (← edited-other i other) (l .each i h')
+            ]);
+      }
 
 -- ---- one slot's distance
 
@@ -61,7 +72,8 @@ module _ (n : ℕ) (v w : ℕ → ℕ) (s : ℕ) (inside : s < n) (same : (i : �
   below-same : overflowSlots s v ≡ overflowSlots s w
   unfolding overflowSlots
   below-same =
-      positions-cong (λ (i : ℕ). inOverflow (v i)) (λ (i : ℕ). inOverflow (w i)) 0 s (λ j h₁ h₂. overflow-same j (λ q. omega arith))
+      positions-cong (λ (i : ℕ). inOverflow (v i)) (λ (i : ℕ). inOverflow (w i)) 0 s
+      (λ j h₁ h₂. overflow-same j (λ q. omega arith))
 
   above : (ℕ → ℕ) → List ℕ
   above u = positions (λ (i : ℕ). inOverflow (u i)) (suc s) (n - suc s)
@@ -100,10 +112,10 @@ module _ (n : ℕ) (v w : ℕ → ℕ) (s : ℕ) (inside : s < n) (same : (i : �
       (λ q. omega (arith, positions-at (λ (i : ℕ). inOverflow (v i)) (suc s) (n - suc s) j h .low)))
       ∙ ap (joined (overflowEntry w)) above-same
 
-  pub before : List ℕ
+  before : List ℕ
   before = joined (overflowEntry v) (overflowSlots s v)
 
-  pub after : List ℕ
+  after : List ℕ
   after = joined (overflowEntry v) (above v)
 
   length-before : length before ≡ 12 * overflowCount s v
@@ -112,7 +124,8 @@ module _ (n : ℕ) (v w : ℕ → ℕ) (s : ℕ) (inside : s < n) (same : (i : �
 
   -- the overflow part around slot s
   part-around : (u : ℕ → ℕ) → overflowPart n u
-      ≡ joined (overflowEntry u) (overflowSlots s u) ++ joined (overflowEntry u) (keepIf (inOverflow (u s)) s (above u))
+      ≡ joined (overflowEntry u) (overflowSlots s u)
+      ++ joined (overflowEntry u) (keepIf (inOverflow (u s)) s (above u))
   unfolding overflowPart
   part-around u =
       ap (joined (overflowEntry u)) (around u)
@@ -147,13 +160,9 @@ module _ (n : ℕ) (v w : ℕ → ℕ) (s : ℕ) (inside : s < n) (same : (i : �
       (let h' : i < n = (rw length-table at hi) in
       getD-table g 0 0 n i h'
       ∙ ap g (zero-add i)
-      ∙ elim (decLe i s) [
-        | yes d ↦
-            elim (decLe s i) [
-              | yes d' ↦ (let q : i ≡ s = omega arith in rw q (sym (getD-set-same (table f 0 n) s (primaryByte (w s)) 0 (rw length-table inside))))
-              | no d' ↦ other i h' (λ q. omega arith)
-            ]
-        | no d ↦ other i h' (λ q. omega arith)
+      ∙ elim (ℕ-discrete i s) [
+        | yes here ↦ rw here (sym (getD-set-same (table f 0 n) s (primaryByte (w s)) 0 (rw length-table inside)))
+        | no ne ↦ other i h' ne
       ]))
     where
       other : (i : ℕ) → i < n → (i ≡ s → ⊥)
@@ -167,7 +176,16 @@ module _ (n : ℕ) (v w : ℕ → ℕ) (s : ℕ) (inside : s < n) (same : (i : �
 
   -- the slots in overflow stay where s stays inline, or in overflow
   slots-stay : inOverflow (v s) ≡ inOverflow (w s) → overflowSlots n v ≡ overflowSlots n w
-  slots-stay e = around v ∙ ap₂ (λ (a b : List ℕ). a ++ b) below-same (ap₂ (λ (c : Bool) (l : List ℕ). keepIf c s l) e above-same) ∙ sym (around w)
+  slots-stay e =
+      around v
+      ∙ ap₂ (λ (a b : List ℕ). a ++ b) below-same (ap₂ (λ (c : Bool) (l : List ℕ). keepIf c s l) e above-same)
+      ∙ sym (around w)
+
+  slots-inline : v s < 255 → w s < 255 → overflowSlots n v ≡ overflowSlots n w
+  slots-inline hv hw = slots-stay (lt-leb 255 (v s) hv ∙ sym (lt-leb 255 (w s) hw))
+
+  slots-overflow : 255 ≤ v s → 255 ≤ w s → overflowSlots n v ≡ overflowSlots n w
+  slots-overflow hv hw = slots-stay (le-leb 255 (v s) hv ∙ sym (le-leb 255 (w s) hw))
 
   pub count-stays : inOverflow (v s) ≡ inOverflow (w s) → overflowCount n w ≡ overflowCount n v
   unfolding overflowCount
@@ -178,13 +196,12 @@ module _ (n : ℕ) (v w : ℕ → ℕ) (s : ℕ) (inside : s < n) (same : (i : �
   pub file-inline : v s < 255 → w s < 255 → file n w ≡ set (file n v) (40 + s) (w s)
   unfolding file overflowCount
   file-inline hv hw =
-      let stay : overflowSlots n v ≡ overflowSlots n w = slots-stay (lt-leb 255 (v s) hv ∙ sym (lt-leb 255 (w s) hw)) in
       let part : overflowPart n v ≡ overflowPart n w = part-without-v hv ∙ sym (part-without-w hw) in
       let rest : List ℕ = overflowPart n v ++ indexPart (overflowSlots n v) in
       let h : List ℕ = header n (length (overflowSlots n v)) in
       let L : length h ≡ 40 = length-header n _ in
-      rw (← stay, ← part, primary-edited, primaryByte-inline (w s) hw)
-      (ap (λ (l : List ℕ). h ++ l) (sym (set-front (primary n v) rest s (w s) (rw length-primary inside)))
+      rw (← slots-inline hv hw, ← part, primary-edited, primaryByte-inline (w s) hw)
+      (ap (λ (l : List ℕ). h ++ l) (sym (set-append-left (primary n v) rest s (w s) (rw length-primary inside)))
       ∙ sym (set-behind h (primary n v ++ rest) s (w s))
       ∙ ap (λ (a : ℕ). set (h ++ (primary n v ++ rest)) (a + s) (w s)) L)
 
@@ -192,7 +209,8 @@ module _ (n : ℕ) (v w : ℕ → ℕ) (s : ℕ) (inside : s < n) (same : (i : �
 
   primary-at : getD (primary n v) s 0 ≡ primaryByte (v s)
   unfolding primary
-  primary-at = getD-table (λ (i : ℕ). primaryByte (v i)) 0 0 n s inside ∙ ap (λ (j : ℕ). primaryByte (v j)) (zero-add s)
+  primary-at =
+      getD-table (λ (i : ℕ). primaryByte (v i)) 0 0 n s inside ∙ ap (λ (j : ℕ). primaryByte (v j)) (zero-add s)
 
   primary-stays : 255 ≤ v s → 255 ≤ w s → primary n w ≡ primary n v
   primary-stays hv hw =
@@ -211,36 +229,43 @@ module _ (n : ℕ) (v w : ℕ → ℕ) (s : ℕ) (inside : s < n) (same : (i : �
       ∙ ap (λ (l : List ℕ). before ++ l)
       (append-assoc (le 8 s ++ le 4 (u s)) after idx ∙ append-assoc (le 8 s) (le 4 (u s)) (after ++ idx)))
 
-  pub file-overflow : 255 ≤ v s → 255 ≤ w s → file n w ≡ sets (file n v) (40 + n + 12 * overflowCount s v + 8) (le 4 (w s))
+  pub file-overflow : 255 ≤ v s → 255 ≤ w s
+      → file n w ≡ sets (file n v) (40 + n + 12 * overflowCount s v + 8) (le 4 (w s))
   unfolding file overflowCount
   file-overflow hv hw =
-      let stay : overflowSlots n v ≡ overflowSlots n w = slots-stay (le-leb 255 (v s) hv ∙ sym (le-leb 255 (w s) hw)) in
       let h : List ℕ = header n (length (overflowSlots n v)) in
       let r : List ℕ = primary n v in
       let idx : List ℕ = indexPart (overflowSlots n v) in
       let q : List ℕ = after ++ idx in
-      let place : 40 + n + 12 * overflowCount s v + 8 ≡ length h + (length r + (length before + (length (le 8 s) + 0))) =
-      omega (arith, length-header n (length (overflowSlots n v)), length-primary n v, length-before, length-le 8 s) in
       let x : List ℕ = le 4 (w s) in
-      let inner : sets (le 8 s ++ (le 4 (v s) ++ q)) (length (le 8 s) + 0) x ≡ le 8 s ++ (x ++ q) =
+      let i₁ : ℕ = length (le 8 s) + 0 in
+      let i₂ : ℕ = length before + i₁ in
+      let i₃ : ℕ = length r + i₂ in
+      let place : 40 + n + 12 * overflowCount s v + 8 ≡ length h + i₃ =
+      omega (arith, length-header n (length (overflowSlots n v)), length-primary n v, length-before, length-le 8 s) in
+      let entry : List ℕ = le 8 s ++ (le 4 (v s) ++ q) in
+      let written : sets entry i₁ x ≡ le 8 s ++ (x ++ q) =
       sets-behind (le 8 s) (le 4 (v s) ++ q) 0 x
-      ∙ ap (λ (l : List ℕ). le 8 s ++ l) (sets-over (le 4 (v s)) q x (length-le 4 (w s) ∙ sym (length-le 4 (v s)))) in
-      rw (← stay, primary-stays hv hw, apart v h r idx (part-with-v hv), place)
+      ∙ ap (λ (l : List ℕ). le 8 s ++ l)
+      (sets-first (le 4 (v s)) q x (length-le 4 (w s) ∙ sym (length-le 4 (v s)))) in
+      rw (← slots-overflow hv hw, primary-stays hv hw, apart v h r idx (part-with-v hv), place)
       (apart w h r idx (part-with-w hw)
       ∙ sym
-      (sets-behind h (r ++ (before ++ (le 8 s ++ (le 4 (v s) ++ q)))) (length r + (length before + (length (le 8 s) + 0))) x
+      (sets-behind h (r ++ (before ++ entry)) i₃ x
       ∙ ap (λ (l : List ℕ). h ++ l)
-      (sets-behind r (before ++ (le 8 s ++ (le 4 (v s) ++ q))) (length before + (length (le 8 s) + 0)) x
+      (sets-behind r (before ++ entry) i₂ x
       ∙ ap (λ (l : List ℕ). r ++ l)
-      (sets-behind before (le 8 s ++ (le 4 (v s) ++ q)) (length (le 8 s) + 0) x ∙ ap (λ (l : List ℕ). before ++ l) inner))))
+      (sets-behind before entry i₁ x ∙ ap (λ (l : List ℕ). before ++ l) written))))
 
   -- ---- into and out of overflow
 
   pub entries-in : v s < 255 → 255 ≤ w s → overflowPart n w
-      ≡ take (12 * overflowCount s v) (overflowPart n v) ++ (overflowEntry w s ++ drop (12 * overflowCount s v) (overflowPart n v))
+      ≡ take (12 * overflowCount s v) (overflowPart n v)
+      ++ (overflowEntry w s ++ drop (12 * overflowCount s v) (overflowPart n v))
   entries-in hv hw =
       let q : ℕ = 12 * overflowCount s v in
-      rw (part-without-v hv, take-at before after q length-before, drop-at before after q length-before) (part-with-w hw)
+      rw (part-without-v hv, take-at before after q length-before, drop-at before after q length-before)
+      (part-with-w hw)
 
   pub entries-out : 255 ≤ v s → w s < 255 → overflowPart n w
       ≡ take (12 * overflowCount s v) (overflowPart n v) ++ drop (12 * overflowCount s v + 12) (overflowPart n v)
@@ -248,7 +273,9 @@ module _ (n : ℕ) (v w : ℕ → ℕ) (s : ℕ) (inside : s < n) (same : (i : �
       let q : ℕ = 12 * overflowCount s v in
       let r : List ℕ = overflowEntry v s ++ after in
       let past : drop (q + 12) (before ++ r) ≡ after =
-      sym (drop-drop 12 q (before ++ r)) ∙ ap (drop 12) (drop-at before r q length-before) ∙ drop-at (overflowEntry v s) after 12 (length-overflowEntry v s) in
+      sym (drop-drop 12 q (before ++ r))
+      ∙ ap (drop 12) (drop-at before r q length-before)
+      ∙ drop-at (overflowEntry v s) after 12 (length-overflowEntry v s) in
       rw (part-with-v hv, take-at before r q length-before, past) (part-without-w hw)
 
   pub count-in : v s < 255 → 255 ≤ w s → overflowCount n w ≡ overflowCount n v + 1
@@ -257,12 +284,17 @@ module _ (n : ℕ) (v w : ℕ → ℕ) (s : ℕ) (inside : s < n) (same : (i : �
       let old : length (overflowSlots n v) ≡ length (overflowSlots s v) + length (above v) =
       ap length (around v) ∙ rw (lt-leb 255 (v s) hv) (length-append (overflowSlots s v) (above v)) in
       let new : length (overflowSlots n w) ≡ length (overflowSlots s v) + suc (length (above v)) =
-      ap length (around w) ∙ rw (le-leb 255 (w s) hw, ← below-same, ← above-same) (length-append (overflowSlots s v) (s ∷ above v)) in
+      ap length (around w)
+      ∙ rw (le-leb 255 (w s) hw, ← below-same, ← above-same) (length-append (overflowSlots s v) (s ∷ above v)) in
       omega arith
 
   pub count-below : overflowCount s v ≤ overflowCount n v
   unfolding overflowCount
-  count-below = omega (arith, ap length (around v) ∙ length-append (overflowSlots s v) (keepIf (inOverflow (v s)) s (above v)))
+  count-below =
+      omega (
+        arith,
+        ap length (around v) ∙ length-append (overflowSlots s v) (keepIf (inOverflow (v s)) s (above v)),
+      )
 
   -- in overflow, the entry of s is one of them
   pub count-inside : 255 ≤ v s → overflowCount s v < overflowCount n v

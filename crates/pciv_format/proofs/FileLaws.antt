@@ -1,26 +1,37 @@
--- What stands where in the file of (n, v), and that it is a checked map which is read as v.
-use mathlib.Core.Path.{_≡_, refl, sym, ap, ap₂, _∙_}
-use Prim.Native.Nat.{ℕ, zero, suc, _+_, _-_, _*_, _^_, _≤_, _<_}
+-- What stands where in the file of (n, v), within the limits, and that it is a checked map which is read as v.
+--   file-header      the header's fields
+--   file-byte        a slot's primary byte
+--   file-slot, -distance    the slot and the distance of an overflow entry
+--   file-checked     the file is a checked map
+--   file-value       it is read as v
+-- Axioms: none.
+use mathlib.Core.Path.{_≡_, refl, sym, ap, _∙_}
+use Prim.Native.Nat.{ℕ, zero, suc, _+_, _*_, _≤_, _<_}
 use native.Mathlib.Nat.{zero-add, add-assoc}
 use native.Mathlib.Omega.{arith}
 use native.Mathlib.Decide.{decLe}
-use mathlib.Core.Bool.{Bool, true, false}
-use mathlib.Core.List.{List, [], _∷_, _++_, append-nil}
-use lib.ListN.{length, getD, take, drop, List·getD-append}
+use mathlib.Core.Bool.{false}
+use mathlib.Core.List.{List, [], _++_, append-nil}
+use lib.ListN.{getD, drop, List·getD-append}
 use lib.Seq.{drop-drop, drop-at, getD-append-add}
-use lib.Dec.{leb, eqb}
-use borrow.Author.Tests.{le-leb, lt-leb, eq-eqb, ne-eqb, leb-true, eqb-true}
-use Rattle.pciv_bytes.specs.Ranges.{firstBelow, table, joined}
+use lib.Dec.{eqb}
+use borrow.Author.Tests.{le-leb, lt-leb, eq-eqb, ne-eqb, leb-true}
+use Rattle.pciv_bytes.specs.Ranges.{table, joined}
 use Rattle.pciv_bytes.specs.LittleEndian.{le, get, number}
-use Rattle.pciv_bytes.proofs.RangesLaws.{firstBelow-lt, firstBelow-has, length-table, getD-table}
+use Rattle.pciv_bytes.proofs.RangesLaws.{firstBelow-lt, length-table, getD-table}
 use Rattle.pciv_bytes.proofs.PositionsLaws.{positions-at, positions-rise, positions-all}
 use Rattle.pciv_bytes.proofs.JoinedLaws.{joined-piece}
 use Rattle.pciv_bytes.proofs.LittleEndianLaws.{get-in, get-at, number-le}
-use Rattle.pciv_format.specs.Layout.{maxSlots, maxDistance, magic, indexStep, indexLen, fileLen, inOverflow, primaryByte, primary, overflowSlots, overflowCount, overflowEntry, overflowPart, indexEntry, indexPart, header, file}
+use Rattle.pciv_format.specs.Layout.{maxSlots, maxDistance, indexStep, indexLen, inOverflow}
+use Rattle.pciv_format.specs.Layout.{primaryByte, primary, overflowSlots, overflowCount}
+use Rattle.pciv_format.specs.Layout.{overflowEntry, overflowPart, indexEntry, indexPart, header, file}
 use Rattle.pciv_format.specs.Parts.{lowestSlot, badEntry, entryOf, badSlot, valueOf, SoundParts}
-use Rattle.pciv_format.specs.Check.{nField, kField, mField, stepField, fileParts, badIndexEntry, CheckedHeader, CheckedMap}
-use Rattle.pciv_format.proofs.PartsLaws.{primaryByte-overflow, primaryByte-inline, badEntry-good, valueOf-slot, valueOf-inline, and-false}
-use Rattle.pciv_format.proofs.LayoutLaws.{index-inside, indexStep-le, indexLen-le, fileLen-is, length-primary, length-overflowEntry, length-indexEntry, length-header, length-overflowPart, length-file, overflowCount-le}
+use Rattle.pciv_format.specs.Check.{fileParts, badIndexEntry, CheckedHeader, CheckedMap}
+use Rattle.pciv_format.proofs.PartsLaws.{primaryByte-overflow, primaryByte-inline, badEntry-good}
+use Rattle.pciv_format.proofs.PartsLaws.{valueOf-slot, valueOf-inline, and-false}
+use Rattle.pciv_format.proofs.LayoutLaws.{index-inside, indexStep-le, indexLen-le, length-primary}
+use Rattle.pciv_format.proofs.LayoutLaws.{length-overflowEntry, length-indexEntry, length-header}
+use Rattle.pciv_format.proofs.LayoutLaws.{length-overflowPart, length-file, overflowCount-le}
 
 module _ (n : ℕ) (v : ℕ → ℕ) (few : n ≤ maxSlots) (each : (i : ℕ) → i < n → v i ≤ maxDistance) where
   count-small : overflowCount n v ≤ maxSlots
@@ -42,7 +53,8 @@ module _ (n : ℕ) (v : ℕ → ℕ) (few : n ≤ maxSlots) (each : (i : ℕ) �
 
   slot-every : (i : ℕ) → i < n → 255 ≤ v i → (j : ℕ) × (j < overflowCount n v) × (getD (overflowSlots n v) j 0 ≡ i)
   unfolding overflowCount overflowSlots
-  slot-every i h overflows = positions-all (λ (i : ℕ). inOverflow (v i)) 0 n i (omega arith) (omega arith) (le-leb 255 (v i) overflows)
+  slot-every i h overflows =
+      positions-all (λ (i : ℕ). inOverflow (v i)) 0 n i (omega arith) (omega arith) (le-leb 255 (v i) overflows)
 
   -- ---- the header
 
@@ -96,8 +108,10 @@ module _ (n : ℕ) (v : ℕ → ℕ) (few : n ≤ maxSlots) (each : (i : ℕ) �
   file-entry : (j : ℕ) → j < overflowCount n v
       → (q : List ℕ) × (drop (40 + n + 12 * j) (file n v) ≡ overflowEntry v (getD (overflowSlots n v) j 0) ++ q)
   unfolding overflowPart overflowCount
-  file-entry j h =
-      (_, drop-primary (12 * j) ∙ joined-piece (overflowEntry v) 12 (length-overflowEntry v) (overflowSlots n v) _ j h)
+  file-entry j h = (
+    _,
+    drop-primary (12 * j) ∙ joined-piece (overflowEntry v) 12 (length-overflowEntry v) (overflowSlots n v) _ j h,
+  )
 
   pub file-slot : (j : ℕ) → j < overflowCount n v → get 8 (file n v) (40 + n + 12 * j) ≡ getD (overflowSlots n v) j 0
   unfolding overflowEntry le
@@ -106,7 +120,8 @@ module _ (n : ℕ) (v : ℕ → ℕ) (few : n ≤ maxSlots) (each : (i : ℕ) �
       let e = file-entry j h in
       get-at 8 (file n v) (40 + n + 12 * j) s (le 4 (v s) ++ e .0) (e .1) (omega (arith, slot-inside j h))
 
-  pub file-distance : (j : ℕ) → j < overflowCount n v → get 4 (file n v) (40 + n + 12 * j + 8) ≡ v (getD (overflowSlots n v) j 0)
+  pub file-distance : (j : ℕ) → j < overflowCount n v
+      → get 4 (file n v) (40 + n + 12 * j + 8) ≡ v (getD (overflowSlots n v) j 0)
   unfolding overflowEntry le
   file-distance j h =
       let s : ℕ = getD (overflowSlots n v) j 0 in
@@ -115,7 +130,8 @@ module _ (n : ℕ) (v : ℕ → ℕ) (few : n ≤ maxSlots) (each : (i : ℕ) �
       (sym (drop-drop 8 (40 + n + 12 * j) (file n v)) ∙ ap (drop 8) (e .1)) (omega (arith, each s (slot-inside j h)))
 
   file-indexEntry : (i : ℕ) → i < indexLen (overflowCount n v)
-      → (q : List ℕ) × (drop (40 + n + 12 * overflowCount n v + 16 * i) (file n v) ≡ indexEntry (overflowSlots n v) (indexStep (overflowCount n v)) i ++ q)
+      → (q : List ℕ) × (drop (40 + n + 12 * overflowCount n v + 16 * i) (file n v)
+      ≡ indexEntry (overflowSlots n v) (indexStep (overflowCount n v)) i ++ q)
   unfolding indexPart overflowCount
   file-indexEntry i h =
       let c : ℕ = overflowCount n v in
@@ -148,10 +164,13 @@ module _ (n : ℕ) (v : ℕ → ℕ) (few : n ≤ maxSlots) (each : (i : ℕ) �
         inside = omega (arith, e, slot-inside j h);
         above = omega (arith, e, lowest j h);
         overflows = omega (arith, file-distance j h, slot-overflows j h);
-        marked = ap (λ (i : ℕ). getD (file n v) (40 + i) 0) e ∙ file-byte s (slot-inside j h) ∙ primaryByte-overflow (v s) (slot-overflows j h);
+        marked = ap (λ (i : ℕ). getD (file n v) (40 + i) 0) e
+            ∙ file-byte s (slot-inside j h)
+            ∙ primaryByte-overflow (v s) (slot-overflows j h);
       })
 
-  entry-exists : (i : ℕ) → i < n → 255 ≤ v i → entryOf (fileParts (file n v) n (overflowCount n v)) i < overflowCount n v
+  entry-exists : (i : ℕ) → i < n → 255 ≤ v i
+      → entryOf (fileParts (file n v) n (overflowCount n v)) i < overflowCount n v
   unfolding entryOf
   entry-exists i h overflows =
       let a = slot-every i h overflows in
@@ -162,8 +181,9 @@ module _ (n : ℕ) (v : ℕ → ℕ) (few : n ≤ maxSlots) (each : (i : ℕ) �
   unfolding badSlot
   slot-right i h =
       elim (decLe 255 (v i)) [
-        | yes overflows ↦ rw (lt-leb (overflowCount n v) _ (entry-exists i h overflows)) (and-false (eqb (getD (file n v) (40 + i) 0) 255))
-        | no near ↦ rw (file-byte i h, primaryByte-inline (v i) (omega arith), ne-eqb (v i) 255 (λ q. omega arith))
+        | yes overflows ↦ rw (lt-leb (overflowCount n v) _ (entry-exists i h overflows))
+            (and-false (eqb (getD (file n v) (40 + i) 0) 255))
+        | no inline ↦ rw (file-byte i h, primaryByte-inline (v i) (omega arith), ne-eqb (v i) 255 (λ q. omega arith))
       ]
 
   index-right : (i : ℕ) → i < indexLen (overflowCount n v) → badIndexEntry (file n v) n (overflowCount n v) i ≡ false
@@ -175,9 +195,12 @@ module _ (n : ℕ) (v : ℕ → ℕ) (few : n ≤ maxSlots) (each : (i : ℕ) �
       let s : ℕ = getD (overflowSlots n v) t 0 in
       let e = file-indexEntry i h in
       let X : ℕ = 40 + n + 12 * c + 16 * i in
-      let g₁ : get 8 (file n v) X ≡ s = get-at 8 (file n v) X s (le 8 t ++ e .0) (e .1) (omega (arith, slot-inside t lt)) in
+      let g₁ : get 8 (file n v) X ≡ s =
+      get-at 8 (file n v) X s (le 8 t ++ e .0) (e .1) (omega (arith, slot-inside t lt)) in
+      let next : drop (X + 8) (file n v) ≡ le 8 t ++ e .0 =
+      sym (drop-drop 8 X (file n v)) ∙ ap (drop 8) (e .1) in
       let g₂ : get 8 (file n v) (X + 8) ≡ t =
-      get-at 8 (file n v) (X + 8) t (e .0) (sym (drop-drop 8 X (file n v)) ∙ ap (drop 8) (e .1)) (omega (arith, count-small)) in
+      get-at 8 (file n v) (X + 8) t (e .0) next (omega (arith, count-small)) in
       rw (g₁, g₂, file-slot t lt, eq-eqb s s refl, eq-eqb t t refl)
 
   pub file-checked : CheckedMap (file n v) n (overflowCount n v)
@@ -198,6 +221,7 @@ module _ (n : ℕ) (v : ℕ → ℕ) (few : n ≤ maxSlots) (each : (i : ℕ) �
         | yes overflows ↦ (let a = slot-every i h overflows in
             let e : get 8 (file n v) (40 + n + 12 * a .0) ≡ i = file-slot (a .0) (a .1) ∙ a .2 in
             ap (valueOf P) (sym e) ∙ valueOf-slot P s (a .0) (a .1) ∙ file-distance (a .0) (a .1) ∙ ap v (a .2))
-        | no near ↦ (let e : getD (file n v) (40 + i) 0 ≡ v i = file-byte i h ∙ primaryByte-inline (v i) (omega arith) in
+        | no inline ↦ (let e : getD (file n v) (40 + i) 0 ≡ v i =
+            file-byte i h ∙ primaryByte-inline (v i) (omega arith) in
             valueOf-inline P s i (omega (arith, e)) ∙ e)
       ]

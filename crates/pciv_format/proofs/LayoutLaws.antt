@@ -1,5 +1,12 @@
 -- Laws of the layout: the derived counts, the length of each part, and that a file depends on the distances of
 -- its slots alone.
+--   indexStep-few, -many, indexLen-zero, -step    the step and the length of the index, case by case
+--   index-cases, index-inside    both at once; the entry that an index entry names is there
+--   indexStep-le, indexLen-le, overflowCount-le    how large they are
+--   fileLen-is                   the length of a file, written out
+--   length-primary, -overflowEntry, -indexEntry, -header, -overflowPart, -indexPart, -file    lengths of parts
+--   overflowCount-cong, file-cong, summary-cong    of distances that agree on the slots
+-- Axioms: none.
 use mathlib.Core.Path.{_≡_, refl, sym, ap, ap₂, _∙_}
 use Prim.Native.Nat.{ℕ, suc, _+_, _-_, _*_, _/_, _≤_, _<_}
 use native.Mathlib.Nat.{add-zero, le-div-iff-mul-le, suc-mul, div-le-self}
@@ -14,7 +21,10 @@ use Rattle.pciv_bytes.specs.LittleEndian.{le}
 use Rattle.pciv_bytes.proofs.RangesLaws.{length-table, table-cong}
 use Rattle.pciv_bytes.proofs.PositionsLaws.{positions-count, positions-at, positions-cong}
 use Rattle.pciv_bytes.proofs.JoinedLaws.{length-joined, joined-cong}
-use Rattle.pciv_format.specs.Layout.{maxSlots, inOverflow, primaryByte, indexStep, indexLen, fileLen, primary, overflowSlots, overflowCount, overflowEntry, overflowPart, indexEntry, indexPart, header, file, countsOf, summary}
+use Rattle.pciv_format.specs.Layout.{maxSlots, inOverflow, primaryByte, indexStep, indexLen, fileLen}
+use Rattle.pciv_format.specs.Layout.{primary, overflowSlots, overflowCount, overflowEntry}
+use Rattle.pciv_format.specs.Layout.{overflowPart, indexEntry, indexPart, header, file, countsOf}
+use Rattle.pciv_format.specs.Layout.{summary}
 
 -- ---- derived counts
 
@@ -122,12 +132,14 @@ module _ (n : ℕ) (v w : ℕ → ℕ) (same : (i : ℕ) → i < n → v i ≡ w
   overflowSlots-cong : overflowSlots n v ≡ overflowSlots n w
   unfolding overflowSlots
   overflowSlots-cong =
-      positions-cong (λ (i : ℕ). inOverflow (v i)) (λ (i : ℕ). inOverflow (w i)) 0 n (λ j h₁ h₂. ap inOverflow (same j (omega arith)))
+      positions-cong (λ (i : ℕ). inOverflow (v i)) (λ (i : ℕ). inOverflow (w i)) 0 n
+      (λ j h₁ h₂. ap inOverflow (same j (omega arith)))
 
   primary-cong : primary n v ≡ primary n w
   unfolding primary
   primary-cong =
-      table-cong (λ (i : ℕ). primaryByte (v i)) (λ (i : ℕ). primaryByte (w i)) 0 n (λ j h. ap primaryByte (same j (omega arith)))
+      table-cong (λ (i : ℕ). primaryByte (v i)) (λ (i : ℕ). primaryByte (w i)) 0 n
+      (λ j h. ap primaryByte (same j (omega arith)))
 
   overflowPart-cong : overflowPart n v ≡ overflowPart n w
   unfolding overflowPart overflowEntry overflowSlots

@@ -1,14 +1,25 @@
 -- Every routine on the files of lists (docs/PROMISES.md, "Lists"): for lists within the limits and any other
 -- arguments, its answer and what the caller's buffer or list holds afterwards are those of the arithmetic on the
 -- lists, refusals 9 to 13 included. Nothing on a right-hand side reads a file.
---   Writes             what a routine answers and leaves, whatever buffer or list it gets
---   file-X, front-X    a law for each routine X; front-X for a buffer with a list's file at its front
---   file-pair          the check of two files and refusal 10; file-select, file-masked: once for several routines
---   WritesMap, X-read  what a routine X writes as a map is accepted with X's answer and is read as the list of results
---   map-read           that, once for all of them
---   map-close          close accepts the parts of every map, and writes the map's file
+--   Writes                what a routine answers and leaves, whatever buffer or list it gets
+--   file-primary, file-primaryPlace, file-lookup, file-lookupList, file-scan, file-sum, file-readings    reading
+--   file-select           masks of a map: file-threshold, file-nearMask
+--   shiftedAt, maskedAt, maskedInto    a shifted distance, a masked one, and the outcome of a masked map
+--   file-shift, file-masked            maps from one file; the latter: file-keepMasked, file-incrementMasked
+--   refuseSizes, file-pair             refusal 10; the check of two files
+--   file-combineMaps, file-signedDifference, file-brayCurtis, file-jaccard    two files
+--   reportOf, file-reportText, file-report    the report
+--   runInto, front-edit, front-editList       the editor, on a buffer with a list's file at its front
+--   ReadAs, WritesMap     a written map is accepted with the routine's answer, and is read as the list of results
+--   front-read            the file of a list is, with any bytes behind it
+--   Writable, map-read    that, once for all routines that write a computed map
+--   write-read, shift-read, masked-read, keepMasked-read, incrementMasked-read, combineMaps-read, mapOfMask-read,
+--   close-read            that of each of them
+--   overflowDistances     the distances in overflow, in order of their slots
+--   map-close             close accepts the parts of every map, and writes the map's file
 -- Check is `file-accepted` (Acceptance.antt), and of a buffer `front-check` (FrontLaws.antt). The routines on masks
 -- alone (and, or, xor, complement, set_bits, map_of_mask) are given no file: their definitions are on the words.
+-- Axioms: none.
 use mathlib.Core.Path.{_≡_, refl, sym, ap, _∙_}
 use Prim.Native.Nat.{ℕ, _+_, _*_, _≤_, _<_, min}
 use native.Mathlib.Nat.{zero-add}
@@ -24,26 +35,31 @@ use borrow.Author.Tests.{ltb-false, le-ltb}
 use Rattle.pciv_bytes.specs.Ranges.{table}
 use Rattle.pciv_bytes.specs.LittleEndian.{Bytes}
 use Rattle.pciv_bytes.proofs.RangesLaws.{getD-table, getD-inside}
-use Rattle.pciv_format.specs.Layout.{maxSlots, maxDistance, primaryByte, primary, overflowSlots, overflowCount, header, file}
-use Rattle.pciv_format.specs.Layout.{countsOf, summary, at, fileOf, summaryOf, Limits}
+use Rattle.pciv_format.specs.Layout.{maxSlots, maxDistance, primaryByte, primary, overflowSlots}
+use Rattle.pciv_format.specs.Layout.{overflowCount, header, file, countsOf, summary, at, fileOf}
+use Rattle.pciv_format.specs.Layout.{summaryOf, Limits}
 use Rattle.pciv_format.specs.Refusals.{Outcome, done, refuse, refuseIf, refuseFirst, written}
 use Rattle.pciv_format.specs.Parts.{Parts, badEntry, badSlot, valueOf, SoundParts}
 use Rattle.pciv_format.specs.Check.{fileParts, checkFile}
-use Rattle.pciv_format.specs.Read.{listOf, primaryPart, behind, primaryPlace, lookupOutcome, itemsInto, lookupListOutcome, lookupListBuffer}
-use Rattle.pciv_format.specs.Read.{scanOutcome, scanBuffer, total, readings, sumOutcome, readingsOutcome}
-use Rattle.pciv_format.specs.Write.{fileInto, mapInto, writeOutcome, writeBuffer, closeParts, closeOutcome, closeBuffer}
-use Rattle.pciv_format.specs.Mask.{maskLen, maskHas, maskOf, badMask, holds, isNear, selectOutcome, selectWords}
-use Rattle.pciv_format.specs.Mask.{thresholdOutcome, thresholdWords, nearMaskOutcome, nearMaskWords}
-use Rattle.pciv_format.specs.Mask.{maskValue, mapOfMaskOutcome, mapOfMaskBuffer, maskedOutcome, maskedBuffer}
-use Rattle.pciv_format.specs.Mask.{keptIf, keepMaskedOutcome, keepMaskedBuffer}
-use Rattle.pciv_format.specs.Mask.{plusIf, incrementMaskedOutcome, incrementMaskedBuffer}
+use Rattle.pciv_format.specs.Read.{listOf, primaryPart, behind, primaryPlace, lookupOutcome}
+use Rattle.pciv_format.specs.Read.{itemsInto, lookupListOutcome, lookupListBuffer, scanOutcome}
+use Rattle.pciv_format.specs.Read.{scanBuffer, total, readings, sumOutcome, readingsOutcome}
+use Rattle.pciv_format.specs.Write.{fileInto, mapInto, writeOutcome, writeBuffer, closeParts}
+use Rattle.pciv_format.specs.Write.{closeOutcome, closeBuffer}
+use Rattle.pciv_format.specs.Mask.{maskLen, maskHas, maskOf, badMask, holds, isNear, selectOutcome}
+use Rattle.pciv_format.specs.Mask.{selectWords, thresholdOutcome, thresholdWords, nearMaskOutcome}
+use Rattle.pciv_format.specs.Mask.{nearMaskWords, maskValue, mapOfMaskOutcome, mapOfMaskBuffer}
+use Rattle.pciv_format.specs.Mask.{maskedOutcome, maskedBuffer, keptIf, keepMaskedOutcome}
+use Rattle.pciv_format.specs.Mask.{keepMaskedBuffer, plusIf, incrementMaskedOutcome}
+use Rattle.pciv_format.specs.Mask.{incrementMaskedBuffer}
 use Rattle.pciv_format.specs.Arith.{pairOutcome, combinedAt, combineMapsOutcome, combineMapsBuffer}
-use Rattle.pciv_format.specs.Arith.{shiftedBy, shiftOutcome, shiftBuffer}
-use Rattle.pciv_format.specs.Arith.{signedDifferences, signedDifferenceOutcome, signedDifferenceList}
+use Rattle.pciv_format.specs.Arith.{shiftedBy, shiftOutcome, shiftBuffer, signedDifferences}
+use Rattle.pciv_format.specs.Arith.{signedDifferenceOutcome, signedDifferenceList}
 use Rattle.pciv_format.specs.Figures.{quotient, distanceBetween, brayCurtisOutcome, countAt, jaccardOutcome}
-use Rattle.pciv_format.specs.Edit.{Edit, edited, plainOutcome, editOutcome, replaced, ifAccepted, editBuffer}
-use Rattle.pciv_format.specs.Edit.{plainStart, plainRun, plainOutcomes, bufferOf, answerLen, allCells, editsOf}
-use Rattle.pciv_format.specs.Edit.{editListOutcome, editListBuffer, editListAnswers}
+use Rattle.pciv_format.specs.Edit.{Edit, edited, plainOutcome, editOutcome, replaced, ifAccepted}
+use Rattle.pciv_format.specs.Edit.{editBuffer, plainStart, plainRun, plainOutcomes, bufferOf}
+use Rattle.pciv_format.specs.Edit.{answerLen, allCells, editsOf, editListOutcome, editListBuffer}
+use Rattle.pciv_format.specs.Edit.{editListAnswers}
 use Rattle.pciv_format.specs.Report.{textOf, reportText, reportOutcome, reportBuffer}
 use Rattle.pciv_format.specs.declared.Summary.{Summary}
 use Rattle.pciv_format.specs.declared.SlotOp.{SlotOp}
@@ -51,9 +67,11 @@ use Rattle.pciv_format.specs.declared.Comparison.{Comparison}
 use Rattle.pciv_format.proofs.PartsLaws.{primaryByte-overflow, primaryByte-inline, valueOf-le}
 use Rattle.pciv_format.proofs.RefusalsLaws.{refuseIf-done, refuseFirst-done, refuseFirst-none}
 use Rattle.pciv_format.proofs.LayoutLaws.{length-header, length-primary, length-file, file-cong, summary-cong}
-use Rattle.pciv_format.proofs.FileLaws.{file-header, file-byte, file-slot, file-distance, file-checked, file-value}
+use Rattle.pciv_format.proofs.FileLaws.{file-header, file-byte, file-slot, file-distance}
+use Rattle.pciv_format.proofs.FileLaws.{file-checked, file-value}
 use Rattle.pciv_format.proofs.Acceptance.{file-accepted, file-read, file-table, summary-table, table-limits}
-use Rattle.pciv_format.proofs.FrontLaws.{SameParts, sound-same, same-back, valueOf-same, front-check, front-list}
+use Rattle.pciv_format.proofs.SamePartsLaws.{SameParts, sound-same, same-back, valueOf-same}
+use Rattle.pciv_format.proofs.FrontLaws.{front-check, front-list}
 use Rattle.pciv_format.proofs.LimitLaws.{edit-plain}
 
 module _ {A B : Type 0} where
@@ -189,7 +207,8 @@ module _ (xs ys : List ℕ) (l : Limits xs) (m : Limits ys) where
       Writes (signedDifferenceOutcome (fileOf xs) (fileOf ys)) (signedDifferenceList (fileOf xs) (fileOf ys))
       (λ c. refuseSizes xs ys (itemsInto (length xs) c)) (signedDifferences xs ys)
   unfolding signedDifferenceOutcome signedDifferenceList
-  file-signedDifference out = rw (file-read xs l, file-read ys m, file-pair (λ n. itemsInto n (length out))) (refl, refl)
+  file-signedDifference out =
+      rw (file-read xs l, file-read ys m, file-pair (λ n. itemsInto n (length out))) (refl, refl)
 
   pub file-brayCurtis : brayCurtisOutcome (fileOf xs) (fileOf ys)
       ≡ refuseSizes xs ys (done (quotient (distanceBetween xs ys) (total xs + total ys)))
@@ -337,7 +356,8 @@ combineMaps-read xs ys l m o out s =
     mapInto-done (length xs) (combinedAt o xs ys) (l .count) (length out) s
     (refuseIf-done (not (eqb (length xs) (length ys))) _ _ s e .1))
 
-pub mapOfMask-read : (n : ℕ) (ws : List ℕ) → WritesMap (mapOfMaskOutcome n ws) (mapOfMaskBuffer n ws) (table (maskValue ws) 0 n)
+pub mapOfMask-read : (n : ℕ) (ws : List ℕ)
+    → WritesMap (mapOfMaskOutcome n ws) (mapOfMaskBuffer n ws) (table (maskValue ws) 0 n)
 unfolding mapOfMaskOutcome mapOfMaskBuffer
 mapOfMask-read n ws out s =
     map-read n (maskValue ws) out s (refl, refl)
@@ -370,7 +390,9 @@ overflowDistances n v = map v (overflowSlots n v)
 
 primary-at : (n : ℕ) (v : ℕ → ℕ) (i : ℕ) → i < n → getD (primary n v) i 0 ≡ primaryByte (v i)
 unfolding primary
-primary-at n v i h = getD-table (λ (j : ℕ). primaryByte (v j)) 0 0 n i h ∙ ap (λ (j : ℕ). primaryByte (v j)) (zero-add i)
+primary-at n v i h =
+    let f : ℕ → ℕ = λ j. primaryByte (v j) in
+    getD-table f 0 0 n i h ∙ ap f (zero-add i)
 
 primary-bytes : (n : ℕ) (v : ℕ → ℕ) → Bytes (primary n v)
 primary-bytes n v i =
@@ -409,14 +431,16 @@ module _ (n : ℕ) (v : ℕ → ℕ) (few : n ≤ maxSlots) (each : (i : ℕ) �
 
   value : (i : ℕ) → i < n → valueOf parts i ≡ v i
   value i h =
-      sym (valueOf-same parts _ (same-back _ parts same) sound (primary-bytes n v) i (omega (arith, length-primary n v)))
+      let inside : i < parts .n = omega (arith, length-primary n v) in
+      sym (valueOf-same parts _ (same-back _ parts same) sound (primary-bytes n v) i inside)
       ∙ file-value n v few each i h
 
   parts-file : file (length (primary n v)) (valueOf parts) ≡ file n v
   parts-file = ap (λ (m : ℕ). file m (valueOf parts)) (length-primary n v) ∙ file-cong n (valueOf parts) v value
 
   parts-summary : summary (length (primary n v)) (valueOf parts) ≡ summary n v
-  parts-summary = ap (λ (m : ℕ). summary m (valueOf parts)) (length-primary n v) ∙ summary-cong n (valueOf parts) v value
+  parts-summary =
+      ap (λ (m : ℕ). summary m (valueOf parts)) (length-primary n v) ∙ summary-cong n (valueOf parts) v value
 
   pub map-close :
       Writes (closeOutcome (primary n v) (overflowSlots n v) (overflowDistances n v))

@@ -1,20 +1,31 @@
--- Laws of parts that are sound: each entry's slot and distance, each slot's entry and distance, and that the
--- entries' slots are the slots in overflow.
+-- Laws of a primary array and overflow entries, wherever they stand, and of the tests on them.
+--   or-false, or-true, and-left, and-false, not-eqb, eqb-not, neb-not    of tests
+--   primaryByte-overflow, -inline, -min    the primary byte of a distance
+--   GoodEntry P j               what is known of an entry that is right
+--   goodEntry-of-test, badEntry-good    from the test, and to it
+--   entry-at, entries-rise      where every entry is right: each of them, and that the slots rise
+--   entry-good, slots-rise      the same of sound parts
+--   entryOf-slot, valueOf-slot  the entry and the distance at an entry's slot
+--   slot-entry                  a slot with byte 255 has an entry
+--   valueOf-inline, slot-cases  the distance of a slot that is stored inline; what is known of any slot
+--   primaryByte-valueOf, valueOf-le    the primary byte of the distance, and the largest distance
+--   overflowSlots-are, overflowCount-is    the slots in overflow are the entries' slots
+-- Axioms: none.
 use mathlib.Core.Path.{_≡_, refl, sym, ap, _∙_}
-use Prim.Native.Nat.{ℕ, zero, suc, _+_, _-_, _≤_, _<_}
-use native.Mathlib.Nat.{le-refl, zero-add}
+use Prim.Native.Nat.{ℕ, suc, _-_, _≤_, _<_, min}
 use native.Mathlib.Omega.{arith}
 use native.Mathlib.Decide.{decLe}
 use mathlib.Core.Bool.{Bool, true, false, not, _&&_, _||_}
-use mathlib.Core.List.{List}
-use lib.ListN.{length, getD}
-use lib.Dec.{ltb, leb, eqb}
-use borrow.Author.Tests.{lt-ltb, le-ltb, le-leb, lt-leb, eq-eqb, ne-eqb, ltb-false, leb-true, leb-false, eqb-true, not-false}
+use lib.ListN.{length}
+use lib.Dec.{eqb}
+use borrow.Author.Tests.{lt-ltb, le-ltb, le-leb, lt-leb, eq-eqb, ne-eqb, ltb-false, leb-true, leb-false}
+use borrow.Author.Tests.{eqb-true, not-false}
 use Rattle.pciv_bytes.specs.Ranges.{firstBelow, table}
-use Rattle.pciv_bytes.proofs.RangesLaws.{firstBelow-at, firstBelow-has, firstBelow-lt, firstBelow-none, length-table}
-use Rattle.pciv_bytes.proofs.PositionsLaws.{Position, Rising, rises, positions-are}
+use Rattle.pciv_bytes.proofs.RangesLaws.{firstBelow-at, firstBelow-has, length-table}
+use Rattle.pciv_bytes.proofs.PositionsLaws.{rises, positions-are}
 use Rattle.pciv_format.specs.Layout.{maxDistance, inOverflow, primaryByte, overflowSlots, overflowCount}
-use Rattle.pciv_format.specs.Parts.{Parts, lowestSlot, badEntry, entryOf, badSlot, valueOf, SoundParts}
+use Rattle.pciv_format.specs.Parts.{Parts, wrongEntry, lowestSlot, badEntry, entryOf, badSlot}
+use Rattle.pciv_format.specs.Parts.{valueOf, EntriesRight, SoundParts}
 
 -- ---- tests
 
@@ -51,6 +62,22 @@ primaryByte-overflow x h = rw (le-ltb x 255 h)
 pub primaryByte-inline : (x : ℕ) → x < 255 → primaryByte x ≡ x
 primaryByte-inline x h = rw (lt-ltb x 255 h)
 
+pub primaryByte-min : (x : ℕ) → primaryByte x ≡ min 255 x
+primaryByte-min x =
+    elim (decLe 255 x) [
+      | yes d ↦ primaryByte-overflow x d ∙ omega arith
+      | no d ↦ primaryByte-inline x (omega arith) ∙ omega arith
+    ]
+
+-- a byte is 255 where the distance is in overflow
+pub primaryByte-full : (x : ℕ) → eqb (primaryByte x) 255 ≡ inOverflow x
+primaryByte-full x =
+    elim (decLe 255 x) [
+      | yes d ↦ eq-eqb (primaryByte x) 255 (primaryByte-overflow x d) ∙ sym (le-leb 255 x d)
+      | no d ↦ ne-eqb (primaryByte x) 255 (λ q. omega (arith, q, primaryByte-inline x (omega arith)))
+          ∙ sym (lt-leb 255 x (omega arith))
+    ]
+
 -- ---- an overflow entry that is right
 
 pub record GoodEntry (P : Parts) (j : ℕ) : Type 0 where
@@ -60,15 +87,20 @@ pub record GoodEntry (P : Parts) (j : ℕ) : Type 0 where
   pub marked : P .byte (P .slot j) ≡ 255
 
 pub goodEntry-of-test : (P : Parts) (j : ℕ) → badEntry P j ≡ false → GoodEntry P j
-unfolding badEntry
+unfolding badEntry wrongEntry
 goodEntry-of-test P j e =
     let o₃ = or-false _ _ e in
     let o₂ = or-false _ _ (o₃ .0) in
     let o₁ = or-false _ _ (o₂ .0) in
-    record { inside = leb-false _ _ (o₁ .0); above = ltb-false _ _ (o₁ .1); overflows = ltb-false _ _ (o₂ .1); marked = not-eqb _ _ (o₃ .1) }
+    record {
+      inside = leb-false _ _ (o₁ .0);
+      above = ltb-false _ _ (o₁ .1);
+      overflows = ltb-false _ _ (o₂ .1);
+      marked = not-eqb _ _ (o₃ .1);
+    }
 
 pub badEntry-good : (P : Parts) (j : ℕ) → GoodEntry P j → badEntry P j ≡ false
-unfolding badEntry
+unfolding badEntry wrongEntry
 badEntry-good P j g =
     rw (
       lt-leb (P .n) (P .slot j) (g .inside),
@@ -77,14 +109,23 @@ badEntry-good P j g =
       eq-eqb (P .byte (P .slot j)) 255 (g .marked),
     )
 
+-- ---- where every entry is right
+
+module _ (P : Parts) (right : EntriesRight P) where
+  pub entry-at : (j : ℕ) → j < P .k → GoodEntry P j
+  entry-at j h = goodEntry-of-test P j (right j h)
+
+  pub entries-rise : (j t : ℕ) → j < t → t < P .k → P .slot j < P .slot t
+  entries-rise = rises (P .slot) (P .k) (λ j h. omega (arith, entry-at (suc j) h .above))
+
 -- ---- what sound parts satisfy
 
 module _ (P : Parts) (s : SoundParts P) where
   pub entry-good : (j : ℕ) → j < P .k → GoodEntry P j
-  entry-good j h = goodEntry-of-test P j (s .entries j h)
+  entry-good = entry-at P (s .entries)
 
   pub slots-rise : (j t : ℕ) → j < t → t < P .k → P .slot j < P .slot t
-  slots-rise = rises (P .slot) (P .k) (λ j h. omega (arith, entry-good (suc j) h .above))
+  slots-rise = entries-rise P (s .entries)
 
   -- the entry of entry j's slot is j
   pub entryOf-slot : (j : ℕ) → j < P .k → entryOf P (P .slot j) ≡ j
@@ -115,7 +156,8 @@ module _ (P : Parts) (s : SoundParts P) where
   module _ (bytes : (i : ℕ) → P .byte i < 256) where
     -- what is known of slot i: inline, or in overflow with an entry j
     pub slot-cases : {B : Type 0} (i : ℕ) → i < P .n → (P .byte i < 255 → valueOf P i ≡ P .byte i → B)
-        → ((j : ℕ) → j < P .k → P .slot j ≡ i → P .byte i ≡ 255 → valueOf P i ≡ P .distance j → 255 ≤ valueOf P i → B) → B
+        → ((j : ℕ) → j < P .k → P .slot j ≡ i → P .byte i ≡ 255 → valueOf P i ≡ P .distance j → 255 ≤ valueOf P i → B)
+        → B
     slot-cases i h inline overflow =
         elim (decLe 255 (P .byte i)) [
           | yes d ↦ (let e : P .byte i ≡ 255 = omega (arith, bytes i) in

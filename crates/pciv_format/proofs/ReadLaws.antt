@@ -1,19 +1,26 @@
--- Laws of the list that a file is read as.
+-- Laws of the list that a file is read as, and of items that are written to a list.
+--   length-listOf, at-listOf    its length and elements
+--   listOf-is, at-list          the same at the counts n and k that the code holds
+--   total-is, readings-is       its totals
+--   items-fit, items-short      items into a list that holds them, or not
+-- Axioms: none.
 use mathlib.Core.Path.{_≡_, ap, ap₂, _∙_}
-use Prim.Native.Nat.{ℕ, _<_}
+use Prim.Native.Nat.{ℕ, _≤_, _<_}
 use native.Mathlib.Nat.{zero-add}
 use native.Mathlib.Omega.{arith}
 use mathlib.Core.Bool.{not}
 use mathlib.Core.List.{List}
 use lib.ListN.{length}
 use lib.Dec.{eqb}
+use borrow.Author.Tests.{lt-ltb, le-ltb}
 use Rattle.pciv_bytes.specs.Ranges.{flag, table, sumFrom}
 use Rattle.pciv_bytes.proofs.RangesLaws.{length-table, getD-table}
 use Rattle.pciv_bytes.proofs.SumLaws.{sumFrom-cong}
 use Rattle.pciv_format.specs.Layout.{at}
+use Rattle.pciv_format.specs.Refusals.{done, refuse}
 use Rattle.pciv_format.specs.Parts.{valueOf}
 use Rattle.pciv_format.specs.Check.{nField, kField, fileParts}
-use Rattle.pciv_format.specs.Read.{valueAt, listOf, total, readings}
+use Rattle.pciv_format.specs.Read.{valueAt, listOf, itemsInto, total, readings}
 
 pub length-listOf : (b : List ℕ) → length (listOf b) ≡ nField b
 unfolding listOf
@@ -32,7 +39,8 @@ module _ (b : List ℕ) (n k : ℕ) (nIs : nField b ≡ n) (kIs : kField b ≡ k
   pub at-list : (i : ℕ) → i < n → at (listOf b) i ≡ valueOf (fileParts b n k) i
   at-list i h = rw (nIs, kIs) at (at-listOf b i (omega (arith, nIs)))
 
-  sum-list : (f : ℕ → ℕ) → sumFrom (λ (i : ℕ). f (at (listOf b) i)) 0 (length (listOf b)) ≡ sumFrom (λ (i : ℕ). f (valueOf (fileParts b n k) i)) 0 n
+  sum-list : (f : ℕ → ℕ) → sumFrom (λ (i : ℕ). f (at (listOf b) i)) 0 (length (listOf b))
+      ≡ sumFrom (λ (i : ℕ). f (valueOf (fileParts b n k) i)) 0 n
   sum-list f =
       rw (length-listOf b, nIs)
       (sumFrom-cong (λ (i : ℕ). f (at (listOf b) i)) (λ (i : ℕ). f (valueOf (fileParts b n k) i)) 0 n
@@ -45,3 +53,11 @@ module _ (b : List ℕ) (n k : ℕ) (nIs : nField b ≡ n) (kIs : kField b ≡ k
   pub readings-is : readings (listOf b) ≡ sumFrom (λ (i : ℕ). flag (not (eqb (valueOf (fileParts b n k) i) 0))) 0 n
   unfolding readings
   readings-is = sum-list (λ (x : ℕ). flag (not (eqb x 0)))
+
+-- ---- items that fit
+
+pub items-fit : (c capacity : ℕ) → c ≤ capacity → itemsInto c capacity ≡ done c
+items-fit c capacity h = rw (le-ltb capacity c h)
+
+pub items-short : (c capacity : ℕ) → capacity < c → itemsInto c capacity ≡ refuse 12 0 0
+items-short c capacity h = rw (lt-ltb capacity c h)

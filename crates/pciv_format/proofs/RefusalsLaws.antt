@@ -1,18 +1,22 @@
 -- Laws of outcomes: what a done outcome says of each test on the way, and what an answer says of its outcome.
+--   refuseIf-done, refuseFirst-done    past a test that refuses, and past a test of every place
+--   refuseFirst-none, -some            where no place is bad, and at the least place that is
+--   andThen-done                       past an outcome that something follows
+--   fileAnswer-done, -refused, numberAnswer-number, -refused    the outcome of an answer
+-- Axioms: none.
 use mathlib.Core.Path.{_≡_, refl}
-use Prim.Native.Nat.{ℕ, _≤_, _<_}
+use Prim.Native.Nat.{ℕ, _<_}
 use native.Mathlib.Omega.{arith}
 use mathlib.Core.Bool.{Bool, true, false}
 use lib.Dec.{ltb}
 use borrow.Author.Tests.{lt-ltb, le-ltb, ltb-false}
 use Rattle.pciv_bytes.specs.Ranges.{firstBelow}
-use Rattle.pciv_bytes.proofs.RangesLaws.{firstBelow-all, firstBelow-none, firstBelow-le}
-use Rattle.pciv_format.specs.Refusals.{Outcome, done, refused, refuse, refuseIf, refuseFirst, andThen, fileAnswer, numberAnswer}
+use Rattle.pciv_bytes.proofs.RangesLaws.{firstBelow-all, firstBelow-none}
+use Rattle.pciv_format.specs.Refusals.{Outcome, done, refused, refuse, refuseIf, refuseFirst, andThen}
+use Rattle.pciv_format.specs.Refusals.{fileAnswer, numberAnswer}
 use Rattle.pciv_format.specs.declared.Summary.{Summary}
 use Rattle.pciv_format.specs.declared.Refusal.{Refusal}
-use Rattle.pciv_format.specs.declared.FileAnswer.{FileAnswer}
 use Rattle.pciv_format.specs.declared.FileAnswer.the-variants as InFile
-use Rattle.pciv_format.specs.declared.NumberAnswer.{NumberAnswer}
 use Rattle.pciv_format.specs.declared.NumberAnswer.the-variants as InNumber
 
 module _ {A : Type 0} where
@@ -42,7 +46,8 @@ module _ {A : Type 0} where
 
 module _ {A B : Type 0} where
   -- past an outcome that something follows
-  pub andThen-done : (o : Outcome A) (f : A → Outcome B) (b : B) → andThen o f ≡ done b → (a : A) × (o ≡ done a) × (f a ≡ done b)
+  pub andThen-done : (o : Outcome A) (f : A → Outcome B) (b : B) → andThen o f ≡ done b
+      → (a : A) × (o ≡ done a) × (f a ≡ done b)
   andThen-done (done a) f b e = (a, refl, e)
   andThen-done (refused r) f b e = let z : _≡_ {A = ℕ} 0 1 = cc in absurd (omega arith)
 

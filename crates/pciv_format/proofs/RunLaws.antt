@@ -3,7 +3,13 @@
 -- editor's list as a fresh file, zeros up to the longest file of the run, and then what stood there at the start;
 -- and of each edit, on the plain editor's list and the buffer that it finds, all that docs/FORMAT.md, "The editor",
 -- says of the bytes just after it (a field of `StepLimits` for each sentence).
---   edit-run   the theorem
+--   Reached b₀ z           a state z that the plain editor may reach on a buffer b₀
+--   length-there           what the buffer holds in such a state is as long as b₀
+--   edit-answer, -buffer   one edit there: the editor's answer and buffer are the plain editor's
+--   next-reached           the state after it is reached too
+--   Distances es           every distance of the edits es is one
+--   edit-run               the theorem
+-- Axioms: none.
 use mathlib.Core.Path.{_≡_, refl, sym, ap, ap₂, _∙_}
 use Prim.Native.Nat.{ℕ, suc, _+_, _-_, _≤_, _<_, max}
 use native.Mathlib.Nat.{le-refl, sub-self}
@@ -11,63 +17,72 @@ use native.Mathlib.Omega.{arith}
 use native.Mathlib.Decide.{decLe}
 use mathlib.Core.Bool.{Bool, true, false}
 use mathlib.Core.List.{List, [], _∷_, _++_, append-assoc}
-use lib.ListN.{length, getD, drop, replicate, length-append, length-drop, length-set, length-replicate, replicate-append-replicate}
-use lib.Seq.{drop-at, drop-drop, getD-set-same, getD-set-other}
+use lib.ListN.{length, getD, drop, replicate, length-append, length-drop, length-replicate, replicate-append-replicate}
+use lib.Seq.{drop-at, drop-drop}
 use lib.Dec.{ltb, leb}
 use borrow.Author.Tests.{ltb-false}
 use Rattle.pciv_format.specs.Layout.{maxDistance, fileOf, summaryOf, Limits}
 use Rattle.pciv_format.specs.Refusals.{Outcome, done, refused, refuse, refuseIf}
 use Rattle.pciv_format.specs.Read.{listOf}
-use Rattle.pciv_format.specs.Edit.{Edit, edited, plainOutcome, editedFile, editOutcome, replaced, ifAccepted, editBuffer, State, plainStart, plainStep, plainRun, plainOutcomes, bufferOf, editRun, editOutcomes, StepLimits, RunLimits}
+use Rattle.pciv_format.specs.Edit.{Edit, edited, plainOutcome, editedFile, editOutcome, replaced}
+use Rattle.pciv_format.specs.Edit.{ifAccepted, editBuffer, State, plainStart, plainStep, plainRun}
+use Rattle.pciv_format.specs.Edit.{plainOutcomes, bufferOf, editRun, editOutcomes, StepLimits}
+use Rattle.pciv_format.specs.Edit.{RunLimits}
 use Rattle.pciv_format.specs.declared.Summary.{Summary}
 use Rattle.pciv_format.proofs.FrontLaws.{front-list}
+use Rattle.pciv_format.proofs.EditLaws.{edited-limits}
 use Rattle.pciv_format.proofs.LimitLaws.{edit-plain, edit-step}
 
 -- ---- what follows the file: zeros, then what stood there at the start
 
-zeros : ℕ → List ℕ
-zeros n = replicate n 0
+zeros-append : (a c : ℕ) (t : List ℕ) → replicate a 0 ++ (replicate c 0 ++ t) ≡ replicate (a + c) 0 ++ t
+zeros-append a c t =
+    sym (append-assoc (replicate a 0) (replicate c 0) t)
+    ∙ ap (λ (l : List ℕ). l ++ t) (replicate-append-replicate a c 0)
+
+drop-zeros : (c a p : ℕ) (b : List ℕ)
+    → drop c (replicate a 0 ++ drop p b) ≡ replicate (a - c) 0 ++ drop (p + (c - a)) b
+drop-zeros c a p b =
+    elim (decLe c a) [
+      | yes d ↦ (let split : a ≡ c + (a - c) = omega arith in
+          let none : p + (c - a) ≡ p = omega arith in
+          rw none
+          (ap (λ (m : ℕ). drop c (replicate m 0 ++ drop p b)) split
+          ∙ ap (drop c) (sym (zeros-append c (a - c) (drop p b)))
+          ∙ drop-at (replicate c 0) (replicate (a - c) 0 ++ drop p b) c (length-replicate c 0)))
+      | no d ↦ (let split : c ≡ a + (c - a) = omega arith in
+          let none : a - c ≡ 0 = omega arith in
+          rw none
+          (ap (λ (m : ℕ). drop m (replicate a 0 ++ drop p b)) split
+          ∙ sym (drop-drop (c - a) a (replicate a 0 ++ drop p b))
+          ∙ ap (drop (c - a)) (drop-at (replicate a 0) (drop p b) a (length-replicate a 0))
+          ∙ drop-drop (c - a) p b))
+    ]
+
+zeros-behind : (Lx Ly filled : ℕ) → Lx ≤ filled → Lx - Ly + (filled - Lx - (Ly - Lx)) ≡ max filled Ly - Ly
+zeros-behind Lx Ly filled low =
+    elim (decLe Ly Lx) [
+      | yes d ↦ (let none : Ly - Lx ≡ 0 = omega arith in rw none (omega arith))
+      | no d ↦ (let none : Lx - Ly ≡ 0 = omega arith in rw none (omega arith))
+    ]
 
 -- after `filled` bytes were in use, a file of Ly bytes takes the place of a file f of Lx bytes
-module _ (f b₀ : List ℕ) (Lx Ly filled : ℕ) (e : length f ≡ Lx) (low : Lx ≤ filled) where
-  past-file : (d : ℕ) → drop (Lx + d) (f ++ (zeros (filled - Lx) ++ drop filled b₀)) ≡ drop d (zeros (filled - Lx) ++ drop filled b₀)
-  past-file d = sym (drop-drop d Lx _) ∙ ap (drop d) (drop-at f (zeros (filled - Lx) ++ drop filled b₀) Lx e)
-
-  shorter : Ly ≤ Lx → zeros (Lx - Ly) ++ drop (max Lx Ly) (f ++ (zeros (filled - Lx) ++ drop filled b₀)) ≡ zeros (max filled Ly - Ly) ++ drop (max filled Ly) b₀
-  unfolding zeros
-  shorter d =
-      let m : max Lx Ly ≡ Lx = omega arith in
-      let m' : max filled Ly ≡ filled = omega arith in
-      let r : (Lx - Ly) + (filled - Lx) ≡ filled - Ly = omega arith in
-      rw (m, m', drop-at f (zeros (filled - Lx) ++ drop filled b₀) Lx e)
-      (sym (append-assoc (zeros (Lx - Ly)) (zeros (filled - Lx)) (drop filled b₀))
-      ∙ ap (λ (l : List ℕ). l ++ drop filled b₀) (replicate-append-replicate (Lx - Ly) (filled - Lx) 0 ∙ ap zeros r))
-
-  longer : Lx < Ly → zeros (Lx - Ly) ++ drop (max Lx Ly) (f ++ (zeros (filled - Lx) ++ drop filled b₀)) ≡ zeros (max filled Ly - Ly) ++ drop (max filled Ly) b₀
-  unfolding zeros
-  longer d =
-      let m : max Lx Ly ≡ Lx + (Ly - Lx) = omega arith in
-      let o : Lx - Ly ≡ 0 = omega arith in
-      rw (o, m, past-file (Ly - Lx))
-      (elim (decLe Ly filled) [
-        | yes d' ↦ (
-            let m' : max filled Ly ≡ filled = omega arith in
-            let r : filled - Lx ≡ (Ly - Lx) + (filled - Ly) = omega arith in
-            rw (m', r, ← replicate-append-replicate {A = ℕ} (Ly - Lx) (filled - Ly) 0, append-assoc (zeros (Ly - Lx)) (zeros (filled - Ly)) (drop filled b₀))
-            (drop-at (zeros (Ly - Lx)) (zeros (filled - Ly) ++ drop filled b₀) (Ly - Lx) (length-replicate (Ly - Lx) 0)))
-        | no d' ↦ (
-            let m' : max filled Ly ≡ Ly = omega arith in
-            let r : Ly - Lx ≡ (filled - Lx) + (Ly - filled) = omega arith in
-            let t : filled + (Ly - filled) ≡ Ly = omega arith in
-            rw (m', r, sub-self)
-            (sym (drop-drop (Ly - filled) (filled - Lx) (zeros (filled - Lx) ++ drop filled b₀))
-            ∙ ap (drop (Ly - filled)) (drop-at (zeros (filled - Lx)) (drop filled b₀) (filled - Lx) (length-replicate (filled - Lx) 0))
-            ∙ drop-drop (Ly - filled) filled b₀
-            ∙ ap (λ (q : ℕ). drop q b₀) t))
-      ])
-
-  behind : zeros (Lx - Ly) ++ drop (max Lx Ly) (f ++ (zeros (filled - Lx) ++ drop filled b₀)) ≡ zeros (max filled Ly - Ly) ++ drop (max filled Ly) b₀
-  behind = elim (decLe Ly Lx) [ yes d ↦ shorter d | no d ↦ longer (omega arith) ]
+behind : (f b₀ : List ℕ) (Lx Ly filled : ℕ) → length f ≡ Lx → Lx ≤ filled
+    → replicate (Lx - Ly) 0 ++ drop (max Lx Ly) (f ++ (replicate (filled - Lx) 0 ++ drop filled b₀))
+    ≡ replicate (max filled Ly - Ly) 0 ++ drop (max filled Ly) b₀
+behind f b₀ Lx Ly filled long low =
+    let c : ℕ = Ly - Lx in
+    let R : List ℕ = replicate (filled - Lx) 0 ++ drop filled b₀ in
+    let split : max Lx Ly ≡ Lx + c = omega arith in
+    let zeros : ℕ = filled - Lx - c in
+    let from : ℕ = filled + (c - (filled - Lx)) in
+    let past : drop (max Lx Ly) (f ++ R) ≡ replicate zeros 0 ++ drop from b₀ =
+    ap (λ (m : ℕ). drop m (f ++ R)) split
+    ∙ sym (drop-drop c Lx (f ++ R))
+    ∙ ap (drop c) (drop-at f R Lx long)
+    ∙ drop-zeros c (filled - Lx) filled b₀ in
+    let place : from ≡ max filled Ly = omega arith in
+    rw (past, zeros-append (Lx - Ly) zeros (drop from b₀), zeros-behind Lx Ly filled low, place)
 
 -- ---- one edit
 
@@ -76,6 +91,10 @@ pub record Reached (b₀ : List ℕ) (z : State) : Type 0 where
   pub limits : Limits (z .list)
   pub low : length (fileOf (z .list)) ≤ z .filled
   pub high : z .filled ≤ length b₀
+
+-- the state after an accepted edit
+abbrev after : State → Edit → State
+after z e = record { list = edited (z .list) e; filled = max (z .filled) (length (fileOf (edited (z .list) e))) }
 
 module _ (b₀ : List ℕ) (z : State) (at : Reached b₀ z) where
   list-there : listOf (editedFile (bufferOf z b₀)) ≡ z .list
@@ -93,7 +112,7 @@ module _ (b₀ : List ℕ) (z : State) (at : Reached b₀ z) where
 
   replaced-is : (y : List ℕ) → replaced (bufferOf z b₀) (z .list) y
       ≡ bufferOf (record { list = y; filled = max (z .filled) (length (fileOf y)) }) b₀
-  unfolding replaced bufferOf zeros
+  unfolding replaced bufferOf
   replaced-is y =
       ap (λ (l : List ℕ). fileOf y ++ l)
       (behind (fileOf (z .list)) b₀ (length (fileOf (z .list))) (length (fileOf y)) (z .filled) refl (at .low))
@@ -103,43 +122,29 @@ module _ (b₀ : List ℕ) (z : State) (at : Reached b₀ z) where
   unfolding editBuffer plainStep
   edit-buffer e = rw (edit-answer e, list-there) (go (plainOutcome (z .list) (length b₀) e))
     where
-      go : (o : Outcome Summary) → ifAccepted o (replaced (bufferOf z b₀) (z .list) (edited (z .list) e)) (bufferOf z b₀)
-          ≡ bufferOf (ifAccepted o (record { list = edited (z .list) e; filled = max (z .filled) (length (fileOf (edited (z .list) e))) }) z) b₀
+      go : (o : Outcome Summary)
+          → ifAccepted o (replaced (bufferOf z b₀) (z .list) (edited (z .list) e)) (bufferOf z b₀)
+          ≡ bufferOf (ifAccepted o (after z e) z) b₀
       go (done s) = replaced-is (edited (z .list) e)
       go (refused r) = refl
 
-  edited-limits : (e : Edit) → e .distance ≤ maxDistance → Limits (edited (z .list) e)
-  edited-limits e small =
-      record {
-        count = simp length-set (at .limits .count);
-        each = λ i h. (let h' : i < length (z .list) = (rw length-set at h) in each i h');
-      }
-    where
-      other : (i : ℕ) → i < length (z .list) → (i ≡ e .slot → ⊥) → getD (edited (z .list) e) i 0 ≤ maxDistance
-      other i h ne = rw (getD-set-other (z .list) (e .slot) i (e .distance) 0 ne) (at .limits .each i h)
-
-      each : (i : ℕ) → i < length (z .list) → getD (edited (z .list) e) i 0 ≤ maxDistance
-      each i h =
-          elim (decLe i (e .slot)) [
-            | yes d ↦
-                elim (decLe (e .slot) i) [
-                  | yes d' ↦ (let q : i ≡ e .slot = omega arith in rw (q, getD-set-same (z .list) (e .slot) (e .distance) 0 (omega arith)) small)
-                  | no d' ↦ other i h (λ q. omega arith)
-                ]
-            | no d ↦ other i h (λ q. omega arith)
-          ]
-
   pub next-reached : (e : Edit) → e .distance ≤ maxDistance → Reached b₀ (plainStep (length b₀) z e)
   unfolding plainStep plainOutcome
-  next-reached e small = go (leb (length (z .list)) (e .slot)) (ltb (length b₀) (length (fileOf (edited (z .list) e)))) refl
+  next-reached e small =
+      go (leb (length (z .list)) (e .slot)) (ltb (length b₀) (length (fileOf (edited (z .list) e)))) refl
     where
       go : (p q : Bool) → ltb (length b₀) (length (fileOf (edited (z .list) e))) ≡ q
-          → Reached b₀ (ifAccepted (refuseIf p (refuse 9 0 0) (refuseIf q (refuse 12 0 0) (done (summaryOf (edited (z .list) e))))) (record { list = edited (z .list) e; filled = max (z .filled) (length (fileOf (edited (z .list) e))) }) z)
+          → (let o = refuseIf p (refuse 9 0 0) (refuseIf q (refuse 12 0 0) (done (summaryOf (edited (z .list) e)))) in
+          Reached b₀ (ifAccepted o (after z e) z))
       go true q h = at
       go false true h = at
       go false false h =
           let g : length (fileOf (edited (z .list) e)) ≤ length b₀ = ltb-false _ _ h in
-          record { limits = edited-limits e small; low = omega arith; high = omega (arith, at .high) }
+          record {
+            limits = edited-limits (z .list) e (at .limits) small;
+            low = omega arith;
+            high = omega (arith, at .high);
+          }
 
 -- ---- its limits
 
@@ -183,7 +188,8 @@ unfolding bufferOf plainStart
 edit-run x t es l small =
     let b : List ℕ = fileOf x ++ t in
     let start : bufferOf (plainStart x) b ≡ b = rw (sub-self, drop-at (fileOf x) t (length (fileOf x)) refl) in
-    let reached : Reached b (plainStart x) = record { limits = l; low = le-refl _; high = simp length-append (omega arith) } in
+    let reached : Reached b (plainStart x) =
+    record { limits = l; low = le-refl _; high = simp length-append (omega arith) } in
     let r = run-from b es (plainStart x) reached small in (
       ap (λ (c : List ℕ). editOutcomes c es) (sym start) ∙ r .0,
       ap (λ (c : List ℕ). editRun c es) (sym start) ∙ r .1,

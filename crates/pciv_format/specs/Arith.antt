@@ -1,10 +1,12 @@
 -- Arithmetic on maps (docs/FORMAT.md, "Arithmetic").
 --   slotOp o x y                  minimum, maximum, sum or difference of two distances
 --   pairOutcome                   both checks, then refusal 10, then what follows for n slots
---   combineMapsOutcome, -Buffer   the slot operation on two maps, written as a file
---   shiftedBy d x                 a distance shifted by d centimetres, at least 0
+--   combinedAt o xs ys i          the slot operation at slot i of two lists
+--   combineMapsOutcome, combineMapsBuffer    on two maps, written as a file
+--   shiftedBy d x                 a distance shifted by d centimetres, and atLeastZero
 --   shiftOutcome, shiftBuffer     a map shifted, written as a file
---   signedDifferenceOutcome, -List   the exact b - a of each slot ("change"), into a list
+--   signedDifferences xs ys       the exact y - x of each slot ("change")
+--   signedDifferenceOutcome, signedDifferenceList    these of two maps, into a list
 -- Axioms: none.
 use Prim.Native.Nat.{ℕ, _+_, _-_, min, max}
 use mathlib.Core.Bool.{not}

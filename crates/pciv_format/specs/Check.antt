@@ -3,9 +3,12 @@
 --   fileParts b n k           the primary array and overflow entries of a file with n slots and k entries
 --   badIndexEntry b n k i     index entry i is wrong (refusal 8)
 --   checkHeader, checkParts   refusals 1 to 4, and 6 to 8
+--   badCounts n k m step      the counts of a header are wrong (refusal 4)
+--   checkWith wrong mp b      the check, by what a wrong length is; otherLength, that of a whole file
 --   checkFile mp b            the check of a whole file, as map mp
 --   checkBuffer mp b          the check of a buffer to be edited, which may be longer than the file at its front
---   CheckedMap b n k          what inner routines know of b: a file of n slots and k overflow entries stands at its front
+--   CheckedHeader, CheckedMap b n k    what inner routines know of b: a file of n slots and k overflow entries stands
+--                             at its front
 -- Laws are in proofs/CheckLaws.antt. Axioms: none.
 use mathlib.Core.Path.{_≡_}
 use Prim.Native.Nat.{ℕ, _+_, _*_, _≤_, _<_}

@@ -1,15 +1,21 @@
 -- The editor, and a run of edits (docs/FORMAT.md, "The editor" and "A run of edits").
+--   Edit, edited x e          a slot and the distance that it gets; the list x afterwards
 --   editedFile b              the file at the front of a buffer b, by the counts in its header
 --   plainOutcome x R e        the plain editor's answer to edit e, from the list x and a buffer of R bytes
---   editOutcome, editBuffer   the editor's answer, and the buffer afterwards
+--   editOutcome, editBuffer   the editor's answer, and the buffer afterwards; editAnswer, the answer as its type
+--   replaced b x y            the file of y in the place of the file of x, at the front of b
+--   ifAccepted o new old      the new state where o is done, the old one where it refuses
+--   entryPlace x s, limitsBy    where the entry of slot s stands, or would; the bytes that may change, case by case
 --   MayChange x e i           byte i of the buffer may change when x is edited by e, which is accepted
+--   State, plainStart, plainStep    the plain editor's list and the longest file so far, its start, and an edit
 --   plainRun, plainOutcomes   the plain editor's state after a list of edits, and its answers in order
 --   bufferOf z b₀             what the buffer holds in state z, where it was b₀ at the start
 --   editRun, editOutcomes     the editor's buffer after a list of edits, and its answers in order
 --   StepLimits R x b e        what an edit of a buffer b of R bytes does to its bytes, x being the plain editor's list
 --   RunLimits R z b es        the same of every edit of a run, from the plain editor's state z
---   answerCells o             one answer of a run as answerLen numbers
+--   answerCells o, allCells   an answer of a run as answerLen numbers, and all of them; cellsOf, noRefusal, noSummary
 --   editsOf                   the edits of a list of slots and a list of distances
+--   startOf b                 the plain editor's start on a buffer
 --   editListOutcome, editListBuffer, editListAnswers
 --                             the answer of a run of edits in one call, the buffer and the list of answers afterwards
 -- The plain editor is given the starting list, R and the edits, and nothing else. Axioms: none.

@@ -1,8 +1,10 @@
 -- Comparison figures of two maps (docs/FORMAT.md, "Comparison figures").
 --   quotient p q           p / q as an f64: both made floats, then divided once; 0.0 where q is 0
---   brayCurtisOutcome      the sum of |a - b| over the sum of a + b
+--   distanceBetween xs ys  the sum of all |x - y|
+--   brayCurtisOutcome      that, over the sum of all distances of both maps
+--   countAt f t xs ys      how many slots have f of the two tests "at t or above"
 --   jaccardOutcome t       slots at t or above in exactly one map, over those in either
--- Axioms: none.
+-- Laws of the quotient are in proofs/QuotientLaws.antt. Axioms: none.
 use Prim.Native.Nat.{ℕ, _+_, _-_}
 use mathlib.Core.Bool.{Bool, cond, _||_, xor}
 use mathlib.Core.List.{List}

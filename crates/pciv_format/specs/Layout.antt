@@ -1,12 +1,16 @@
 -- The file of a map (docs/FORMAT.md, "Layout" and "Derived counts").
 -- A map is given as n, its number of slots, and v, the distance of each slot; `at xs` is the v of a list xs.
+--   maxSlots, maxDistance    the most slots, and the largest distance
 --   indexStep k          the step of the sparse index of a file with k overflow entries; 0 for no index
 --   indexLen k           how many entries that index has
 --   fileLen n k          the length in bytes of a file with n slots and k overflow entries
+--   inOverflow x, primaryByte x    a distance is in overflow; its primary byte
 --   primary n v          the primary array
 --   overflowSlots n v    the slots in overflow, rising; overflowCount n v counts them
---   overflowPart n v     their entries; indexPart ss the sparse index of overflow slots ss
---   file n v, fileOf xs  the whole file;  summary n v, summaryOf xs  its counts
+--   overflowPart n v     their entries, each an overflowEntry v s
+--   indexPart ss         the sparse index of overflow slots ss, each an indexEntry ss step i
+--   magic, header n k    the first eight bytes as a number; the header
+--   file n v, fileOf xs  the whole file;  summary n v, summaryOf xs  its counts;  countsOf n k  those of n and k
 --   Limits xs            a list that a file can hold
 -- Laws are in proofs/LayoutLaws.antt. Axioms: none.
 use Prim.Native.Nat.{ℕ, _+_, _*_, _≤_, _<_}

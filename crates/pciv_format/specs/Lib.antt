@@ -9,3 +9,4 @@ pub mod Arith
 pub mod Figures
 pub mod Edit
 pub mod Report
+pub mod Words

@@ -1,15 +1,18 @@
 -- Masks (docs/FORMAT.md, "Masks"): words of 64 bits, slot i at bit i mod 64 of word i div 64, the lowest bit first.
 --   maskLen n           how many words a mask of n slots has
---   maskHas ws i        slot i is set in the words ws
+--   bitAt x j           bit j of a word;  word p i c  the word of c bits, set where p holds of i, i + 1, ..
+--   maskHas ws i        slot i is set in the words ws;  maskValue ws i  the same as 0 or 1
 --   maskOf n p          the mask of the slots below n with p
 --   badMask n ws        ws is no mask of n slots (refusal 13)
 --   holds c x t         distance x compares with t as c says
 --   thresholdOutcome c, nearMaskOutcome     masks of a map
 --   combineOutcome op, complementOutcome    masks of masks;  setBitsOutcome  the number of set bits
+--   keptIf, plusIf      a distance kept, or one more, where a slot is set;  isNear x t  the near mask's test
 --   bitsRow b           the eight bytes of the eight bits of b
+--   maskedOutcome       a map to which a mask is applied
 --   mapOfMaskOutcome, keepMaskedOutcome ("cut"), incrementMaskedOutcome ("tally")   files from masks
 -- Those that write have a -Words or -Buffer beside them: what the caller's list or buffer holds afterwards.
--- Axioms: none.
+-- Laws are in proofs/BitLaws.antt and MaskLaws.antt. Axioms: none.
 use Prim.Native.Nat.{ℕ, zero, suc, _+_, _-_, _*_, _/_, _%_, _^_, min}
 use mathlib.Core.Bool.{Bool, not, cond, _&&_, _||_, xor}
 use mathlib.Core.List.{List}

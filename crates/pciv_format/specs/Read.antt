@@ -1,11 +1,16 @@
 -- What the reading routines answer (docs/FORMAT.md, "Reading").
+--   valueAt b i      the distance that a file b has at slot i
 --   listOf b         the list that a file b is read as
 --   primaryPart b    the primary bytes of b, a part of b; empty where b is refused
+--   onlyDone o l, bytesBefore o    l, or nothing where o is a refusal; the bytes before the primary part
 --   behind i p       the place i bytes behind the place p
 --   primaryPlace b p    where the primary part of b starts, if b starts at p
---   lookupOutcome, lookupListOutcome and -Buffer, scanOutcome and -Buffer
+--   itemsInto c capacity     c items into a list that holds `capacity` of them: how many, or refusal 12
+--   lookupOutcome            one slot
+--   lookupListOutcome, lookupListBuffer, scanOutcome, scanBuffer    a list of slots, and all of them, into a list
 --   total xs, readings xs    the sum of all distances, and how many are not 0
--- Laws are in proofs/ReadLaws.antt. Axioms: none.
+--   sumOutcome, readingsOutcome    these of a file
+-- Laws are in proofs/ReadLaws.antt, and the outcomes case by case in proofs/ReadCaseLaws.antt. Axioms: none.
 use Prim.Native.Nat.{ℕ, _+_}
 use mathlib.Core.Bool.{not}
 use mathlib.Core.List.{List, [], map}

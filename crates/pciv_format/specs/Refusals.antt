@@ -41,7 +41,8 @@ module _ {A : Type 0} where
   refuseIf false refusal o = o
 
   abbrev pub refuseFirst : ℕ → ℕ → (ℕ → Bool) → ℕ → Outcome A → Outcome A
-  refuseFirst number mp bad count o = refuseIf (ltb (firstBelow bad count) count) (refuse number mp (firstBelow bad count)) o
+  refuseFirst number mp bad count o =
+      refuseIf (ltb (firstBelow bad count) count) (refuse number mp (firstBelow bad count)) o
 
 module _ {A B : Type 0} where
   abbrev pub andThen : Outcome A → (A → Outcome B) → Outcome B

@@ -1,8 +1,13 @@
 -- The report program's text (docs/FORMAT.md, "The report program").
---   decimal x       the digits of x
+--   decimal x       the digits of x; digits f x, at most f of them
+--   field word x, line text    a word, a space and a number; a text and its line end
+--   slotsWord, farWord, stepWord, indexWord, sumWord, readingsWord, refusedWord, mapWord, placeWord
+--                   the words
+--   mapLines s total count, refusedLine r    the lines of a map, and the line of a refusal
+--   textOf o xs     the text of an outcome o for the list xs
 --   reportText b    what is printed for the input b
 --   reportOutcome, reportBuffer    that text into a caller's buffer
--- Laws are in the proofs/ReportLaws.antt of pciv_report. Axioms: none.
+-- Laws are in proofs/ReportLaws.antt. Axioms: none.
 use Prim.Native.Nat.{ℕ, zero, suc, _+_, _/_, _%_}
 use mathlib.Core.Bool.{cond}
 use mathlib.Core.List.{List, [], _∷_, _++_}

@@ -1,8 +1,9 @@
--- What the routines that write a file answer, and what the caller's buffer holds afterwards (docs/FORMAT.md, "Writing").
+-- What the routines that write a file answer, and what the caller's buffer holds then (docs/FORMAT.md, "Writing").
 --   fileInto n v capacity   the file of (n, v) into a buffer of `capacity` bytes: its summary, or refusal 12
 --   mapInto n v capacity    the same for a computed v, refused with 11 where a distance is too large
 --   fileBuffer o n v out    the buffer after the outcome o of writing that file
 --   writeOutcome, writeBuffer    the file of a list
+--   closeParts              a primary array and lists of slots and distances, as parts
 --   closeOutcome, closeBuffer    the file of a primary array and a list of overflow entries
 -- Axioms: none.
 use Prim.Native.Nat.{ℕ, max}
@@ -50,4 +51,5 @@ closeOutcome bytes slots distances capacity =
 
 unfoldable pub closeBuffer : List ℕ → List ℕ → List ℕ → List ℕ → List ℕ
 closeBuffer bytes slots distances out =
-    fileBuffer (closeOutcome bytes slots distances (length out)) (length bytes) (valueOf (closeParts bytes slots distances)) out
+    fileBuffer (closeOutcome bytes slots distances (length out)) (length bytes)
+    (valueOf (closeParts bytes slots distances)) out

@@ -9,6 +9,10 @@ pub const HEADER_LEN: usize = 40;
 pub const MAGIC: usize = 0x56494350;
 // The primary byte of a distance that is in overflow.
 pub const SENTINEL: u8 = 255;
+// The largest distance that is stored inline.
+pub const INLINE_MAX: u8 = 254;
+// The largest distance.
+pub const MAX_DISTANCE: u32 = 4294967295;
 // Up to this many overflow entries a file has no sparse index.
 pub const UNINDEXED_MAX: usize = 2048;
 // How many numbers an answer of a run of edits is.

@@ -1,21 +1,22 @@
 -- Laws of a cursor in the overflow entries of sound parts.
---   cursor-start     before the first entry
---   cursor-at        at a slot in overflow the cursor is at its entry
+--   cursor-start                  before the first entry
+--   nextSlot-entry, nextSlot-none    the next slot in overflow, or n
+--   nextSlot-le, nextSlot-low     it is at most n, and not below where the cursor is
+--   cursor-at, value-at           at a slot in overflow the cursor is at its entry, which has its distance
 --   cursor-more, cursor-inline    past a slot in overflow, past one that is not
---   cursor-to        up to the next slot in overflow;  gap-small  slots before it are inline
---   cursor-gap       up to any slot, where no slot before it is in overflow
+--   cursor-to, gap-small          up to the next slot in overflow; slots before it are inline
+--   cursor-gap                    up to any slot, where no slot before it is in overflow
 -- Axioms: none.
 use mathlib.Core.Path.{_≡_, ap, _∙_, sym}
 use Prim.Native.Nat.{ℕ, suc, _+_, _≤_, _<_}
 use native.Mathlib.Numerals.{add-one}
 use native.Mathlib.Omega.{arith}
 use native.Mathlib.Decide.{decLe}
-use lib.Dec.{ltb}
 use borrow.Author.Tests.{lt-ltb, le-ltb}
-use Rattle.pciv_format.specs.Parts.{Parts, lowestSlot, valueOf, SoundParts}
+use Rattle.pciv_format.specs.Parts.{Parts, valueOf, SoundParts}
 use Rattle.pciv_format.proofs.PartsLaws.{entry-good, valueOf-slot, valueOf-inline}
-use Rattle.pciv_map.specs.Cursor.{Cursor, TakenAt, nextSlot}
-use Rattle.pciv_map.proofs.EntryLaws.{gap-inline}
+use Rattle.pciv_map.specs.Cursor.{Cursor, nextSlot}
+use Rattle.pciv_format.proofs.EntryLaws.{gap-inline}
 
 pub cursor-start : (P : Parts) → Cursor P 0 0
 cursor-start P = record { few = omega arith; low = omega arith; high = λ more. omega arith }
@@ -55,11 +56,13 @@ module _ (P : Parts) (sound : SoundParts P) (bytes : (i : ℕ) → P .byte i < 2
   module _ (j s : ℕ) (c : Cursor P j s) (inside : s < P .n) where
     pub cursor-at : 255 ≤ P .byte s → (j < P .k) × (P .slot j ≡ s)
     cursor-at overflows =
+        let small : (j < P .k → s < P .slot j) → P .byte s < 255 =
+        λ before. gap-inline P sound bytes j s (c .few) (c .low) before inside in
         elim (decLe (P .k) j) [
-          | yes d ↦ absurd (omega (arith, gap-inline P sound bytes j s (c .few) (c .low) (λ more. absurd (omega arith)) inside))
+          | yes d ↦ absurd (omega (arith, small (λ more. absurd (omega arith))))
           | no d ↦ elim (decLe (P .slot j) s) [
             | yes e ↦ (omega arith, omega (arith, c .high (omega arith)))
-            | no e ↦ absurd (omega (arith, gap-inline P sound bytes j s (c .few) (c .low) (λ more. omega arith) inside))
+            | no e ↦ absurd (omega (arith, small (λ more. omega arith)))
           ]
         ]
 

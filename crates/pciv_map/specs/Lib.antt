@@ -1,3 +1,1 @@
-pub mod Lookup
 pub mod Cursor
-pub mod Eight

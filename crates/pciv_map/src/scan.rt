@@ -15,7 +15,8 @@ use pciv_format::HEADER_LEN;
 pub fn scan_into(file: &[u8], n: usize, k: usize, out: &mut [u32])
     requires { ⌜ CheckedMap (now file) n k ⌝ }
     requires { ⌜ n ≤ length (now out) ⌝ }
-    ensures { λ _. ⌜ now (out .exit) ≡ sets (now (out .entry)) 0 (table (valueOf (fileParts (now (file .entry)) n k)) 0 n) ⌝ }
+    ensures { λ _. ⌜ now (out .exit)
+        ≡ sets (now (out .entry)) 0 (table (valueOf (fileParts (now (file .entry)) n k)) 0 n) ⌝ }
 {
     let end = HEADER_LEN + n;
     widen(&file[HEADER_LEN..end], out);

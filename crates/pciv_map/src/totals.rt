@@ -10,10 +10,10 @@ ghost use Rattle.pciv_bytes.specs.Ranges.{flag, sumFrom};
 ghost use Rattle.pciv_format.specs.Parts.{valueOf};
 ghost use Rattle.pciv_format.specs.Check.{fileParts, CheckedMap};
 use crate::entries::entry_distance;
-use pciv_bytes::counts::count_byte;
-use pciv_bytes::counts::sum_bytes;
 use pciv_format::HEADER_LEN;
 use pciv_format::SENTINEL;
+use pciv_passes::counts::count_byte;
+use pciv_passes::counts::sum_bytes;
 
 // What the distances in overflow have above the byte 255, all together.
 fn excess_of(file: &[u8], n: usize, k: usize) -> usize
@@ -40,7 +40,8 @@ pub fn sum_of(file: &[u8], n: usize, k: usize) -> usize
 
 // How many of a map's primary bytes are not 0, which is how many of its distances are.
 pub fn readings_of(bytes: &[u8]) -> usize
-    ensures { λ r. ⌜ r ≡ sumFrom (λ (i : ℕ). flag (not (eqb (getD (now (bytes .entry)) i 0) 0))) 0 (length (now (bytes .entry))) ⌝ }
+    ensures { λ r. ⌜ r
+        ≡ sumFrom (λ (i : ℕ). flag (not (eqb (getD (now (bytes .entry)) i 0) 0))) 0 (length (now (bytes .entry))) ⌝ }
 {
     bytes.len() - count_byte(bytes, 0)
 }

@@ -2,18 +2,15 @@
 // Every routine checks the file first and refuses as the check does, with map 1; then come 9 and 12.
 // A refused call changes no byte, and what follows a result in the caller's list stays as it was.
 ghost use mathlib.Core.Path.{_≡_};
-ghost use mathlib.Core.List.{map};
 ghost use Prim.Native.Nat.{ℕ, _+_, _≤_, _<_};
 ghost use lib.ListN.{length, getD, take, drop};
-ghost use lib.Seq.{sets};
 ghost use lib.Dec.{leb};
 ghost use denote.Ref.{ptr};
 ghost use Rattle.pciv_bytes.specs.Ranges.{firstBelow};
-ghost use Rattle.pciv_format.specs.Layout.{at};
-ghost use Rattle.pciv_format.specs.Refusals.{refuse, numberAnswer, distanceAnswer};
-ghost use Rattle.pciv_format.specs.Parts.{valueOf};
-ghost use Rattle.pciv_format.specs.Check.{fileParts, CheckedMap};
-ghost use Rattle.pciv_format.specs.Read.{primaryPart, behind, primaryPlace, lookupOutcome, lookupListOutcome, lookupListBuffer, scanOutcome, scanBuffer, sumOutcome, readingsOutcome};
+ghost use Rattle.pciv_format.specs.Refusals.{numberAnswer, distanceAnswer};
+ghost use Rattle.pciv_format.specs.Read.{primaryPart, behind, primaryPlace, lookupOutcome};
+ghost use Rattle.pciv_format.specs.Read.{lookupListOutcome, lookupListBuffer, scanOutcome, scanBuffer};
+ghost use Rattle.pciv_format.specs.Read.{sumOutcome, readingsOutcome};
 use pciv_check::check;
 use pciv_format::BUFFER_TOO_SMALL;
 use pciv_format::DistanceAnswer;
@@ -21,25 +18,13 @@ use pciv_format::FileAnswer;
 use pciv_format::HEADER_LEN;
 use pciv_format::NumberAnswer;
 use pciv_format::Refusal;
-use pciv_format::SENTINEL;
 use pciv_format::SLOT_OUT_OF_RANGE;
-use pciv_map::eight::distances_few;
-use pciv_map::eight::distances8;
-use pciv_map::lookup::distance_at;
+use pciv_layout::refusals::refuse_number;
 use pciv_map::scan::scan_into;
 use pciv_map::totals::readings_of;
 use pciv_map::totals::sum_of;
-
-// A refusal that concerns no map, as an answer.
-fn refused(number: usize, place: usize) -> NumberAnswer
-    ensures { λ r. ⌜ r ≡ numberAnswer (refuse number 0 place) ⌝ }
-{
-    NumberAnswer::Refused(Refusal {
-        number,
-        map: 0,
-        place,
-    })
-}
+use pciv_map_lookup::distance_at;
+use pciv_map_lookup::list::distances_into;
 
 // The `len` bytes from `start` on, as a part of the file.
 fn part(file: &[u8], start: usize, len: usize) -> &[u8]
@@ -91,7 +76,8 @@ pub fn lookup(file: &[u8], slot: usize) -> DistanceAnswer
 
 // The least position in the list of a slot that is n or more, or the list's length.
 fn first_outside(slots: &[usize], n: usize) -> usize
-    ensures { λ r. ⌜ r ≡ firstBelow (λ (i : ℕ). leb n (getD (now (slots .entry)) i 0)) (length (now (slots .entry))) ⌝ }
+    ensures { λ r. ⌜ r
+        ≡ firstBelow (λ (i : ℕ). leb n (getD (now (slots .entry)) i 0)) (length (now (slots .entry))) ⌝ }
 {
     let mut i = 0;
     while i < slots.len() {
@@ -103,36 +89,13 @@ fn first_outside(slots: &[usize], n: usize) -> usize
     i
 }
 
-// The distances at the slots of a list, which are all below n. The primary bytes are written first; the places of
-// those that are in overflow wait until there are eight.
-fn distances_into(file: &[u8], n: usize, k: usize, slots: &[usize], out: &mut [u32])
-    requires { ⌜ CheckedMap (now file) n k ⌝ }
-    requires { ⌜ ((i : ℕ) → i < length (now slots) → getD (now slots) i 0 < n) ⌝ }
-    requires { ⌜ length (now slots) ≤ length (now out) ⌝ }
-    ensures { λ _. ⌜ now (out .exit) ≡ sets (now (out .entry)) 0 (map (valueOf (fileParts (now (file .entry)) n k)) (now (slots .entry))) ⌝ }
-{
-    let mut places = [0usize; 8];
-    let mut waiting = 0;
-    let mut i = 0;
-    while i < slots.len() {
-        let byte = file[HEADER_LEN + slots[i]];
-        out[i] = byte as u32;
-        places[waiting] = i;
-        waiting += (byte == SENTINEL) as usize;
-        i += 1;
-        if waiting == 8 {
-            distances8(out, file, n, k, slots, &places);
-            waiting = 0;
-        }
-    }
-    distances_few(out, file, n, k, slots, &places, waiting);
-}
-
 // The distances at a list of slots, to the front of the caller's list; answers how many.
 // Refusals: 1 to 8, then 9 with the least position in the list, then 12.
 pub fn lookup_list(file: &[u8], slots: &[usize], out: &mut [u32]) -> NumberAnswer
-    ensures answer { λ r. ⌜ r ≡ numberAnswer (lookupListOutcome (now (file .entry)) (now (slots .entry)) (length (now (out .entry)))) ⌝ }
-    ensures buffer { λ _. ⌜ now (out .exit) ≡ lookupListBuffer (now (file .entry)) (now (slots .entry)) (now (out .entry)) ⌝ }
+    ensures answer { λ r. ⌜ r
+        ≡ numberAnswer (lookupListOutcome (now (file .entry)) (now (slots .entry)) (length (now (out .entry)))) ⌝ }
+    ensures buffer { λ _. ⌜ now (out .exit)
+        ≡ lookupListBuffer (now (file .entry)) (now (slots .entry)) (now (out .entry)) ⌝ }
 {
     let checked = check(file);
     match checked {
@@ -142,10 +105,10 @@ pub fn lookup_list(file: &[u8], slots: &[usize], out: &mut [u32]) -> NumberAnswe
             let k = s.k;
             let outside = first_outside(slots, n);
             if outside < slots.len() {
-                return refused(SLOT_OUT_OF_RANGE, outside);
+                return refuse_number(SLOT_OUT_OF_RANGE, 0, outside);
             }
             if out.len() < slots.len() {
-                return refused(BUFFER_TOO_SMALL, 0);
+                return refuse_number(BUFFER_TOO_SMALL, 0, 0);
             }
             distances_into(file, n, k, slots, out);
             NumberAnswer::Number(slots.len())
@@ -165,7 +128,7 @@ pub fn scan(file: &[u8], out: &mut [u32]) -> NumberAnswer
             let n = s.n;
             let k = s.k;
             if out.len() < n {
-                return refused(BUFFER_TOO_SMALL, 0);
+                return refuse_number(BUFFER_TOO_SMALL, 0, 0);
             }
             scan_into(file, n, k, out);
             NumberAnswer::Number(n)

@@ -1,15 +1,23 @@
--- Laws of text written a piece at a time.
---   put-then         a piece written after another
---   put-length       writing keeps the length
---   put-front        what stands at the front of a list after a text was written there
+-- Laws of text written a piece at a time, and of the text of an accepted file.
+--   put-then           a piece written after another
+--   put-length         writing keeps the length
+--   put-front          what stands at the front of a list after a text was written there
+--   reportText-done    an accepted file's text, by the answers of the totals
+-- Axioms: none.
 use mathlib.Core.Path.{_≡_, sym, ap, ap₂, _∙_}
 use Prim.Native.Nat.{ℕ, _≤_}
 use native.Mathlib.Omega.{arith}
 use mathlib.Core.List.{List, _++_}
 use lib.ListN.{length, take, drop, length-append}
 use lib.Seq.{sets, length-sets, take-append-seam}
+use borrow.Author.Tests.{le-ltb}
 use Rattle.pciv_bytes.proofs.WriteLaws.{sets-append, sets-front}
-use Rattle.pciv_report.specs.Text.{Put}
+use Rattle.pciv_format.specs.Refusals.{done, numberAnswer}
+use Rattle.pciv_format.specs.Check.{checkFile}
+use Rattle.pciv_format.specs.Read.{sumOutcome, readingsOutcome}
+use Rattle.pciv_format.specs.Report.{mapLines, reportText}
+use Rattle.pciv_format.specs.declared.Summary.{Summary}
+use Rattle.pciv_report.specs.Text.{Put, numberOf}
 
 module _ {d e : List ℕ} {p q : ℕ} {a : List ℕ} where
   pub put-then : {f b : List ℕ} {r : ℕ} → Put d p a e q → Put e q b f r → Put d p (a ++ b) f r
@@ -30,3 +38,11 @@ module _ {d e : List ℕ} {q : ℕ} {a : List ℕ} where
   put-front x fits =
       let n : q ≡ length a = omega (arith, x .next) in
       ap₂ take n (x .bytes ∙ sets-front a d fits) ∙ take-append-seam a (drop (length a) d)
+
+-- ---- the text of an accepted file
+
+-- it has the totals that the routines answer
+pub reportText-done : (b : List ℕ) (s : Summary) → length b ≤ 65536 → checkFile 1 b ≡ done s
+    → reportText b ≡ mapLines s (numberOf (numberAnswer (sumOutcome b))) (numberOf (numberAnswer (readingsOutcome b)))
+unfolding reportText sumOutcome readingsOutcome
+reportText-done b s short good = rw (le-ltb 65536 (length b) short, good)

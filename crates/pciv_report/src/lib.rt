@@ -8,6 +8,9 @@ ghost use lib.ListN.{length};
 ghost use Rattle.pciv_format.specs.Refusals.{numberAnswer};
 ghost use Rattle.pciv_format.specs.Report.{mapLines, refusedLine, reportText, reportOutcome, reportBuffer};
 ghost use Rattle.pciv_report.specs.Text.{Put, maxText, numberOf, deliverOutcome, deliverBuffer};
+use crate::text::put_field;
+use crate::text::put_line;
+use crate::text::put_word;
 use pciv_check::check;
 use pciv_format::BUFFER_TOO_SMALL;
 use pciv_format::FileAnswer;
@@ -16,12 +19,10 @@ use pciv_format::Refusal;
 use pciv_format::Summary;
 use pciv_read::readings;
 use pciv_read::sum;
-use text::put_field;
-use text::put_line;
-use text::put_word;
 
 // The longest input that is reported on.
 pub const MAX_INPUT: usize = 65536;
+
 // No report is longer.
 pub const MAX_TEXT: usize = 160;
 

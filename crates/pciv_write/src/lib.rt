@@ -12,16 +12,16 @@ ghost use Rattle.pciv_format.specs.Write.{writeOutcome, writeBuffer};
 ghost use Rattle.pciv_build.specs.Slots.{HoldsPrimary};
 use pciv_build::begin;
 use pciv_build::finish;
-use pciv_build::primary_byte;
 use pciv_build::put_entry;
 use pciv_build::slots::put_slots;
 use pciv_bytes::little_endian::get64;
 use pciv_format::FileAnswer;
 use pciv_format::HEADER_LEN;
 use pciv_format::MAX_SLOTS;
-use pciv_format::Refusal;
 use pciv_format::SENTINEL;
 use pciv_format::TOO_MANY_SLOTS;
+use pciv_layout::primary_byte;
+use pciv_layout::refusals::refuse_file;
 
 // The least distance that is in overflow.
 const OVERFLOW_MIN: u32 = SENTINEL as u32;
@@ -86,11 +86,7 @@ pub fn write(distances: &[u32], out: &mut [u8]) -> FileAnswer
 {
     let n = distances.len();
     if MAX_SLOTS < n {
-        return FileAnswer::Refused(Refusal {
-            number: TOO_MANY_SLOTS,
-            map: 1,
-            place: 0,
-        });
+        return refuse_file(TOO_MANY_SLOTS, 1, 0);
     }
     let k = count_overflow(distances);
     let begun = begin(out, n, k);

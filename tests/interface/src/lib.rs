@@ -28,8 +28,8 @@ use std::{fs, path::Path};
 
 /// The header.
 pub const HEADER: &str = "include/pciv.h";
-/// The Rattle source of the C interface.
-pub const RATTLE: &str = "crates/pciv_c/src/lib.rt";
+/// The folder of the C interface's Rattle source.
+pub const RATTLE: &str = "crates/pciv_c/src";
 /// The Rattle source of its structs and numbers.
 pub const RATTLE_FORMAT: &str = "crates/pciv_format/src/lib.rt";
 /// The folder of the Rust crate's source.
@@ -50,11 +50,11 @@ const STRUCTS: [(&str, &str, bool); 4] = [
 pub fn compare(root: &Path, libraries: &[String]) -> Result<usize, Vec<String>> {
     let failure = |error: String| vec![error];
     let format = read_file(root, RATTLE_FORMAT).map_err(failure)?;
-    let source = read_file(root, RATTLE).map_err(failure)?;
+    let source = read_folder(root, RATTLE, "rt").map_err(failure)?;
     let (rattle, rattle_structs) = read_rattle(&source, &format).map_err(failure)?;
     let text = read_file(root, HEADER).map_err(failure)?;
     let header = read_header(&text).map_err(failure)?;
-    let crate_text = read_folder(root, RUST).map_err(failure)?;
+    let crate_text = read_folder(root, RUST, "rs").map_err(failure)?;
     let (rust, rust_structs) = read_rust(&crate_text).map_err(failure)?;
 
     let declared = (HEADER, &header.functions);
@@ -96,13 +96,13 @@ fn read_file(root: &Path, path: &str) -> Result<String, String> {
     fs::read_to_string(root.join(path)).map_err(|error| format!("{path}: {error}"))
 }
 
-/// The Rust files of a folder, one after another.
-fn read_folder(root: &Path, path: &str) -> Result<String, String> {
+/// The files of a folder with an extension, one after another.
+fn read_folder(root: &Path, path: &str, extension: &str) -> Result<String, String> {
     let failure = |error| format!("{path}: {error}");
     let mut text = String::new();
     for entry in fs::read_dir(root.join(path)).map_err(failure)? {
         let file = entry.map_err(failure)?.path();
-        if file.extension().is_some_and(|extension| extension == "rs") {
+        if file.extension().is_some_and(|found| found == extension) {
             text += &fs::read_to_string(file).map_err(failure)?;
         }
     }

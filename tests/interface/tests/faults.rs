@@ -2,11 +2,11 @@
 //! compared with it; the other languages have a small interface each.
 
 use interface::{
-    compare_functions, compare_names, compare_structs, compare_texts, compare_version,
+    compare, compare_functions, compare_names, compare_structs, compare_texts, compare_version,
     read_c_texts, read_header, read_numbers, read_rattle, read_rust, read_rust_texts, read_symbols,
     read_version, read_versions, Functions, Header,
 };
-use std::ops::Range;
+use std::{ops::Range, path::Path};
 
 const HEADER: &str = include_str!("../../../include/pciv.h");
 
@@ -52,6 +52,13 @@ fn the_header_agrees_with_itself() {
     assert_eq!(faults_of(HEADER), [""; 0]);
     assert!(header(HEADER).functions.contains_key("pciv_check"));
     assert!(!header(HEADER).functions.contains_key("pciv_primary"));
+}
+
+/// The functions stand in several files of each language.
+#[test]
+fn the_sources_agree() {
+    let root = Path::new(env!("CARGO_MANIFEST_DIR")).join("../..");
+    assert_eq!(compare(&root, &[]), Ok(header(HEADER).functions.len()));
 }
 
 #[test]

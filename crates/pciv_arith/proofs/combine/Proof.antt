@@ -1,12 +1,11 @@
 -- Proves pciv_arith::combine: the check of both maps, then the file of the result.
-use mathlib.Core.Path.{_≡_, sym, ap, _∙_}
-use lib.ListN.{length}
+use mathlib.Core.Path.{_≡_, sym, _∙_}
 use borrow.Author.Needs.{needs}
-use Rattle.pciv_bytes.specs.LittleEndian.{Bytes}
-use Rattle.pciv_format.specs.Refusals.{done, fileAnswer}
+use Rattle.pciv_format.specs.Refusals.{done}
 use Rattle.pciv_check.specs.Pair.{pairCounts}
 use Rattle.pciv_check.proofs.PairLaws.{pairAnswer-ready, pairAnswer-refused, pair-checked}
-use Rattle.pciv_arith.proofs.ArithLaws.{combined-refused, refused-buffer, combined-outcome, combined-buffer}
+use Rattle.pciv_arith_merge.specs.Merge.{slotOpOf}
+use Rattle.pciv_arith.proofs.ArithLaws.{combined-refused, combined-written}
 use Rattle.pciv_arith.proofs.combine.Statement.{statement}
 use Rattle.pciv_arith.proofs.combine.Tie as tie
 
@@ -33,28 +32,19 @@ returns c =
     let k = c .before in
     let h = k .before .before in
     let a = h .before .before .before .before .args in
-    let no = pairAnswer-refused _ _ (sym (k .checked .given .1) ∙ h .check-pair .ensures) in (
-      ap fileAnswer (sym (combined-refused (a .op) (a .a .now) (a .b .now) _ no (length (a .out .now)))),
-      sym (refused-buffer (a .op) (a .a .now) (a .b .now) _ no (a .out .now)),
-    )
+    combined-refused (slotOpOf (a .op)) (a .a .now) (a .b .now) (a .out .now) _
+    (pairAnswer-refused _ _ (sym (k .checked .given .1) ∙ h .check-pair .ensures))
 
 same-length : tie.Need-same-length
 same-length c = search needs
 
 returns-2 : tie.Need-returns-2
 returns-2 c =
-    let r = c .before .before in
-    let k = r .before .before .before in
-    let h = k .before .before in
-    let b = h .before in
-    let a = b .before .before .before .args in
-    let pair = pair-checked _ _ _ (are-maps k) in
-    let bytesA : Bytes (a .a .now) = λ i. b .before .before .shared-slice-known .given i .fits in
-    let bytesB : Bytes (a .b .now) = λ i. b .before .shared-slice-known2 .given i .fits in (
-      r .combine-into .ensures .0
-          ∙ ap fileAnswer (sym (combined-outcome (a .op) (a .a .now) (a .b .now) bytesA bytesB _ pair (are-maps k) (length (a .out .now)))),
-      r .combine-into .ensures .1 ∙ sym (combined-buffer (a .op) (a .a .now) (a .b .now) bytesA bytesB _ pair (are-maps k) (a .out .now)),
-    )
+    let x = c .before .before in
+    let k = x .before .before .before in
+    let a = k .before .before .before .before .before .before .args in
+    combined-written (slotOpOf (a .op)) (a .a .now) (a .b .now) (a .out .now) _ (are-maps k) _ _
+    (x .combine-into .ensures .0) (x .combine-into .ensures .1)
 
 pub combine-spec : {M : Type 1} → statement M
 combine-spec =

@@ -25,8 +25,11 @@ returns : tie.Need-returns
 returns c =
     let second = c .before .before in
     let first = second .before .before .before .before in
-    let a = first .before .before .before .args in
-    (refl, sets-two (a .slot) (le 4 (a .distance)) (a .out .now) _ _ (a .at) _ refl (first .put64 .ensures) (second .put32 .ensures))
+    let a = first .before .before .before .args in (
+      refl,
+      sets-two (a .slot) (le 4 (a .distance)) (a .out .now) _ _ (a .at) _ refl (first .put64 .ensures)
+          (second .put32 .ensures),
+    )
 
 pub put-entry-spec : {M : Type 1} → statement M
 put-entry-spec =

@@ -23,7 +23,8 @@ returns c =
     let second = c .before .before in
     let first = second .before .before .before .before in
     let a = first .before .before .before .args in
-    sets-two (a .slot) (le 8 (a .entry)) (a .out .now) _ _ (a .at) _ refl (first .put64 .ensures) (second .put642 .ensures)
+    sets-two (a .slot) (le 8 (a .entry)) (a .out .now) _ _ (a .at) _ refl (first .put64 .ensures)
+    (second .put642 .ensures)
 
 pub put-index-entry-spec : {M : Type 1} → statement M
 put-index-entry-spec =

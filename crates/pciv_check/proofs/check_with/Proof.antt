@@ -1,9 +1,6 @@
 -- Proves pciv_check::check_with: the header, the length, then the parts.
-use mathlib.Core.Path.{_≡_, refl, sym, ap, _∙_}
-use Prim.Native.Nat.{ℕ, _≤_}
-use native.Mathlib.Omega.{arith}
-use lib.ListN.{length}
-use Rattle.pciv_format.specs.Refusals.{done, refused, fileAnswer}
+use mathlib.Core.Path.{_≡_, sym, _∙_}
+use Rattle.pciv_format.specs.Refusals.{done}
 use Rattle.pciv_format.specs.Check.{checkHeader, checkWith}
 use Rattle.pciv_format.proofs.RefusalsLaws.{fileAnswer-done, fileAnswer-refused}
 use Rattle.pciv_check.proofs.RefusalLaws.{wrongLength-fits, header-inside}
@@ -13,7 +10,8 @@ use Rattle.pciv_check.proofs.check_with.Tie as tie
 
 -- the header's counts
 header-done : (c : tie.After-counts2)
-    → (let a = c .before .before .before .before .args in checkHeader (a .map) (a .file .now) ≡ done (c .counts2 .given .0 .0))
+    → (let a = c .before .before .before .before .args in
+    checkHeader (a .map) (a .file .now) ≡ done (c .counts2 .given .0 .0))
 header-done c = fileAnswer-done _ _ (sym (c .counts2 .given .1) ∙ c .before .before .check-header .ensures)
 
 check-header-requires : tie.Need-check-header-requires
@@ -28,14 +26,14 @@ enum-known-counts-2 c = search needs
 wrong-length-requires : tie.Need-wrong-length-requires
 wrong-length-requires c κs = search needs
 
-refused-requires : tie.Need-refused-requires
-refused-requires c κs = search needs
+refuse-file-requires : tie.Need-refuse-file-requires
+refuse-file-requires c κs = search needs
 
 returns : tie.Need-returns
 unfolding checkWith
 returns c =
     let t = c .before .before in
-    rw (header-done (t .before .before), ← t .wrong-length .ensures, c .before .if1 .taken) (c .refused .ensures)
+    rw (header-done (t .before .before), ← t .wrong-length .ensures, c .before .if1 .taken) (c .refuse-file .ensures)
 
 check-parts-requires : tie.Need-check-parts-requires
 check-parts-requires c κs =
@@ -50,8 +48,8 @@ returns-2 c =
     let k = c .before in
     let h = k .before .before in
     let a = h .before .before .args in
-    let e = fileAnswer-refused (checkHeader (a .map) (a .file .now)) (k .counts .given .0 .0) (sym (k .counts .given .1) ∙ h .check-header .ensures) in
-    rw e
+    rw (fileAnswer-refused (checkHeader (a .map) (a .file .now)) (k .counts .given .0 .0)
+    (sym (k .counts .given .1) ∙ h .check-header .ensures))
 
 returns-3 : tie.Need-returns-3
 unfolding checkWith
@@ -67,7 +65,7 @@ check-with-spec =
     enum-known-counts
     enum-known-counts-2
     wrong-length-requires
-    refused-requires
+    refuse-file-requires
     returns
     check-parts-requires
     returns-2

@@ -1,9 +1,4 @@
 -- Proves pciv_check::wrong_length.
-use mathlib.Core.Path.{ap}
-use Prim.Native.Nat.{ℕ}
-use mathlib.Core.Bool.{Bool}
-use Rattle.pciv_check.specs.Length.{wrongLength}
-use borrow.Author.Needs.{needs}
 use Rattle.pciv_check.proofs.wrong_length.Statement.{statement}
 use Rattle.pciv_check.proofs.wrong_length.Tie as tie
 

@@ -2,7 +2,7 @@
 use mathlib.Core.Path.{sym, _∙_}
 use Rattle.pciv_bytes.proofs.RangesLaws.{firstBelow-none}
 use Rattle.pciv_format.specs.Parts.{Parts, badSlot}
-use Rattle.pciv_check.proofs.CountLaws.{count-complete}
+use Rattle.pciv_format.proofs.FullCountLaws.{count-complete}
 use Rattle.pciv_close.specs.Close.{slotParts}
 use borrow.Author.Needs.{needs}
 use Rattle.pciv_close.proofs.first_bad_slot.Statement.{statement}

@@ -38,7 +38,8 @@ known c = c .before .before .before .before
 begun-done : (c : tie.After-begun2)
     → (let b = c .before .before .before .before in
     let a = known b .before .before .args in
-    beginOutcome (length (a .primary .now)) (length (a .slots .now)) (length (a .out .now)) ≡ done (c .begun2 .given .0 .0))
+    beginOutcome (length (a .primary .now)) (length (a .slots .now)) (length (a .out .now))
+    ≡ done (c .begun2 .given .0 .0))
 begun-done c =
     fileAnswer-done _ _ (sym (c .begun2 .given .1) ∙ c .before .before .before .before .begin .ensures .0)
 
@@ -130,12 +131,13 @@ returns-2 c =
     let n = parts s .n in
     let k = length (a .slots .now) in
     let v = valueOf (parts s) in
-    let primary = primary-close (a .primary .now) (a .slots .now) (a .distances .now) (s .pre .1) (bytes (known b)) in
-    let entries = overflowPart-close (a .primary .now) (a .slots .now) (a .distances .now) (s .pre .1) (bytes (known b)) in (
+    let each = bytes (known b) in
+    let primary = primary-close (a .primary .now) (a .slots .now) (a .distances .now) (s .pre .1) each in
+    let entries = overflowPart-close (a .primary .now) (a .slots .now) (a .distances .now) (s .pre .1) each in (
       ap fileAnswer (sym e ∙ begin-is n k v (count (known b)) (length (a .out .now))),
       built-done n k v (count (known b)) (s .pre .0) (a .out .now) (b .begin .last .0) (y .copy-bytes .last .1 .0)
-          (p .put-entries .last .0) (f .finish .last .0) _ e (b .begin .ensures .1) (rw primary (y .copy-bytes .ensures))
-          (rw entries (p .put-entries .ensures)) (f .finish .ensures),
+          (p .put-entries .last .0) (f .finish .last .0) _ e (b .begin .ensures .1)
+          (rw primary (y .copy-bytes .ensures)) (rw entries (p .put-entries .ensures)) (f .finish .ensures),
     )
 
 pub put-file-spec : {M : Type 1} → statement M

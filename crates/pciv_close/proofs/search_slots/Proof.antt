@@ -1,14 +1,14 @@
 -- Proves pciv_close::search_slots. Invariant: no slot below `from` lacks its entry, and `from` is the least slot
--- that entry j may have. Falls: k - j. The reasoning on slots is in SearchLaws.antt.
+-- that entry j may have. Falls: k - j. The reasoning on slots is in FullSearchLaws.antt (pciv_format).
 use mathlib.Core.Path.{_≡_, refl, sym}
-use Prim.Native.Nat.{_-_, _≤_, _<_}
+use Prim.Native.Nat.{_-_, _≤_}
 use native.Mathlib.Numerals.{add-one}
 use native.Mathlib.Omega.{arith}
 use lib.ListN.{length}
 use Rattle.pciv_format.specs.Parts.{Parts, lowestSlot}
-use Rattle.pciv_check.proofs.WalkLaws.{entry-at}
+use Rattle.pciv_format.proofs.PartsLaws.{GoodEntry, entry-at}
+use Rattle.pciv_format.proofs.FullSearchLaws.{Searched, lowest-le, searched-found, searched-more, searched-end}
 use Rattle.pciv_close.specs.Close.{slotParts}
-use Rattle.pciv_close.proofs.SearchLaws.{Searched, searched-found, searched-more, searched-end}
 use borrow.Author.Needs.{needs}
 use Rattle.pciv_close.proofs.search_slots.Statement.{statement}
 use Rattle.pciv_close.proofs.search_slots.Tie as tie
@@ -24,9 +24,9 @@ abbrev μ-loop : tie.MeasureT-loop
 abbrev parts : tie.At-loop Inv-loop μ-loop → Parts
 parts c = let a = c .before .before .before .args in slotParts (a .primary .now) (a .slots .now)
 
--- the slot of entry j is one of the n
-inside : (c : tie.In-loop Inv-loop μ-loop) → parts (c .before) .slot (c .before .loop .j) < parts (c .before) .n
-inside c = entry-at (parts (c .before)) (c .before .before .before .before .pre) (c .before .loop .j) (omega arith) .inside
+-- the slot of entry j is one of the n, and not below `from`
+good : (c : tie.In-loop Inv-loop μ-loop) → GoodEntry (parts (c .before)) (c .before .loop .j)
+good c = entry-at (parts (c .before)) (c .before .before .before .before .pre) (c .before .loop .j) (omega arith)
 
 loop-holds : tie.Need-loop-holds Inv-loop μ-loop
 loop-holds c = (omega arith, refl, λ t h. absurd (omega arith))
@@ -37,19 +37,21 @@ mul-slot c = search needs
 shared-slice-read-slot : tie.Need-shared-slice-read-slot Inv-loop μ-loop
 shared-slice-read-slot c = search needs
 
-first-full-requires : tie.Need-first-full-requires Inv-loop μ-loop
-first-full-requires c κs = omega (arith, inside (c .before))
+find-byte-requires : tie.Need-find-byte-requires Inv-loop μ-loop
+find-byte-requires c κs =
+    (omega (arith, c .before .before .loop .inv .1, good (c .before) .above), omega (arith, good (c .before) .inside))
 
 returns : tie.Need-returns Inv-loop μ-loop
 returns c =
     let full = c .before in
     let l = full .before .before .before in
+    let right = l .before .before .before .pre in
     sym
-    (searched-found (parts l) (l .before .before .before .pre) (l .loop .from) (l .loop .inv .2) (l .loop .j) _ (omega arith)
-    (l .loop .inv .1) (full .first-full .ensures) (c .if1 .taken))
+    (searched-found (parts l) right (l .loop .from) (l .loop .inv .2) (l .loop .j) _ (omega arith) (l .loop .inv .1)
+    (full .find-byte .ensures) (c .if1 .taken))
 
 add-from : tie.Need-add-from Inv-loop μ-loop
-add-from c = omega (arith, inside (c .before .before .before))
+add-from c = omega (arith, good (c .before .before .before) .inside)
 
 add-j : tie.Need-add-j Inv-loop μ-loop
 add-j c = search needs
@@ -60,15 +62,19 @@ loop-less c = search needs
 loop-again : tie.Need-loop-again Inv-loop μ-loop
 loop-again c =
     let full = c .before in
-    let l = full .before .before .before in (
+    let l = full .before .before .before in
+    let right = l .before .before .before .pre in (
       omega arith,
       rw (add-one (l .loop .j)),
-      searched-more (parts l) (l .before .before .before .pre) (l .loop .from) (l .loop .inv .2) (l .loop .j) _ (omega arith)
-          (full .first-full .ensures) (omega arith),
+      searched-more (parts l) right (l .loop .from) (l .loop .inv .2) (l .loop .j) _ (omega arith)
+          (full .find-byte .ensures) (omega arith),
     )
 
-first-full-requires-2 : tie.Need-first-full-requires-2 Inv-loop μ-loop
-first-full-requires-2 c κs = search needs
+find-byte-requires-2 : tie.Need-find-byte-requires-2 Inv-loop μ-loop
+find-byte-requires-2 c κs =
+    let l = c .before in
+    let low = lowest-le (parts l) (l .before .before .before .pre) (l .loop .j) (l .loop .inv .0) in
+    (omega (arith, l .loop .inv .1, low), omega arith)
 
 returns-2 : tie.Need-returns-2 Inv-loop μ-loop
 returns-2 c =
@@ -77,7 +83,7 @@ returns-2 c =
     let end : l .loop .j ≡ P .k = omega arith in
     sym
     (searched-end P (l .before .before .before .pre) (l .loop .from) (l .loop .inv .2) _ (rw end at (l .loop .inv .1))
-    (c .first-full2 .ensures))
+    (c .find-byte2 .ensures))
 
 pub search-slots-spec : {M : Type 1} → statement M
 search-slots-spec =
@@ -88,11 +94,11 @@ search-slots-spec =
     loop-holds
     mul-slot
     shared-slice-read-slot
-    first-full-requires
+    find-byte-requires
     returns
     add-from
     add-j
     loop-less
     loop-again
-    first-full-requires-2
+    find-byte-requires-2
     returns-2)

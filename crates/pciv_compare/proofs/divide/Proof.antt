@@ -1,6 +1,6 @@
 -- Proves pciv_compare::divide. Each cast loses nothing, which is what it asks.
 use mathlib.Core.Path.{sym}
-use Rattle.pciv_compare.proofs.ExactLaws.{in-float, quotient-zero, quotient-over}
+use Rattle.pciv_format.proofs.QuotientLaws.{in-float, quotient-zero, quotient-over}
 use Rattle.pciv_compare.proofs.divide.Statement.{statement}
 use Rattle.pciv_compare.proofs.divide.Tie as tie
 

@@ -18,11 +18,13 @@ entry c = c .before .before .before
 
 -- what the check has shown: why the pair is refused, or its counts
 is-refused : (c : tie.After-checked)
-    → pairCounts (entry (c .before .before) .args .a .now) (entry (c .before .before) .args .b .now) ≡ refused (c .checked .given .0 .0)
+    → (let a = entry (c .before .before) .args in
+    pairCounts (a .a .now) (a .b .now) ≡ refused (c .checked .given .0 .0))
 is-refused c = pairAnswer-refused _ _ (sym (c .checked .given .1) ∙ c .before .before .check-pair .ensures)
 
 are-maps : (c : tie.After-checked2)
-    → pairCounts (entry (c .before .before) .args .a .now) (entry (c .before .before) .args .b .now) ≡ done (c .checked2 .given .0 .0)
+    → (let a = entry (c .before .before) .args in
+    pairCounts (a .a .now) (a .b .now) ≡ done (c .checked2 .given .0 .0))
 are-maps c = pairAnswer-ready _ _ (sym (c .checked2 .given .1) ∙ c .before .before .check-pair .ensures)
 
 -- the parts of the quotient are in order, and not above 2 ^ 53

@@ -1,7 +1,7 @@
 -- Proves pciv_read::first_outside. Invariant: no slot before position i is outside. Falls: length slots - i.
-use mathlib.Core.Path.{_≡_, refl, sym, ap, _∙_}
+use mathlib.Core.Path.{_≡_, sym}
 use mathlib.Core.Bool.{Bool, false}
-use Prim.Native.Nat.{ℕ, _+_, _-_, _≤_, _<_}
+use Prim.Native.Nat.{ℕ, _-_, _≤_, _<_}
 use native.Mathlib.Omega.{arith}
 use lib.ListN.{length, getD}
 use lib.Dec.{leb}
@@ -52,8 +52,8 @@ returns-2 c =
     let d = c .before in
     let a = d .before .args in
     let xs = a .slots .now in
-    let all = firstBelow-none (λ (i : ℕ). leb (a .n) (getD xs i 0)) (length xs) (λ i h. d .loop .inv .1 i (omega arith)) in
-    omega (arith, all)
+    let outside : ℕ → Bool = λ i. leb (a .n) (getD xs i 0) in
+    omega (arith, firstBelow-none outside (length xs) (λ i h. d .loop .inv .1 i (omega arith)))
 
 pub first-outside-spec : {M : Type 1} → statement M
 first-outside-spec =

@@ -1,6 +1,6 @@
 -- Proves pciv_read::lookup_list.
-use mathlib.Core.Path.{_≡_, refl, sym, ap, _∙_}
-use Prim.Native.Nat.{ℕ, _+_, _-_, _≤_, _<_}
+use mathlib.Core.Path.{_≡_, sym, ap, _∙_}
+use Prim.Native.Nat.{ℕ, _≤_}
 use native.Mathlib.Omega.{arith}
 use Rattle.pciv_format.specs.Refusals.{done, refused, numberAnswer}
 use Rattle.pciv_format.specs.Check.{checkFile}
@@ -9,22 +9,28 @@ use lib.ListN.{length, getD}
 use lib.Dec.{leb}
 use Rattle.pciv_bytes.specs.Ranges.{firstBelow}
 use Rattle.pciv_format.specs.Read.{lookupListBuffer}
-use Rattle.pciv_read.proofs.ReadLaws.{checked, list-refused, list-outside, list-inside, list-short, list-done, list-buffer}
+use Rattle.pciv_format.proofs.ReadCaseLaws.{checked, list-refused, list-outside, list-inside, list-short}
+use Rattle.pciv_format.proofs.ReadCaseLaws.{list-done, list-buffer}
 use borrow.Author.Needs.{needs}
 use Rattle.pciv_read.proofs.lookup_list.Statement.{statement}
 use Rattle.pciv_read.proofs.lookup_list.Tie as tie
 
 -- what the check has shown: why the file is refused, or its counts
-is-refused : (c : tie.After-checked) → checkFile 1 (c .before .before .before .before .before .before .args .file .now) ≡ refused (c .checked .given .0 .0)
+is-refused : (c : tie.After-checked)
+    → (let a = c .before .before .before .before .before .before .args in
+    checkFile 1 (a .file .now) ≡ refused (c .checked .given .0 .0))
 is-refused c = fileAnswer-refused _ _ (sym (c .checked .given .1) ∙ c .before .before .check .ensures)
 
-is-map : (c : tie.After-checked2) → checkFile 1 (c .before .before .before .before .before .before .args .file .now) ≡ done (c .checked2 .given .0 .0)
+is-map : (c : tie.After-checked2)
+    → (let a = c .before .before .before .before .before .before .args in
+    checkFile 1 (a .file .now) ≡ done (c .checked2 .given .0 .0))
 is-map c = fileAnswer-done _ _ (sym (c .checked2 .given .1) ∙ c .before .before .check .ensures)
 
 -- every slot of the list is below n
 all-inside : (c : tie.Else1)
     → (let xs = c .before .before .before .before .before .before .before .before .before .args .slots .now in
-    length xs ≤ firstBelow (λ (i : ℕ). leb (c .before .before .before .checked2 .given .0 .0 .n) (getD xs i 0)) (length xs))
+    let n = c .before .before .before .checked2 .given .0 .0 .n in
+    length xs ≤ firstBelow (λ (i : ℕ). leb n (getD xs i 0)) (length xs))
 all-inside c = omega (arith, c .before .first-outside .ensures, c .if1 .left)
 
 check-requires : tie.Need-check-requires
@@ -39,8 +45,8 @@ enum-known-checked-2 c = search needs
 first-outside-requires : tie.Need-first-outside-requires
 first-outside-requires c κs = search needs
 
-refused-requires : tie.Need-refused-requires
-refused-requires c κs = search needs
+refuse-number-requires : tie.Need-refuse-number-requires
+refuse-number-requires c κs = search needs
 
 returns : tie.Need-returns
 unfolding lookupListBuffer
@@ -48,11 +54,13 @@ returns c =
     let g = c .before .before in
     let k = g .before .before in
     let a = k .before .before .before .before .before .before .args in
-    let o = list-outside (a .file .now) _ (is-map k) (a .slots .now) (length (a .out .now)) _ (g .first-outside .ensures) (c .before .if1 .taken) in
-    (c .refused .ensures ∙ ap numberAnswer (sym o), rw o)
+    let o =
+    list-outside (a .file .now) _ (is-map k) (a .slots .now) (length (a .out .now)) _ (g .first-outside .ensures)
+    (c .before .if1 .taken) in
+    (c .refuse-number .ensures ∙ ap numberAnswer (sym o), rw o)
 
-refused-requires-2 : tie.Need-refused-requires-2
-refused-requires-2 c κs = search needs
+refuse-number-requires-2 : tie.Need-refuse-number-requires-2
+refuse-number-requires-2 c κs = search needs
 
 returns-2 : tie.Need-returns-2
 unfolding lookupListBuffer
@@ -60,15 +68,18 @@ returns-2 c =
     let t = c .before .before in
     let k = t .before .before .before in
     let a = k .before .before .before .before .before .before .args in
-    let o = list-short (a .file .now) _ (is-map k) (a .slots .now) (all-inside t) (length (a .out .now)) (c .before .if2 .taken) in
-    (c .refused2 .ensures ∙ ap numberAnswer (sym o), rw o)
+    let o =
+    list-short (a .file .now) _ (is-map k) (a .slots .now) (all-inside t) (length (a .out .now))
+    (c .before .if2 .taken) in
+    (c .refuse-number2 .ensures ∙ ap numberAnswer (sym o), rw o)
 
 distances-into-requires : tie.Need-distances-into-requires
 distances-into-requires c κs =
     let t = c .before .before in
     let k = t .before .before .before in
     let a = k .before .before .before .before .before .before .args in
-    (checked _ _ (is-map k), (list-inside (a .file .now) _ (is-map k) (a .slots .now) (all-inside t), c .before .if2 .left))
+    let inside = list-inside (a .file .now) _ (is-map k) (a .slots .now) (all-inside t) in
+    (checked _ _ (is-map k), (inside, c .before .if2 .left))
 
 returns-3 : tie.Need-returns-3
 unfolding lookupListBuffer
@@ -87,10 +98,10 @@ returns-4 c =
     let t = x .before .before .before in
     let k = t .before .before .before in
     let a = k .before .before .before .before .before .before .args in
-    let fits = x .before .before .if2 .left in (
-      ap numberAnswer (sym (list-done (a .file .now) _ (is-map k) (a .slots .now) (all-inside t) (length (a .out .now)) fits)),
-      x .distances-into .ensures ∙ list-buffer (a .file .now) _ (is-map k) (a .slots .now) (all-inside t) (a .out .now) fits,
-    )
+    let fits = x .before .before .if2 .left in
+    let o = list-done (a .file .now) _ (is-map k) (a .slots .now) (all-inside t) (length (a .out .now)) fits in
+    let w = list-buffer (a .file .now) _ (is-map k) (a .slots .now) (all-inside t) (a .out .now) fits in
+    (ap numberAnswer (sym o), x .distances-into .ensures ∙ w)
 
 pub lookup-list-spec : {M : Type 1} → statement M
 lookup-list-spec =
@@ -100,9 +111,9 @@ lookup-list-spec =
     enum-known-checked
     enum-known-checked-2
     first-outside-requires
-    refused-requires
+    refuse-number-requires
     returns
-    refused-requires-2
+    refuse-number-requires-2
     returns-2
     distances-into-requires
     returns-3

@@ -4,8 +4,8 @@ use native.Mathlib.Omega.{arith}
 use Rattle.pciv_format.specs.Refusals.{done, refused}
 use Rattle.pciv_format.specs.Check.{checkFile}
 use Rattle.pciv_format.proofs.RefusalsLaws.{fileAnswer-done, fileAnswer-refused}
-use Rattle.pciv_map.proofs.MapLaws.{primary-inside}
-use Rattle.pciv_read.proofs.ReadLaws.{checked, primary-refused, primary-done, place-refused, place-done}
+use Rattle.pciv_format.proofs.MapLaws.{primary-inside}
+use Rattle.pciv_format.proofs.ReadCaseLaws.{checked, primary-refused, primary-done, place-refused, place-done}
 use borrow.Author.Needs.{needs}
 use Rattle.pciv_read.proofs.primary.Statement.{statement}
 use Rattle.pciv_read.proofs.primary.Tie as tie

@@ -1,6 +1,6 @@
 -- Proves pciv_read::readings: the primary part alone is counted.
-use mathlib.Core.Path.{_≡_, refl, sym, ap, _∙_}
-use Prim.Native.Nat.{ℕ, _+_, _-_, _≤_, _<_}
+use mathlib.Core.Path.{_≡_, sym, ap, _∙_}
+use Prim.Native.Nat.{ℕ, _+_, _-_}
 use native.Mathlib.Omega.{arith}
 use Rattle.pciv_format.specs.Refusals.{done, refused, numberAnswer}
 use Rattle.pciv_format.specs.Check.{checkFile}
@@ -11,17 +11,19 @@ use lib.ListN.{length, take, drop, getD}
 use lib.Dec.{eqb}
 use Rattle.pciv_bytes.specs.Ranges.{flag, sumFrom}
 use Rattle.pciv_bytes.specs.LittleEndian.{Bytes}
-use Rattle.pciv_map.proofs.MapLaws.{primary-inside, readings-primary}
-use Rattle.pciv_read.proofs.ReadLaws.{checked, readings-refused, readings-done}
+use Rattle.pciv_format.proofs.MapLaws.{primary-inside, readings-primary}
+use Rattle.pciv_format.proofs.ReadCaseLaws.{checked, readings-refused, readings-done}
 use borrow.Author.Needs.{needs}
 use Rattle.pciv_read.proofs.readings.Statement.{statement}
 use Rattle.pciv_read.proofs.readings.Tie as tie
 
 -- what the check has shown: why the file is refused, or its counts
-is-refused : (c : tie.After-checked) → checkFile 1 (c .before .before .before .before .args .file .now) ≡ refused (c .checked .given .0 .0)
+is-refused : (c : tie.After-checked)
+    → checkFile 1 (c .before .before .before .before .args .file .now) ≡ refused (c .checked .given .0 .0)
 is-refused c = fileAnswer-refused _ _ (sym (c .checked .given .1) ∙ c .before .before .check .ensures)
 
-is-map : (c : tie.After-checked2) → checkFile 1 (c .before .before .before .before .args .file .now) ≡ done (c .checked2 .given .0 .0)
+is-map : (c : tie.After-checked2)
+    → checkFile 1 (c .before .before .before .before .args .file .now) ≡ done (c .checked2 .given .0 .0)
 is-map c = fileAnswer-done _ _ (sym (c .checked2 .given .1) ∙ c .before .before .check .ensures)
 
 check-requires : tie.Need-check-requires
@@ -64,8 +66,9 @@ returns-2 c =
     let m = checked b s (is-map k) in
     let bytes : Bytes b = λ i. known .shared-slice-known .given i .fits in
     let n : 40 + s .n - 40 ≡ s .n = omega arith in
-    let count : ℕ → ℕ = λ z. sumFrom (λ (i : ℕ). flag (not (eqb (getD (take z (drop 40 b)) i 0) 0))) 0 (length (take z (drop 40 b))) in
-    ap (λ (x : ℕ). numberAnswer (done x)) (c .readings-of .ensures ∙ ap count n ∙ readings-primary b (s .n) (s .k) m bytes)
+    let count : List ℕ → ℕ = λ l. sumFrom (λ (i : ℕ). flag (not (eqb (getD l i 0) 0))) 0 (length l) in
+    let part = ap (λ (z : ℕ). count (take z (drop 40 b))) n in
+    ap (λ (x : ℕ). numberAnswer (done x)) (c .readings-of .ensures ∙ part ∙ readings-primary b (s .n) (s .k) m bytes)
     ∙ ap numberAnswer (sym (readings-done b s (is-map k)))
 
 pub readings-spec : {M : Type 1} → statement M

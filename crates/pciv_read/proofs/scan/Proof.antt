@@ -1,22 +1,22 @@
 -- Proves pciv_read::scan.
-use mathlib.Core.Path.{_≡_, refl, sym, ap, _∙_}
-use Prim.Native.Nat.{ℕ, _+_, _-_, _≤_, _<_}
-use native.Mathlib.Omega.{arith}
+use mathlib.Core.Path.{_≡_, sym, ap, _∙_}
 use Rattle.pciv_format.specs.Refusals.{done, refused, numberAnswer}
 use Rattle.pciv_format.specs.Check.{checkFile}
 use Rattle.pciv_format.proofs.RefusalsLaws.{fileAnswer-done, fileAnswer-refused}
 use lib.ListN.{length}
 use Rattle.pciv_format.specs.Read.{scanBuffer}
-use Rattle.pciv_read.proofs.ReadLaws.{checked, scan-refused, scan-short, scan-done, scan-buffer}
+use Rattle.pciv_format.proofs.ReadCaseLaws.{checked, scan-refused, scan-short, scan-done, scan-buffer}
 use borrow.Author.Needs.{needs}
 use Rattle.pciv_read.proofs.scan.Statement.{statement}
 use Rattle.pciv_read.proofs.scan.Tie as tie
 
 -- what the check has shown: why the file is refused, or its counts
-is-refused : (c : tie.After-checked) → checkFile 1 (c .before .before .before .before .before .args .file .now) ≡ refused (c .checked .given .0 .0)
+is-refused : (c : tie.After-checked)
+    → checkFile 1 (c .before .before .before .before .before .args .file .now) ≡ refused (c .checked .given .0 .0)
 is-refused c = fileAnswer-refused _ _ (sym (c .checked .given .1) ∙ c .before .before .check .ensures)
 
-is-map : (c : tie.After-checked2) → checkFile 1 (c .before .before .before .before .before .args .file .now) ≡ done (c .checked2 .given .0 .0)
+is-map : (c : tie.After-checked2)
+    → checkFile 1 (c .before .before .before .before .before .args .file .now) ≡ done (c .checked2 .given .0 .0)
 is-map c = fileAnswer-done _ _ (sym (c .checked2 .given .1) ∙ c .before .before .check .ensures)
 
 check-requires : tie.Need-check-requires
@@ -28,8 +28,8 @@ enum-known-checked c = search needs
 enum-known-checked-2 : tie.Need-enum-known-checked-2
 enum-known-checked-2 c = search needs
 
-refused-requires : tie.Need-refused-requires
-refused-requires c κs = search needs
+refuse-number-requires : tie.Need-refuse-number-requires
+refuse-number-requires c κs = search needs
 
 returns : tie.Need-returns
 unfolding scanBuffer
@@ -37,7 +37,7 @@ returns c =
     let k = c .before .before .before in
     let a = k .before .before .before .before .before .args in
     let short = scan-short (a .file .now) _ (is-map k) (length (a .out .now)) (c .before .if1 .taken) in
-    (c .refused .ensures ∙ ap numberAnswer (sym short), rw short)
+    (c .refuse-number .ensures ∙ ap numberAnswer (sym short), rw short)
 
 scan-into-requires : tie.Need-scan-into-requires
 scan-into-requires c κs =
@@ -72,7 +72,7 @@ scan-spec =
     check-requires
     enum-known-checked
     enum-known-checked-2
-    refused-requires
+    refuse-number-requires
     returns
     scan-into-requires
     returns-2

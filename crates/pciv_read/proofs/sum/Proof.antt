@@ -1,20 +1,21 @@
 -- Proves pciv_read::sum.
-use mathlib.Core.Path.{_≡_, refl, sym, ap, _∙_}
-use Prim.Native.Nat.{ℕ, _+_, _-_, _≤_, _<_}
-use native.Mathlib.Omega.{arith}
+use mathlib.Core.Path.{_≡_, sym, ap, _∙_}
+use Prim.Native.Nat.{ℕ}
 use Rattle.pciv_format.specs.Refusals.{done, refused, numberAnswer}
 use Rattle.pciv_format.specs.Check.{checkFile}
 use Rattle.pciv_format.proofs.RefusalsLaws.{fileAnswer-done, fileAnswer-refused}
-use Rattle.pciv_read.proofs.ReadLaws.{checked, sum-refused, sum-done}
+use Rattle.pciv_format.proofs.ReadCaseLaws.{checked, sum-refused, sum-done}
 use borrow.Author.Needs.{needs}
 use Rattle.pciv_read.proofs.sum.Statement.{statement}
 use Rattle.pciv_read.proofs.sum.Tie as tie
 
 -- what the check has shown: why the file is refused, or its counts
-is-refused : (c : tie.After-checked) → checkFile 1 (c .before .before .before .before .args .file .now) ≡ refused (c .checked .given .0 .0)
+is-refused : (c : tie.After-checked)
+    → checkFile 1 (c .before .before .before .before .args .file .now) ≡ refused (c .checked .given .0 .0)
 is-refused c = fileAnswer-refused _ _ (sym (c .checked .given .1) ∙ c .before .before .check .ensures)
 
-is-map : (c : tie.After-checked2) → checkFile 1 (c .before .before .before .before .args .file .now) ≡ done (c .checked2 .given .0 .0)
+is-map : (c : tie.After-checked2)
+    → checkFile 1 (c .before .before .before .before .args .file .now) ≡ done (c .checked2 .given .0 .0)
 is-map c = fileAnswer-done _ _ (sym (c .checked2 .given .1) ∙ c .before .before .check .ensures)
 
 check-requires : tie.Need-check-requires
@@ -34,7 +35,8 @@ returns c = ap numberAnswer (sym (sum-refused _ _ (is-refused (c .before))))
 
 returns-2 : tie.Need-returns-2
 returns-2 c =
-    ap (λ (x : ℕ). numberAnswer (done x)) (c .sum-of .ensures) ∙ ap numberAnswer (sym (sum-done _ _ (is-map (c .before .before))))
+    ap (λ (x : ℕ). numberAnswer (done x)) (c .sum-of .ensures)
+    ∙ ap numberAnswer (sym (sum-done _ _ (is-map (c .before .before))))
 
 pub sum-spec : {M : Type 1} → statement M
 sum-spec =

@@ -1,6 +1,6 @@
 -- Proves pciv_report::put_refusal: the three fields, one after another.
 use borrow.Author.Needs.{needs}
-use Rattle.pciv_report.proofs.ReportLaws.{refusedLine-parts}
+use Rattle.pciv_format.proofs.ReportLaws.{refusedLine-parts}
 use Rattle.pciv_report.proofs.TextLaws.{put-then}
 use Rattle.pciv_report.proofs.put_refusal.Statement.{statement}
 use Rattle.pciv_report.proofs.put_refusal.Tie as tie

@@ -4,7 +4,8 @@ use mathlib.Core.Path.{sym, ap, _∙_}
 use Rattle.pciv_format.specs.Check.{checkFile}
 use Rattle.pciv_format.proofs.RefusalsLaws.{fileAnswer-done, fileAnswer-refused}
 use Rattle.pciv_report.specs.Text.{numberOf}
-use Rattle.pciv_report.proofs.ReportLaws.{reportText-long, reportText-done, reportText-refused}
+use Rattle.pciv_format.proofs.ReportLaws.{reportText-long, reportText-refused}
+use Rattle.pciv_report.proofs.TextLaws.{reportText-done}
 use Rattle.pciv_report.proofs.put_report.Statement.{statement}
 use Rattle.pciv_report.proofs.put_report.Tie as tie
 

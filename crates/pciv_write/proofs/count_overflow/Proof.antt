@@ -5,7 +5,7 @@ use native.Mathlib.Omega.{arith}
 use lib.ListN.{length}
 use Rattle.pciv_bytes.specs.Ranges.{sumFrom}
 use Rattle.pciv_bytes.proofs.SumLaws.{Added, added-none, added-one, added-all}
-use Rattle.pciv_write.proofs.WriteLaws.{overflowAt, count-is, count-small}
+use Rattle.pciv_write.proofs.WriteOutcomeLaws.{overflowAt, count-is, count-small}
 use borrow.Author.Needs.{needs}
 use Rattle.pciv_write.proofs.count_overflow.Statement.{statement}
 use Rattle.pciv_write.proofs.count_overflow.Tie as tie

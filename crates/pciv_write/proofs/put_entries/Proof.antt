@@ -12,7 +12,8 @@ use Rattle.pciv_write.proofs.put_entries.Statement.{statement}
 use Rattle.pciv_write.proofs.put_entries.Tie as tie
 
 abbrev Inv-loop : tie.InvT-loop
-Inv-loop out₀ distances k n place₀ end out place = (from : ℕ) × Filling (length distances) (at distances) out₀ from out place
+Inv-loop out₀ distances k n place₀ end out place =
+    (from : ℕ) × Filling (length distances) (at distances) out₀ from out place
 
 abbrev μ-loop : tie.MeasureT-loop
 μ-loop out₀ distances k n place₀ end out place = end - place
@@ -33,7 +34,8 @@ next-at : (c : tie.In-loop Inv-loop μ-loop)
     → (let l = c .before .loop in
     let xs = list (entry (c .before)) in
     (slot : ℕ) → slot ≡ get 8 (l .out) (l .place) → Next (length xs) (at xs) (l .inv .0) (l .out) (l .place) slot)
-next-at c slot is = rw is (fill-next (c .before .loop .inv .1) (omega (arith, c .loop-test .taken, entry (c .before) .pre .1 .0)))
+next-at c slot is =
+    rw is (fill-next (c .before .loop .inv .1) (omega (arith, c .loop-test .taken, entry (c .before) .pre .1 .0)))
 
 put-slots-requires : tie.Need-put-slots-requires Inv-loop μ-loop
 put-slots-requires c κs =
@@ -52,8 +54,11 @@ add-end c = search needs
 loop-holds : tie.Need-loop-holds Inv-loop μ-loop
 loop-holds c =
     let p = c .before .before in
-    let s = p .before .before .before .before in
-    (0, fill-start (length (list s)) (at (list s)) (s .args .out .now) _ (s .pre .1 .1 .1) (space s) (p .put-slots .ensures) (s .pre .0))
+    let s = p .before .before .before .before in (
+      0,
+      fill-start (length (list s)) (at (list s)) (s .args .out .now) _ (s .pre .1 .1 .1) (space s)
+          (p .put-slots .ensures) (s .pre .0),
+    )
 
 get64-requires : tie.Need-get64-requires Inv-loop μ-loop
 get64-requires c κs =
@@ -87,8 +92,11 @@ loop-again c =
     let e = c .before .before in
     let g = e .before .before .before in
     let d = g .before .before in
-    let next = next-at d (g .get64 .result) (g .get64 .ensures) in
-    (g .get64 .result + 1, fill-more (d .before .loop .inv .1) _ _ _ _ next refl (e .put-entry .ensures .1) (e .put-entry .ensures .0))
+    let next = next-at d (g .get64 .result) (g .get64 .ensures) in (
+      g .get64 .result + 1,
+      fill-more (d .before .loop .inv .1) _ _ _ _ next refl (e .put-entry .ensures .1)
+          (e .put-entry .ensures .0),
+    )
 
 same-length : tie.Need-same-length Inv-loop μ-loop
 same-length c = search needs
@@ -98,7 +106,8 @@ returns c =
     let l = c .before in
     let s = entry l in
     fill-end (l .loop .inv .1) (omega (arith, c .loop-test .left, s .pre .1 .0))
-    ∙ fill-over (length (list s)) (at (list s)) (s .args .out .now) _ (s .pre .1 .1 .1) (space s) (l .before .before .before .put-slots .ensures)
+    ∙ fill-over (length (list s)) (at (list s)) (s .args .out .now) _ (s .pre .1 .1 .1) (space s)
+    (l .before .before .before .put-slots .ensures)
 
 pub put-entries-spec : {M : Type 1} → statement M
 put-entries-spec =

@@ -3,7 +3,7 @@ use Prim.Native.Nat.{_-_}
 use native.Mathlib.Omega.{arith}
 use lib.ListN.{length}
 use Rattle.pciv_format.specs.Layout.{at}
-use Rattle.pciv_build.proofs.PrimaryLaws.{PrimaryLeft, primary-start, primary-more, primary-end}
+use Rattle.pciv_format.proofs.PrimaryLaws.{PrimaryLeft, primary-start, primary-more, primary-end}
 use borrow.Author.Needs.{needs}
 use Rattle.pciv_write.proofs.put_primary.Statement.{statement}
 use Rattle.pciv_write.proofs.put_primary.Tie as tie

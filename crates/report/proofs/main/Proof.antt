@@ -1,4 +1,4 @@
--- Proves report::main: what is lent of each array lies within it.
+-- Proves report::main: what is borrowed of each array lies within it.
 use borrow.Author.Needs.{needs}
 use mathlib.Core.Path.{sym, _∙_}
 use Prim.Native.Nat.{_≤_}
@@ -7,7 +7,7 @@ use lib.Seq.{length-take-le}
 use lib.ListN.{take}
 use Rattle.pciv_format.specs.Report.{reportOutcome}
 use Rattle.pciv_format.proofs.RefusalsLaws.{numberAnswer-number}
-use Rattle.pciv_report.proofs.ReportLaws.{reportOutcome-le}
+use Rattle.pciv_format.proofs.ReportLaws.{reportOutcome-le}
 use Rattle.report.proofs.main.Statement.{statement}
 use Rattle.report.proofs.main.Tie as tie
 

@@ -1,6 +1,6 @@
--- Proves slots::find_full: of the bytes, 255 alone is not below 255.
+-- Proves pciv_build::slots::find_full: of the bytes, 255 alone is not below 255.
 use Rattle.pciv_bytes.specs.LittleEndian.{Bytes}
-use Rattle.pciv_build.proofs.WordLaws.{tell-full}
+use Rattle.pciv_build.proofs.FullWordLaws.{tell-full}
 use borrow.Author.Needs.{needs}
 use Rattle.pciv_build.proofs.slots.find_full.Statement.{statement}
 use Rattle.pciv_build.proofs.slots.find_full.Tie as tie
@@ -33,7 +33,8 @@ returns c =
     let s = known .before .before in
     let a = s .args in
     let bytes : Bytes (a .file .now) = λ i. known .shared-slice-known .given i .fits in
-    rw (f .flags-into .ensures) (tell-full (a .file .now) (a .words .now) (a .from) (a .to) bytes (s .pre .0) (s .pre .1) (s .pre .2))
+    rw (f .flags-into .ensures)
+    (tell-full (a .file .now) (a .words .now) (a .from) (a .to) bytes (s .pre .0) (s .pre .1) (s .pre .2))
 
 pub find-full-spec : {M : Type 1} → statement M
 find-full-spec =

@@ -1,4 +1,4 @@
--- Proves slots::put_block: what the words tell is what is written.
+-- Proves pciv_build::slots::put_block: what the words tell is what is written.
 use native.Mathlib.Omega.{arith}
 use borrow.Author.Needs.{needs}
 use Rattle.pciv_build.proofs.slots.put_block.Statement.{statement}
@@ -16,8 +16,10 @@ slice-aggregate-put-words c = search needs
 put-words-requires : tie.Need-put-words-requires
 put-words-requires c κs =
     let f = c .before .before .before in
-    let s = f .before .before .before .before in
-    (f .find-full .ensures, ((s .pre .0 .0, s .pre .0 .2, omega (arith, s .pre .0 .1, slice-aggregate-put-words c)), s .pre .1))
+    let s = f .before .before .before .before in (
+      f .find-full .ensures,
+      ((s .pre .0 .0, s .pre .0 .2, omega (arith, s .pre .0 .1, slice-aggregate-put-words c)), s .pre .1),
+    )
 
 same-length : tie.Need-same-length
 same-length c = search needs

@@ -1,4 +1,4 @@
--- Proves slots::put_slots. Invariant: the entries of the slots from i on are left. Falls: n - i.
+-- Proves pciv_build::slots::put_slots. Invariant: the entries of the slots from i on are left. Falls: n - i.
 use mathlib.Core.Path.{_≡_}
 use Prim.Native.Nat.{ℕ, _+_, _-_, _*_, _≤_}
 use native.Mathlib.Nat.{sub-zero}
@@ -6,7 +6,8 @@ use native.Mathlib.Omega.{arith}
 use mathlib.Core.List.{_++_}
 use lib.ListN.{length}
 use Rattle.pciv_build.specs.Slots.{fullSlots}
-use Rattle.pciv_build.proofs.SlotsLaws.{BlanksLeft, blanks-start, blanks-space, blanks-before, blanks-part, blanks-end, slots-part, slots-end}
+use Rattle.pciv_build.proofs.SlotsLaws.{BlanksLeft, blanks-start, blanks-space, blanks-before}
+use Rattle.pciv_build.proofs.SlotsLaws.{blanks-part, blanks-end, slots-part, slots-end}
 use borrow.Author.Needs.{needs}
 use Rattle.pciv_build.proofs.slots.put_slots.Statement.{statement}
 use Rattle.pciv_build.proofs.slots.put_slots.Tie as tie
@@ -31,7 +32,8 @@ split : (c : tie.At-loop Inv-loop μ-loop) (count : ℕ)
 split c count inside =
     let a = entry c .args in
     let l = c .loop in
-    slots-part (a .out .now) (l .out) (l .i) count (λ j h₁ h₂. blanks-before (l .inv .1) (40 + j) (omega arith)) (a .n) inside
+    slots-part (a .out .now) (l .out) (l .i) count (λ j h₁ h₂. blanks-before (l .inv .1) (40 + j) (omega arith))
+    (a .n) inside
 
 space : (c : tie.At-loop Inv-loop μ-loop) (count : ℕ)
     → (let l = c .loop in
@@ -39,7 +41,8 @@ space : (c : tie.At-loop Inv-loop μ-loop) (count : ℕ)
 space c count inside =
     let a = entry c .args in
     let l = c .loop in
-    blanks-space (l .inv .1) (fullSlots (l .out) (l .i) count) (fullSlots (a .out .now) (l .i + count) (a .n - (l .i + count)))
+    blanks-space (l .inv .1) (fullSlots (l .out) (l .i) count)
+    (fullSlots (a .out .now) (l .i + count) (a .n - (l .i + count)))
     (split c count inside) (entry c .pre)
 
 add-place : tie.Need-add-place Inv-loop μ-loop

@@ -1,5 +1,5 @@
--- Proves slots::put_word. Invariant: bits are those of the slots from `slot` on, and their entries are left.
--- Falls: end - slot, where `end` is behind the slots of the word.
+-- Proves pciv_build::slots::put_word. Invariant: bits are those of the slots from `slot` on, and their entries are
+-- left. Falls: end - slot, where `end` is behind the slots of the word.
 use mathlib.Core.Path.{_≡_, sym, ap, _∙_}
 use Prim.Native.Nat.{ℕ, _+_, _-_, _≤_, min}
 use native.Mathlib.Omega.{arith}
@@ -7,7 +7,7 @@ use lib.ListN.{length}
 use lib.Count.{trailingZeros, trailing-le}
 use Rattle.pciv_format.specs.Mask.{word}
 use Rattle.pciv_build.specs.Slots.{isFull, fullSlots}
-use Rattle.pciv_build.proofs.WordLaws.{NextBit, word-next, word-none}
+use Rattle.pciv_build.proofs.FullWordLaws.{NextBit, word-next, word-none}
 use Rattle.pciv_build.proofs.SlotsLaws.{BlanksLeft, blanks-start, blanks-more, blanks-end}
 use borrow.Author.Needs.{needs}
 use Rattle.pciv_build.proofs.slots.put_word.Statement.{statement}
@@ -22,7 +22,8 @@ Inv-loop out₀ place from to flags next₀ bits₀ slot₀ out next bits slot =
     (from ≤ slot)
     × (slot ≤ end from to)
     × (bits ≡ word (isFull out₀) slot (end from to - slot))
-    × BlanksLeft out₀ place (fullSlots out₀ from (min 64 (to - from))) out next (fullSlots out₀ slot (end from to - slot))
+    × BlanksLeft out₀ place (fullSlots out₀ from (min 64 (to - from))) out next
+    (fullSlots out₀ slot (end from to - slot))
 
 abbrev μ-loop : tie.MeasureT-loop
 μ-loop out₀ place from to flags next₀ bits₀ slot₀ out next bits slot = end from to - slot
@@ -34,12 +35,14 @@ entry c = c .before .before
 next-bit : (c : tie.In-loop Inv-loop μ-loop)
     → (let l = c .before .loop in
     let a = entry (c .before) .args in
-    NextBit (isFull (a .out .now)) (l .slot) (end (a .from) (a .to) - l .slot) (fullSlots (a .out .now) (l .slot) (end (a .from) (a .to) - l .slot))
+    NextBit (isFull (a .out .now)) (l .slot) (end (a .from) (a .to) - l .slot)
+    (fullSlots (a .out .now) (l .slot) (end (a .from) (a .to) - l .slot))
     (l .bits) (trailingZeros 64 (l .bits)))
 next-bit c =
     let l = c .before .loop in
     let s = entry (c .before) in
-    word-next (isFull (s .args .out .now)) 64 (l .slot) (end (s .args .from) (s .args .to) - l .slot) (l .bits) (l .inv .2)
+    word-next (isFull (s .args .out .now)) 64 (l .slot) (end (s .args .from) (s .args .to) - l .slot) (l .bits)
+    (l .inv .2)
     (omega (arith, l .inv .0)) (c .loop-test .taken)
 
 loop-holds : tie.Need-loop-holds Inv-loop μ-loop

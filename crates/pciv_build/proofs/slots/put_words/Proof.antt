@@ -1,21 +1,23 @@
--- Proves slots::put_words. Invariant: the entries of the slots from `slot` on are left, the first of which word w tells.
--- Falls: to - slot.
+-- Proves pciv_build::slots::put_words. Invariant: the entries of the slots from `slot` on are left, the first of
+-- which word w tells. Falls: to - slot.
 use mathlib.Core.Path.{_≡_, sym, _∙_}
 use Prim.Native.Nat.{ℕ, _+_, _-_, _*_, _≤_, _<_, min}
 use native.Mathlib.Omega.{arith}
 use mathlib.Core.List.{List, _++_}
 use lib.ListN.{getD}
-use Rattle.pciv_bytes.specs.Counts.{byteAt}
+use Rattle.pciv_bytes.specs.ByteAt.{byteAt}
 use Rattle.pciv_format.specs.Mask.{word}
 use Rattle.pciv_build.specs.Slots.{isFull, fullSlots}
-use Rattle.pciv_build.proofs.SlotsLaws.{BlanksLeft, blanks-start, blanks-space, blanks-before, blanks-part, blanks-end, word-same, slots-word, slots-end}
+use Rattle.pciv_build.proofs.SlotsLaws.{BlanksLeft, blanks-start, blanks-space, blanks-before}
+use Rattle.pciv_build.proofs.SlotsLaws.{blanks-part, blanks-end, word-same, slots-word, slots-end}
 use borrow.Author.Needs.{needs}
 use Rattle.pciv_build.proofs.slots.put_words.Statement.{statement}
 use Rattle.pciv_build.proofs.slots.put_words.Tie as tie
 
 abbrev Inv-loop : tie.InvT-loop
 Inv-loop out₀ place from to words next₀ slot₀ w₀ out next slot w =
-    (slot ≡ from + 64 * w) × BlanksLeft out₀ place (fullSlots out₀ from (to - from)) out next (fullSlots out₀ slot (to - slot))
+    (slot ≡ from + 64 * w)
+    × BlanksLeft out₀ place (fullSlots out₀ from (to - from)) out next (fullSlots out₀ slot (to - slot))
 
 abbrev μ-loop : tie.MeasureT-loop
 μ-loop out₀ place from to words next₀ slot₀ w₀ out next slot w = to - slot
@@ -30,8 +32,11 @@ count c = min 64 (entry c .args .to - c .loop .slot)
 -- their primary bytes are as they were
 kept : (c : tie.In-loop Inv-loop μ-loop)
     → (let l = c .before .loop in
-    (j : ℕ) → l .slot ≤ j → j < l .slot + count (c .before) → byteAt (l .out) (40 + j) ≡ byteAt (entry (c .before) .args .out .now) (40 + j))
-kept c j h₁ h₂ = blanks-before (c .before .loop .inv .1) (40 + j) (omega (arith, c .loop-test .taken, entry (c .before) .pre .1 .0 .1))
+    (j : ℕ) → l .slot ≤ j → j < l .slot + count (c .before) → byteAt (l .out) (40 + j)
+    ≡ byteAt (entry (c .before) .args .out .now) (40 + j))
+kept c j h₁ h₂ =
+    blanks-before (c .before .loop .inv .1) (40 + j)
+    (omega (arith, c .loop-test .taken, entry (c .before) .pre .1 .0 .1))
 
 -- so the word tells them still
 told : (c : tie.In-loop Inv-loop μ-loop)
@@ -48,7 +53,8 @@ split : (c : tie.In-loop Inv-loop μ-loop)
     → (let l = c .before .loop in
     let a = entry (c .before) .args in
     fullSlots (a .out .now) (l .slot) (a .to - l .slot)
-    ≡ fullSlots (l .out) (l .slot) (count (c .before)) ++ fullSlots (a .out .now) (l .slot + 64) (a .to - (l .slot + 64)))
+    ≡ fullSlots (l .out) (l .slot) (count (c .before))
+    ++ fullSlots (a .out .now) (l .slot + 64) (a .to - (l .slot + 64)))
 split c =
     let l = c .before .loop in
     let a = entry (c .before) .args in
@@ -73,7 +79,8 @@ put-word-requires c κs =
       told d,
       (
         (omega (arith, d .loop-test .taken), omega (arith, l .inv .1 .low, s .pre .1 .0 .1)),
-        blanks-space (l .inv .1) (fullSlots (l .out) (l .slot) k) (fullSlots (a .out .now) (l .slot + 64) (a .to - (l .slot + 64)))
+        blanks-space (l .inv .1) (fullSlots (l .out) (l .slot) k)
+            (fullSlots (a .out .now) (l .slot + 64) (a .to - (l .slot + 64)))
             (split d) (s .pre .1 .1),
       ),
     )
@@ -94,7 +101,8 @@ loop-again c =
     let l = d .before .loop in
     let ys : List ℕ = fullSlots (l .out) (l .slot) (count (d .before)) in (
       omega (arith, l .inv .0),
-      blanks-part (l .inv .1) ys _ (split d) (p .put-word .last .0) _ (p .put-word .ensures .1) (p .put-word .ensures .0),
+      blanks-part (l .inv .1) ys _ (split d) (p .put-word .last .0) _ (p .put-word .ensures .1)
+          (p .put-word .ensures .0),
     )
 
 same-length : tie.Need-same-length Inv-loop μ-loop

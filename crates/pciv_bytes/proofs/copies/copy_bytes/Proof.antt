@@ -1,4 +1,4 @@
--- Proves copies::copy_bytes. Invariant: writing all of src from `at` on is writing the rest of src
+-- Proves pciv_bytes::copies::copy_bytes. Invariant: writing all of src from `at` on is writing the rest of src
 -- from at + i on. Falls: length src - i.
 use Prim.Native.Nat.{ℕ, _+_, _-_, _≤_}
 use native.Mathlib.Nat.{add-zero}

@@ -1,4 +1,4 @@
--- Proves copies::fill_zero. Invariant: writing all zeros from `from` on is writing the rest from i on.
+-- Proves pciv_bytes::copies::fill_zero. Invariant: writing all zeros from `from` on is writing the rest from i on.
 -- Falls: to - i.
 use Prim.Native.Nat.{_-_, _≤_}
 use native.Mathlib.Omega.{arith}

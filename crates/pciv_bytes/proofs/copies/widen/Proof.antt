@@ -1,4 +1,4 @@
--- Proves copies::widen. Invariant: writing all of a from 0 on is writing the rest of a from i on.
+-- Proves pciv_bytes::copies::widen. Invariant: writing all of a from 0 on is writing the rest of a from i on.
 -- Falls: length a - i.
 use Prim.Native.Nat.{_+_, _-_, _≤_}
 use native.Mathlib.Omega.{arith}

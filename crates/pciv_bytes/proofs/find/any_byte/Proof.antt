@@ -1,4 +1,5 @@
--- Proves find::any_byte. Invariant: what was found, or is found from i on, is what is found in all. Falls: to - i.
+-- Proves pciv_bytes::find::any_byte. Invariant: what was found, or is found from i on, is what is found in all.
+-- Falls: to - i.
 use mathlib.Core.Path.{_≡_, refl, sym, _∙_}
 use mathlib.Core.Bool.{Bool, _||_}
 use mathlib.Core.List.{List}

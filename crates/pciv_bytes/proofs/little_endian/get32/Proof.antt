@@ -1,4 +1,4 @@
--- Proves little_endian::get32: four bytes fit 32 bits.
+-- Proves pciv_bytes::little_endian::get32: four bytes fit 32 bits.
 use native.Mathlib.Omega.{arith}
 use borrow.Author.Needs.{needs}
 use Rattle.pciv_bytes.proofs.LittleEndianLaws.{get-lt}

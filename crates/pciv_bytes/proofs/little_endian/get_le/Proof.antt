@@ -1,4 +1,4 @@
--- Proves little_endian::get_le. Invariant: x is the number of the first i bytes. Falls: w - i.
+-- Proves pciv_bytes::little_endian::get_le. Invariant: x is the number of the first i bytes. Falls: w - i.
 use Prim.Native.Nat.{_+_, _-_, _≤_}
 use native.Mathlib.Omega.{arith}
 use mathlib.Core.Path.{_≡_, sym, _∙_}

@@ -1,4 +1,4 @@
--- Proves little_endian::put_le. Invariant: writing x from `at` on is writing y, what is left of x,
+-- Proves pciv_bytes::little_endian::put_le. Invariant: writing x from `at` on is writing y, what is left of x,
 -- from at + i on. Falls: w - i.
 use Prim.Native.Nat.{_+_, _-_, _≤_}
 use native.Mathlib.Omega.{arith}

@@ -1,6 +1,6 @@
 -- Proves pciv_check::pair::check_pair: the first file, the second, then their sizes.
 use mathlib.Core.Path.{_≡_, sym, ap, _∙_}
-use Rattle.pciv_format.specs.Refusals.{done, refused}
+use Rattle.pciv_format.specs.Refusals.{done}
 use Rattle.pciv_format.specs.Check.{checkFile}
 use Rattle.pciv_format.proofs.RefusalsLaws.{fileAnswer-done, fileAnswer-refused}
 use borrow.Author.Needs.{needs}
@@ -10,7 +10,8 @@ use Rattle.pciv_check.proofs.pair.check_pair.Statement.{statement}
 use Rattle.pciv_check.proofs.pair.check_pair.Tie as tie
 
 -- the counts of the first file, and of the second
-first-done : (c : tie.After-first2) → checkFile 1 (c .before .before .before .before .before .args .a .now) ≡ done (c .first2 .given .0 .0)
+first-done : (c : tie.After-first2)
+    → checkFile 1 (c .before .before .before .before .before .args .a .now) ≡ done (c .first2 .given .0 .0)
 first-done c = fileAnswer-done _ _ (sym (c .first2 .given .1) ∙ c .before .before .check-with .ensures)
 
 second-done : (c : tie.After-second2)
@@ -45,8 +46,8 @@ returns c =
 returns-2 : tie.Need-returns-2
 returns-2 c =
     let f = c .before in
-    ap pairAnswer
-    (sym (pairCounts-first _ _ _ (fileAnswer-refused _ _ (sym (f .first .given .1) ∙ f .before .before .check-with .ensures))))
+    let no = fileAnswer-refused _ _ (sym (f .first .given .1) ∙ f .before .before .check-with .ensures) in
+    ap pairAnswer (sym (pairCounts-first _ _ _ no))
 
 returns-3 : tie.Need-returns-3
 returns-3 c =

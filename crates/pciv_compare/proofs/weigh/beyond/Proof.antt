@@ -1,10 +1,10 @@
--- Proves weigh::beyond: in each case it is that of the case.
+-- Proves pciv_compare::weigh::beyond: in each case it is that of the case.
 use mathlib.Core.Path.{_≡_}
 use Prim.Native.Nat.{ℕ}
 use native.Mathlib.Omega.{arith}
 use lib.Dec.{leb}
 use borrow.Author.Needs.{needs}
-use Rattle.pciv_bytes.proofs.SumLaws.{boolByte-flag}
+use Rattle.pciv_bytes.proofs.RangesLaws.{boolByte-flag}
 use Rattle.pciv_compare.specs.Weigh.{beyondOf}
 use Rattle.pciv_compare.specs.declared.weigh.Weight.{Weight}
 use Rattle.pciv_compare.proofs.weigh.beyond.Statement.{statement}

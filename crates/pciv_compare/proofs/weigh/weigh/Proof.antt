@@ -1,9 +1,9 @@
--- Proves weigh::weigh: in each case the bytes, the entries or both tell what the distances weigh.
+-- Proves pciv_compare::weigh::weigh: in each case the bytes, the entries or both tell what the distances weigh.
 use mathlib.Core.Path.{_≡_, refl}
 use Prim.Native.Nat.{ℕ, _+_, _^_, _≤_}
 use native.Mathlib.Omega.{arith}
 use borrow.Author.Needs.{needs}
-use Rattle.pciv_bytes.specs.declared.extremes.Extremes.{Extremes}
+use Rattle.pciv_passes.specs.declared.extremes.Extremes.{Extremes}
 use Rattle.pciv_format.specs.Parts.{Parts, valueOf}
 use Rattle.pciv_format.specs.Check.{fileParts}
 use Rattle.pciv_compare.specs.Weigh.{weightOf, Weighed}
@@ -38,7 +38,8 @@ distance-is c =
     let pre = k .before .before .pre in
     weighed-distance (first k) (second k) refl (pre .first .parts) (pre .second .parts)
     (λ i. k .before .shared-slice-known .given (40 + i) .fits) (λ i. k .shared-slice-known2 .given (40 + i) .fits)
-    (c .before .weigh-bytes .result) (c .weigh-overflow .result) (c .before .weigh-bytes .ensures) (c .weigh-overflow .ensures)
+    (c .before .weigh-bytes .result) (c .weigh-overflow .result) (c .before .weigh-bytes .ensures)
+    (c .weigh-overflow .ensures)
 
 distance-le : (c : tie.After-weigh-overflow)
     → (let r = c .before .weigh-bytes .result in
@@ -48,8 +49,9 @@ distance-le c =
     let k = c .before .before .before .before in
     let s = k .before .before in
     let a = s .args in
-    parts-fit (a .a .now) (a .b .now) (a .n) (a .ka) (a .kb) (s .pre) _ (λ i. k .before .shared-slice-known .given i .fits)
-    (λ i. k .shared-slice-known2 .given i .fits) Distance (distance-is c) .1
+    parts-fit (a .a .now) (a .b .now) (a .n) (a .ka) (a .kb) (s .pre) _
+    (λ i. k .before .shared-slice-known .given i .fits) (λ i. k .shared-slice-known2 .given i .fits) Distance
+    (distance-is c) .1
 
 enum-told : tie.Need-enum-told
 enum-told c = search needs

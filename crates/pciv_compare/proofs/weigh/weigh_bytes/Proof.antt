@@ -1,9 +1,9 @@
--- Proves weigh::weigh_bytes: the parts that are lent are the primary arrays.
+-- Proves pciv_compare::weigh::weigh_bytes: the parts that are passed are the primary arrays.
 use mathlib.Core.Path.{sym, _∙_}
 use native.Mathlib.Nat.{add-sub-cancel-left}
 use native.Mathlib.Omega.{arith}
 use borrow.Author.Needs.{needs}
-use Rattle.pciv_map.proofs.MapLaws.{primary-inside, primary-length}
+use Rattle.pciv_format.proofs.MapLaws.{primary-inside, primary-length}
 use Rattle.pciv_compare.proofs.WeighLaws.{weighed-bytes}
 use Rattle.pciv_compare.proofs.weigh.weigh_bytes.Statement.{statement}
 use Rattle.pciv_compare.proofs.weigh.weigh_bytes.Tie as tie
@@ -40,15 +40,17 @@ add-extremes-requires c κs =
     let s = c .before .before .before .before in
     let a = s .args in
     let first = primary-length (a .a .now) (a .n) (a .ka) (s .pre .first) in
-    rw (add-sub-cancel-left 40 (a .n))
-    (first ∙ sym (primary-length (a .b .now) (a .n) (a .kb) (s .pre .second)), omega (arith, first, s .pre .first .header .small))
+    rw (add-sub-cancel-left 40 (a .n)) (
+      first ∙ sym (primary-length (a .b .now) (a .n) (a .kb) (s .pre .second)),
+      omega (arith, first, s .pre .first .header .small),
+    )
 
 returns : tie.Need-returns
 returns c =
     let s = c .before .before .before .before .before in
     let a = s .args in
-    weighed-bytes (a .a .now) (a .b .now) (a .n) (a .ka) (a .kb) (s .pre .first) (s .pre .second) (a .of) (c .add-extremes .result)
-    (rw (add-sub-cancel-left 40 (a .n)) at (c .add-extremes .ensures))
+    weighed-bytes (a .a .now) (a .b .now) (a .n) (a .ka) (a .kb) (s .pre .first) (s .pre .second) (a .of)
+    (c .add-extremes .result) (rw (add-sub-cancel-left 40 (a .n)) at (c .add-extremes .ensures))
 
 pub weigh-bytes-spec : {M : Type 1} → statement M
 weigh-bytes-spec =

@@ -1,4 +1,4 @@
--- Proves weigh::weigh_entries. Invariant: sum is that of the first j entries. Falls: k - j.
+-- Proves pciv_compare::weigh::weigh_entries. Invariant: sum is that of the first j entries. Falls: k - j.
 use mathlib.Core.Path.{ap, _∙_}
 use Prim.Native.Nat.{ℕ, _-_}
 use native.Mathlib.Nat.{sub-zero}
@@ -8,7 +8,7 @@ use borrow.Author.Needs.{needs}
 use Rattle.pciv_bytes.specs.Ranges.{sumFrom}
 use Rattle.pciv_bytes.proofs.SumLaws.{Added, added-none, added-one, added-all}
 use Rattle.pciv_format.specs.Check.{fileParts}
-use Rattle.pciv_map.proofs.MapLaws.{entry-inside}
+use Rattle.pciv_format.proofs.MapLaws.{entry-inside}
 use Rattle.pciv_compare.specs.Weigh.{beyondOf}
 use Rattle.pciv_compare.specs.declared.weigh.Weight.{Weight}
 use Rattle.pciv_compare.proofs.WeighLaws.{entries-le}

@@ -1,4 +1,4 @@
--- Proves weigh::weigh_overflow.
+-- Proves pciv_compare::weigh::weigh_overflow.
 use mathlib.Core.Path.{refl}
 use Prim.Native.Nat.{_+_, _-_, _≤_}
 use native.Mathlib.Omega.{arith}
@@ -15,8 +15,8 @@ told : (c : tie.After-weigh-entries2)
     let shared = c .before .before .weigh-shared .result in
     let all = c .before .weigh-entries .result + c .weigh-entries2 .result in
     (shared ≤ all)
-    × Weighed (beyondOf (a .of)) (valueOf (fileParts (a .a .now) (a .n) (a .ka))) (valueOf (fileParts (a .b .now) (a .n) (a .kb))) (a .n)
-    (record { least = shared; most = all - shared }))
+    × Weighed (beyondOf (a .of)) (valueOf (fileParts (a .a .now) (a .n) (a .ka)))
+    (valueOf (fileParts (a .b .now) (a .n) (a .kb))) (a .n) (record { least = shared; most = all - shared }))
 told c =
     let known = c .before .before .before in
     let s = known .before .before in

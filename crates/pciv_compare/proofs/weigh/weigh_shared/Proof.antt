@@ -1,5 +1,5 @@
--- Proves weigh::weigh_shared. Invariant: sum is that of the first j entries of the first map, and the entries of the
--- second before t are passed. Falls: ka - j.
+-- Proves pciv_compare::weigh::weigh_shared. Invariant: sum is that of the first j entries of the first map, and the
+-- entries of the second before t are passed. Falls: ka - j.
 use mathlib.Core.Path.{ap, _∙_}
 use Prim.Native.Nat.{ℕ, _-_}
 use native.Mathlib.Nat.{sub-zero}
@@ -9,8 +9,8 @@ use Rattle.pciv_bytes.specs.Ranges.{sumFrom}
 use Rattle.pciv_bytes.proofs.SumLaws.{Added, added-none, added-one, added-all}
 use Rattle.pciv_format.specs.Parts.{Parts}
 use Rattle.pciv_format.specs.Check.{fileParts}
-use Rattle.pciv_merge.proofs.CombineLaws.{shrinks-minimum}
-use Rattle.pciv_merge.proofs.LedLaws.{LedAt, led-start, led-next}
+use Rattle.pciv_arith_merge.proofs.CombineLaws.{shrinks-minimum}
+use Rattle.pciv_arith_merge.proofs.LedLaws.{LedAt, led-start, led-next}
 use Rattle.pciv_compare.specs.Weigh.{beyondOf, sharedAt}
 use Rattle.pciv_compare.specs.declared.weigh.Weight.{Weight}
 use Rattle.pciv_compare.proofs.WeighLaws.{combined-shared, shared-le}
@@ -40,7 +40,8 @@ second s = fileParts (s .args .b .now) (s .args .n) (s .args .kb)
 loop-holds : tie.Need-loop-holds Inv-loop μ-loop
 loop-holds c =
     let s = c .before .before in
-    (led-start (first s) (second s), rw sub-zero at (added-none (term (s .args .of) (first s) (second s)) 0 (s .args .ka) (omega arith)))
+    let none = added-none (term (s .args .of) (first s) (second s)) 0 (s .args .ka) (omega arith) in
+    (led-start (first s) (second s), rw sub-zero at none)
 
 combine-entry-requires : tie.Need-combine-entry-requires Inv-loop μ-loop
 combine-entry-requires c κs =
@@ -57,7 +58,8 @@ loop-again c =
     let s = l .before .before .before in
     let here = f .before .loop-test .taken in
     let r = f .combine-entry .result in
-    let is = combined-shared (first s) (second s) (s .pre .first .parts) (l .loop .j) here r (f .combine-entry .ensures) in (
+    let found = f .combine-entry .ensures in
+    let is = combined-shared (first s) (second s) (s .pre .first .parts) (l .loop .j) here r found in (
       led-next (first s) (second s) (l .loop .j) (r .next) here (f .combine-entry .ensures .before),
       rw (c .beyond .ensures ∙ ap (λ (x : ℕ). beyondOf (s .args .of) x) is) (added-one (l .loop .inv .1) here),
     )

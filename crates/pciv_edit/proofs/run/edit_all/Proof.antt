@@ -1,12 +1,13 @@
--- Proves pciv_edit::run::edit_all. Invariant: the buffer holds a checked map of n slots and `count` entries, and all edits
--- from the start do what the rest does from here. Falls: length slots - i.
+-- Proves pciv_edit::run::edit_all. Invariant: the buffer holds a checked map of n slots and `count` entries, and all
+-- edits from the start do what the rest does from here. Falls: length slots - i.
 use mathlib.Core.Path.{_≡_, refl, _∙_}
 use Prim.Native.Nat.{_+_, _-_, _*_, _≤_}
 use native.Mathlib.Omega.{arith}
 use lib.ListN.{length}
 use Rattle.pciv_format.specs.Check.{CheckedMap}
 use Rattle.pciv_format.specs.Edit.{answerLen, editsOf}
-use Rattle.pciv_edit.proofs.RunLaws.{Left, left-start, left-more, left-end, editAt, editsFrom, edits-more, edits-end}
+use Rattle.pciv_edit.proofs.EditListLaws.{Left, left-start, left-more, left-end, editAt, editsFrom}
+use Rattle.pciv_edit.proofs.EditListLaws.{edits-more, edits-end}
 use borrow.Author.Needs.{needs}
 use Rattle.pciv_edit.proofs.run.edit_all.Statement.{statement}
 use Rattle.pciv_edit.proofs.run.edit_all.Tie as tie
@@ -26,7 +27,8 @@ loop-holds : tie.Need-loop-holds Inv-loop μ-loop
 loop-holds c =
     let s = c .before .before .before .before in
     let a = s .args in
-    (omega arith, refl, refl, s .pre .0, left-start (a .slots .now) (a .distances .now) (a .buffer .now) (a .answers .now))
+    let start = left-start (a .slots .now) (a .distances .now) (a .buffer .now) (a .answers .now) in
+    (omega arith, refl, refl, s .pre .0, start)
 
 mul-edit-next : tie.Need-mul-edit-next Inv-loop μ-loop
 mul-edit-next c = search needs
@@ -69,9 +71,11 @@ loop-again c =
       next .edit-next .kept .0 ∙ l .inv .1,
       next .edit-next .kept .1 .0 ∙ l .inv .2,
       done .0,
-      left-more (a .buffer .now) (a .answers .now) (editsOf xs ds) (l .buffer) (l .answers) (answerLen * i) (editsFrom xs ds i)
-          (editAt xs ds i) (editsFrom xs ds (i + 1)) (edits-more xs ds i (loop .loop-test .taken)) (l .inv .4)
-          (next .edit-next .last .0) (next .edit-next .last .1 .0) (done .1 .0) (done .1 .1) (answerLen * (i + 1)) (omega arith),
+      left-more (a .buffer .now) (a .answers .now) (editsOf xs ds) (l .buffer) (l .answers) (answerLen * i)
+          (editsFrom xs ds i) (editAt xs ds i) (editsFrom xs ds (i + 1))
+          (edits-more xs ds i (loop .loop-test .taken)) (l .inv .4)
+          (next .edit-next .last .0) (next .edit-next .last .1 .0) (done .1 .0) (done .1 .1) (answerLen * (i + 1))
+          (omega arith),
     )
 
 same-length : tie.Need-same-length Inv-loop μ-loop
@@ -86,8 +90,8 @@ returns c =
     let a = c .before .before .before .before .before .before .args in
     let xs = a .slots .now in
     let ds = a .distances .now in
-    left-end (a .buffer .now) (a .answers .now) (editsOf xs ds) (l .buffer) (l .answers) (answerLen * l .i) (editsFrom xs ds (l .i))
-    (edits-end xs ds (l .i) (c .loop-test .left)) (l .inv .4)
+    left-end (a .buffer .now) (a .answers .now) (editsOf xs ds) (l .buffer) (l .answers) (answerLen * l .i)
+    (editsFrom xs ds (l .i)) (edits-end xs ds (l .i) (c .loop-test .left)) (l .inv .4)
 
 pub edit-all-spec : {M : Type 1} → statement M
 edit-all-spec =

@@ -1,32 +1,41 @@
 -- Proves pciv_edit::run::edit_list: the check, the two lists' lengths, the list of answers' length, then the run.
-use mathlib.Core.Path.{_≡_, sym, ap, _∙_}
+use mathlib.Core.Path.{_≡_, refl, sym, _∙_}
 use Prim.Native.Nat.{_*_, _≤_}
 use native.Mathlib.Omega.{arith}
 use lib.ListN.{length}
-use Rattle.pciv_format.specs.Refusals.{done, refused, numberAnswer}
+use Rattle.pciv_format.specs.Refusals.{done, refused}
 use Rattle.pciv_format.specs.Check.{checkBuffer}
 use Rattle.pciv_format.specs.Edit.{answerLen}
 use Rattle.pciv_format.proofs.RefusalsLaws.{fileAnswer-done, fileAnswer-refused}
 use Rattle.pciv_format.proofs.CheckLaws.{done-buffer}
-use Rattle.pciv_edit.proofs.RunLaws.{list-refused, list-fewer-slots, list-fewer-distances, list-short, list-done, refused-run, made-run}
+use Rattle.pciv_edit.proofs.EditListLaws.{list-refused, list-fewer-slots, list-fewer-distances}
+use Rattle.pciv_edit.proofs.EditListLaws.{list-short, refused-run, made-run}
 use borrow.Author.Needs.{needs}
 use Rattle.pciv_edit.proofs.run.edit_list.Statement.{statement}
 use Rattle.pciv_edit.proofs.run.edit_list.Tie as tie
 
-is-refused : (c : tie.After-checked) → checkBuffer 1 (c .before .before .before .before .before .before .before .before .args .buffer .now) ≡ refused (c .checked .given .0 .0)
+-- the start, from the places after the check
+abbrev from-check : tie.After-check-buffer → tie.Start
+from-check c = c .before .before .before .before .before .before
+
+is-refused : (c : tie.After-checked)
+    → checkBuffer 1 (from-check (c .before .before) .args .buffer .now) ≡ refused (c .checked .given .0 .0)
 is-refused c = fileAnswer-refused _ _ (sym (c .checked .given .1) ∙ c .before .before .check-buffer .ensures)
 
-is-map : (c : tie.After-checked2) → checkBuffer 1 (c .before .before .before .before .before .before .before .before .args .buffer .now) ≡ done (c .checked2 .given .0 .0)
+is-map : (c : tie.After-checked2)
+    → checkBuffer 1 (from-check (c .before .before) .args .buffer .now) ≡ done (c .checked2 .given .0 .0)
 is-map c = fileAnswer-done _ _ (sym (c .checked2 .given .1) ∙ c .before .before .check-buffer .ensures)
 
 -- as many distances as slots
 as-many : (c : tie.Else2)
-    → (let a = c .before .before .before .before .before .before .before .before .before .before .before .args in length (a .slots .now) ≡ length (a .distances .now))
+    → (let a = from-check (c .before .before .before .before .before) .args in
+    length (a .slots .now) ≡ length (a .distances .now))
 as-many c = omega (arith, c .if2 .left, c .before .if1 .left)
 
 -- the answers fit
 fits : (c : tie.Else3)
-    → (let a = c .before .before .before .before .before .before .before .before .before .before .before .before .args in answerLen * length (a .slots .now) ≤ length (a .answers .now))
+    → (let a = from-check (c .before .before .before .before .before .before) .args in
+    answerLen * length (a .slots .now) ≤ length (a .answers .now))
 fits c = omega (arith, c .if3 .left)
 
 check-buffer-requires : tie.Need-check-buffer-requires
@@ -38,8 +47,8 @@ enum-known-checked c = search needs
 enum-known-checked-2 : tie.Need-enum-known-checked-2
 enum-known-checked-2 c = search needs
 
-refused-requires : tie.Need-refused-requires
-refused-requires c κs = search needs
+refuse-number-requires : tie.Need-refuse-number-requires
+refuse-number-requires c κs = search needs
 
 same-length : tie.Need-same-length
 same-length c = search needs
@@ -47,12 +56,15 @@ same-length c = search needs
 returns : tie.Need-returns
 returns c =
     let told = c .before .before .before in
-    let a = told .before .before .before .before .before .before .before .before .args in
-    let o = list-fewer-slots (a .buffer .now) (a .slots .now) (a .distances .now) _ (is-map told) (length (a .answers .now)) (c .before .if1 .taken) in
-    (c .refused .ensures ∙ ap numberAnswer (sym o), refused-run (a .buffer .now) (a .slots .now) (a .distances .now) _ (a .answers .now) o)
+    let a = from-check (told .before .before) .args in
+    let b = a .buffer .now in
+    let xs = a .slots .now in
+    let ds = a .distances .now in
+    refused-run b xs ds _ (a .answers .now) _ (c .refuse-number .ensures)
+    (list-fewer-slots b xs ds _ (is-map told) (length (a .answers .now)) (c .before .if1 .taken))
 
-refused-requires-2 : tie.Need-refused-requires-2
-refused-requires-2 c κs = search needs
+refuse-number-requires-2 : tie.Need-refuse-number-requires-2
+refuse-number-requires-2 c κs = search needs
 
 same-length-2 : tie.Need-same-length-2
 same-length-2 c = search needs
@@ -60,12 +72,15 @@ same-length-2 c = search needs
 returns-2 : tie.Need-returns-2
 returns-2 c =
     let told = c .before .before .before .before in
-    let a = told .before .before .before .before .before .before .before .before .args in
-    let o = list-fewer-distances (a .buffer .now) (a .slots .now) (a .distances .now) _ (is-map told) (length (a .answers .now)) (c .before .if2 .taken) in
-    (c .refused2 .ensures ∙ ap numberAnswer (sym o), refused-run (a .buffer .now) (a .slots .now) (a .distances .now) _ (a .answers .now) o)
+    let a = from-check (told .before .before) .args in
+    let b = a .buffer .now in
+    let xs = a .slots .now in
+    let ds = a .distances .now in
+    refused-run b xs ds _ (a .answers .now) _ (c .refuse-number2 .ensures)
+    (list-fewer-distances b xs ds _ (is-map told) (length (a .answers .now)) (c .before .if2 .taken))
 
-refused-requires-3 : tie.Need-refused-requires-3
-refused-requires-3 c κs = search needs
+refuse-number-requires-3 : tie.Need-refuse-number-requires-3
+refuse-number-requires-3 c κs = search needs
 
 same-length-3 : tie.Need-same-length-3
 same-length-3 c = search needs
@@ -74,11 +89,13 @@ returns-3 : tie.Need-returns-3
 returns-3 c =
     let short = c .before in
     let told = short .before .before .before .before in
-    let a = told .before .before .before .before .before .before .before .before .args in
-    let o =
-    list-short (a .buffer .now) (a .slots .now) (a .distances .now) _ (is-map told) (length (a .answers .now)) (as-many (short .before))
-    (omega (arith, short .if3 .taken)) in
-    (c .refused3 .ensures ∙ ap numberAnswer (sym o), refused-run (a .buffer .now) (a .slots .now) (a .distances .now) _ (a .answers .now) o)
+    let a = from-check (told .before .before) .args in
+    let b = a .buffer .now in
+    let xs = a .slots .now in
+    let ds = a .distances .now in
+    refused-run b xs ds _ (a .answers .now) _ (c .refuse-number3 .ensures)
+    (list-short b xs ds _ (is-map told) (length (a .answers .now)) (as-many (short .before))
+    (omega (arith, short .if3 .taken)))
 
 edit-all-requires : tie.Need-edit-all-requires
 edit-all-requires c κs =
@@ -91,9 +108,12 @@ same-length-4 c = search needs
 returns-4 : tie.Need-returns-4
 returns-4 c =
     let told = c .before in
-    let a = told .before .before .before .before .before .before .before .before .args in
-    let o = list-refused (a .buffer .now) (a .slots .now) (a .distances .now) _ (is-refused told) (length (a .answers .now)) in
-    (ap numberAnswer (sym o), refused-run (a .buffer .now) (a .slots .now) (a .distances .now) _ (a .answers .now) o)
+    let a = from-check (told .before .before) .args in
+    let b = a .buffer .now in
+    let xs = a .slots .now in
+    let ds = a .distances .now in
+    refused-run b xs ds _ (a .answers .now) _ refl
+    (list-refused b xs ds _ (is-refused told) (length (a .answers .now)))
 
 same-length-5 : tie.Need-same-length-5
 same-length-5 c = search needs
@@ -107,17 +127,13 @@ returns-5 c =
     let fit = run .before .before .before in
     let told = fit .before .before .before .before in
     let known = told .before .before .before .before .before in
-    let s = known .before .before .before in
-    let a = s .args in
-    let is = is-map told in
-    let same = as-many (fit .before) in
-    let made =
-    made-run (a .buffer .now) (a .slots .now) (a .distances .now) (λ i. known .before .before .slice-known .given i .fits)
-    (λ i. (let h = known .shared-slice-known2 .given i .fits in omega (arith, h))) _ is same (a .answers .now) (fits fit) in (
-      ap numberAnswer
-          (sym (list-done (a .buffer .now) (a .slots .now) (a .distances .now) _ is (length (a .answers .now)) same (fits fit))),
-      (run .edit-all .ensures .0 ∙ made .0, run .edit-all .ensures .1 ∙ made .1),
-    )
+    let a = from-check (told .before .before) .args in
+    let b = a .buffer .now in
+    let xs = a .slots .now in
+    let ds = a .distances .now in
+    made-run b xs ds (λ i. known .before .before .slice-known .given i .fits)
+    (λ i. (let h = known .shared-slice-known2 .given i .fits in omega (arith, h))) _ (is-map told)
+    (as-many (fit .before)) (a .answers .now) (fits fit) _ _ (run .edit-all .ensures .0) (run .edit-all .ensures .1)
 
 pub edit-list-spec : {M : Type 1} → statement M
 edit-list-spec =
@@ -126,13 +142,13 @@ edit-list-spec =
     check-buffer-requires
     enum-known-checked
     enum-known-checked-2
-    refused-requires
+    refuse-number-requires
     same-length
     returns
-    refused-requires-2
+    refuse-number-requires-2
     same-length-2
     returns-2
-    refused-requires-3
+    refuse-number-requires-3
     same-length-3
     returns-3
     edit-all-requires

@@ -4,9 +4,11 @@ use native.Mathlib.Omega.{arith}
 use lib.Seq.{sets}
 use Rattle.pciv_format.specs.Refusals.{done, refused}
 use Rattle.pciv_format.specs.Edit.{Edit, editOutcome}
+use Rattle.pciv_format.specs.declared.EditAnswer.{EditAnswer}
 use Rattle.pciv_format.proofs.RefusalsLaws.{fileAnswer-done, fileAnswer-refused}
-use Rattle.pciv_edit.proofs.CaseLaws.{buffer-refused}
-use Rattle.pciv_edit.proofs.RunLaws.{accepted-checked, cells-refused, cells-done}
+use Rattle.pciv_format.proofs.LimitLaws.{buffer-refused}
+use Rattle.pciv_format.proofs.EditCaseLaws.{accepted-checked}
+use Rattle.pciv_edit.proofs.EditListLaws.{cells-refused, cells-done}
 use borrow.Author.Needs.{needs}
 use Rattle.pciv_edit.proofs.run.edit_next.Statement.{statement}
 use Rattle.pciv_edit.proofs.run.edit_next.Tie as tie
@@ -17,12 +19,16 @@ the-edit s = record { slot = s .args .slot; distance = s .args .distance }
 is-refused : (c : tie.After-told)
     → (let s = c .before .before .before .before .before .before .before .before in
     editOutcome (s .args .buffer .now) (the-edit s) ≡ refused (c .told .given .0 .0))
-is-refused c = fileAnswer-refused _ _ (sym (c .told .given .1) ∙ c .before .before .before .before .edit-checked .ensures .0)
+is-refused c =
+    let answer = c .before .before .before .before .edit-checked .ensures .0 in
+    fileAnswer-refused _ _ (sym (c .told .given .1) ∙ ap (λ (r : EditAnswer). r .outcome) answer)
 
 is-done : (c : tie.After-told2)
     → (let s = c .before .before .before .before .before .before .before .before in
     editOutcome (s .args .buffer .now) (the-edit s) ≡ done (c .told2 .given .0 .0))
-is-done c = fileAnswer-done _ _ (sym (c .told2 .given .1) ∙ c .before .before .before .before .edit-checked .ensures .0)
+is-done c =
+    let answer = c .before .before .before .before .edit-checked .ensures .0 in
+    fileAnswer-done _ _ (sym (c .told2 .given .1) ∙ ap (λ (r : EditAnswer). r .outcome) answer)
 
 edit-checked-requires : tie.Need-edit-checked-requires
 edit-checked-requires c κs = search needs
@@ -55,7 +61,10 @@ returns c =
     let is = is-refused told in
     let same = edit .edit-checked .ensures .1 ∙ buffer-refused (a .buffer .now) (the-edit s) _ is in (
       rw same (s .pre .0),
-      (edit .edit-checked .ensures .1, put .put-cells .ensures ∙ ap (sets (a .answers .now) (a .at)) (cells-refused _ _ is)),
+      (
+        edit .edit-checked .ensures .1,
+        put .put-cells .ensures ∙ ap (sets (a .answers .now) (a .at)) (cells-refused _ _ is),
+      ),
     )
 
 same-length-3 : tie.Need-same-length-3
@@ -74,9 +83,12 @@ returns-2 c =
     let a = s .args in
     let is = is-done told in (
       rw (edit .edit-checked .ensures .1)
-          (accepted-checked (a .buffer .now) (a .n) (a .k) (λ i. known .slice-known .given i .fits) (s .pre .0) (the-edit s)
-          (omega (arith, s .fits .distance)) _ is),
-      (edit .edit-checked .ensures .1, put .put-cells2 .ensures ∙ ap (sets (a .answers .now) (a .at)) (cells-done _ _ is)),
+          (accepted-checked (a .buffer .now) (a .n) (a .k) (λ i. known .slice-known .given i .fits) (s .pre .0)
+          (the-edit s) (omega (arith, s .fits .distance)) _ is),
+      (
+        edit .edit-checked .ensures .1,
+        put .put-cells2 .ensures ∙ ap (sets (a .answers .now) (a .at)) (cells-done _ _ is),
+      ),
     )
 
 pub edit-next-spec : {M : Type 1} → statement M

@@ -1,10 +1,8 @@
--- Proves cursor::next_slot.
+-- Proves pciv_map::cursor::next_slot.
 use mathlib.Core.Path.{sym, _∙_}
-use native.Mathlib.Omega.{arith}
 use Rattle.pciv_format.specs.Check.{fileParts}
 use Rattle.pciv_map.proofs.CursorLaws.{nextSlot-entry, nextSlot-none}
-use Rattle.pciv_map.proofs.MapLaws.{entry-inside}
-use borrow.Author.Needs.{needs}
+use Rattle.pciv_format.proofs.MapLaws.{entry-inside}
 use Rattle.pciv_map.proofs.cursor.next_slot.Statement.{statement}
 use Rattle.pciv_map.proofs.cursor.next_slot.Tie as tie
 
@@ -16,7 +14,8 @@ entry-slot-requires c κs =
 returns : tie.Need-returns
 returns c =
     let a = c .before .before .before .args in
-    c .entry-slot .ensures ∙ sym (nextSlot-entry (fileParts (a .file .now) (a .n) (a .k)) (a .j) (c .before .if1 .taken))
+    let P = fileParts (a .file .now) (a .n) (a .k) in
+    c .entry-slot .ensures ∙ sym (nextSlot-entry P (a .j) (c .before .if1 .taken))
 
 returns-2 : tie.Need-returns-2
 returns-2 c =

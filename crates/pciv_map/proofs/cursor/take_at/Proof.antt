@@ -1,4 +1,4 @@
--- Proves cursor::take_at: the slot is inline, or the cursor is at its entry.
+-- Proves pciv_map::cursor::take_at: the slot is inline, or the cursor is at its entry.
 use mathlib.Core.Path.{sym, _∙_}
 use Prim.Native.Nat.{ℕ, _+_, _<_}
 use native.Mathlib.Omega.{arith}
@@ -6,7 +6,7 @@ use Rattle.pciv_format.specs.Parts.{Parts}
 use Rattle.pciv_format.specs.Check.{fileParts}
 use Rattle.pciv_format.proofs.PartsLaws.{valueOf-inline}
 use Rattle.pciv_map.proofs.CursorLaws.{cursor-at, cursor-more, cursor-inline, value-at}
-use Rattle.pciv_map.proofs.MapLaws.{entry-inside, primary-inside}
+use Rattle.pciv_format.proofs.MapLaws.{entry-inside, primary-inside}
 use borrow.Author.Needs.{needs}
 use Rattle.pciv_map.proofs.cursor.take_at.Statement.{statement}
 use Rattle.pciv_map.proofs.cursor.take_at.Tie as tie
@@ -35,14 +35,18 @@ returns c =
     let P = parts s in
     record {
       is = sym (valueOf-inline P (s .pre .0 .parts) (s .args .slot) (c .if1 .taken));
-      next = cursor-inline P (s .pre .0 .parts) (bytes k) (s .args .j) (s .args .slot) (s .pre .1 .1) (s .pre .1 .0) (c .if1 .taken);
+      next =
+          cursor-inline P (s .pre .0 .parts) (bytes k) (s .args .j) (s .args .slot) (s .pre .1 .1) (s .pre .1 .0)
+          (c .if1 .taken);
     }
 
 entry-distance-requires : tie.Need-entry-distance-requires
 entry-distance-requires c κs =
     let k = c .before .before in
     let s = k .before in
-    let at = cursor-at (parts s) (s .pre .0 .parts) (bytes k) (s .args .j) (s .args .slot) (s .pre .1 .1) (s .pre .1 .0) (c .if1 .left) in
+    let at =
+    cursor-at (parts s) (s .pre .0 .parts) (bytes k) (s .args .j) (s .args .slot) (s .pre .1 .1) (s .pre .1 .0)
+    (c .if1 .left) in
     entry-inside (s .args .file .now) (s .args .n) (s .args .k) (s .pre .0) (s .args .j) (at .0)
 
 add-t7 : tie.Need-add-t7
@@ -58,8 +62,11 @@ returns-2 c =
     let overflows = c .before .if1 .left in
     record {
       is = c .entry-distance .ensures
-          ∙ value-at P (s .pre .0 .parts) (bytes k) (s .args .j) (s .args .slot) (s .pre .1 .1) (s .pre .1 .0) overflows;
-      next = cursor-more P (s .pre .0 .parts) (bytes k) (s .args .j) (s .args .slot) (s .pre .1 .1) (s .pre .1 .0) overflows;
+          ∙ value-at P (s .pre .0 .parts) (bytes k) (s .args .j) (s .args .slot) (s .pre .1 .1) (s .pre .1 .0)
+          overflows;
+      next =
+          cursor-more P (s .pre .0 .parts) (bytes k) (s .args .j) (s .args .slot) (s .pre .1 .1) (s .pre .1 .0)
+          overflows;
     }
 
 pub take-at-spec : {M : Type 1} → statement M

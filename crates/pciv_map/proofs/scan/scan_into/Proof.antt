@@ -1,5 +1,5 @@
--- Proves scan::scan_into. Invariant: out has at its front the primary bytes, with the distances of the first j
--- entries at their slots. Falls: k - j. The list reasoning is in PatchLaws.antt.
+-- Proves pciv_map::scan::scan_into. Invariant: out has at its front the primary bytes, with the distances of the
+-- first j entries at their slots. Falls: k - j. The list reasoning is in pciv_format, PatchLaws.antt.
 use mathlib.Core.Path.{_≡_, refl, sym, ap, ap₂, _∙_}
 use Prim.Native.Nat.{_+_, _-_, _≤_}
 use native.Mathlib.Nat.{add-sub-cancel-left}
@@ -10,8 +10,8 @@ use Rattle.pciv_bytes.specs.LittleEndian.{Bytes}
 use Rattle.pciv_format.specs.Parts.{Parts}
 use Rattle.pciv_format.specs.Check.{fileParts}
 use Rattle.pciv_format.proofs.PartsLaws.{entry-good}
-use Rattle.pciv_map.proofs.PatchLaws.{plain, over, over-again, over-more, over-end}
-use Rattle.pciv_map.proofs.MapLaws.{entry-inside, primary-inside, primary-length, primary-over}
+use Rattle.pciv_format.proofs.PatchLaws.{plain, over, over-again, over-more, over-end}
+use Rattle.pciv_format.proofs.MapLaws.{entry-inside, primary-inside, primary-length, primary-over}
 use Rattle.pciv_map.proofs.scan.scan_into.Statement.{statement}
 use Rattle.pciv_map.proofs.scan.scan_into.Tie as tie
 
@@ -55,7 +55,8 @@ bytes : (c : tie.After-widen Inv-loop μ-loop) → Bytes (entry c .args .file .n
 bytes c i = c .before .before .before .before .shared-slice-known .given i .fits
 
 -- the primary bytes stand at the front of out
-widened : (c : tie.After-widen Inv-loop μ-loop) → c .widen .last .1 .0 ≡ over plain (parts c) 0 (entry c .args .out .now)
+widened : (c : tie.After-widen Inv-loop μ-loop)
+    → c .widen .last .1 .0 ≡ over plain (parts c) 0 (entry c .args .out .now)
 widened c =
     let s = entry c in
     let a = s .args in

@@ -1,4 +1,4 @@
--- Proves totals::excess_of. Invariant: sum is that of the first j entries. Falls: k - j.
+-- Proves pciv_map::totals::excess_of. Invariant: sum is that of the first j entries. Falls: k - j.
 -- No addition overflows, since each gives at most the sum of all, which is below 2 ^ 52.
 use Prim.Native.Nat.{_-_}
 use native.Mathlib.Nat.{sub-zero}
@@ -10,8 +10,8 @@ use Rattle.pciv_bytes.proofs.SumLaws.{Added, added-none, added-one, added-all}
 use Rattle.pciv_format.specs.Parts.{Parts}
 use Rattle.pciv_format.specs.Check.{fileParts}
 use Rattle.pciv_format.proofs.PartsLaws.{entry-good}
-use Rattle.pciv_map.proofs.EntryLaws.{excess}
-use Rattle.pciv_map.proofs.MapLaws.{entry-inside, excess-lt}
+use Rattle.pciv_format.proofs.EntryLaws.{excess}
+use Rattle.pciv_format.proofs.MapLaws.{entry-inside, excess-lt}
 use Rattle.pciv_map.proofs.totals.excess_of.Statement.{statement}
 use Rattle.pciv_map.proofs.totals.excess_of.Tie as tie
 

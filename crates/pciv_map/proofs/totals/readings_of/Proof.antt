@@ -1,7 +1,7 @@
--- Proves totals::readings_of: the bytes that are 0 and those that are not are all bytes.
+-- Proves pciv_map::totals::readings_of: the bytes that are 0 and those that are not are all bytes.
 use native.Mathlib.Omega.{arith}
 use borrow.Author.Needs.{needs}
-use Rattle.pciv_map.proofs.EntryLaws.{readings-rest}
+use Rattle.pciv_format.proofs.EntryLaws.{readings-rest}
 use Rattle.pciv_map.proofs.totals.readings_of.Statement.{statement}
 use Rattle.pciv_map.proofs.totals.readings_of.Tie as tie
 

@@ -1,11 +1,11 @@
--- Proves totals::sum_of: what the two passes add up to is the sum of all distances, which fits.
+-- Proves pciv_map::totals::sum_of: what the two passes add up to is the sum of all distances, which fits.
 use mathlib.Core.Path.{ap₂, _∙_}
 use Prim.Native.Nat.{ℕ, _+_}
 use native.Mathlib.Nat.{add-sub-cancel-left}
 use native.Mathlib.Omega.{arith}
 use borrow.Author.Needs.{needs}
 use Rattle.pciv_bytes.specs.LittleEndian.{Bytes}
-use Rattle.pciv_map.proofs.MapLaws.{primary-inside, sum-primary, sum-lt}
+use Rattle.pciv_format.proofs.MapLaws.{primary-inside, sum-primary, sum-lt}
 use Rattle.pciv_map.proofs.totals.sum_of.Statement.{statement}
 use Rattle.pciv_map.proofs.totals.sum_of.Tie as tie
 

@@ -6,7 +6,7 @@ use native.Mathlib.Omega.{arith}
 use lib.ListN.{length}
 use borrow.Fn.Kinds.{In}
 use borrow.Fn.PlainCycle.{Measures, is, falls, and}
-use Rattle.pciv_report.proofs.ReportLaws.{decimal-small, decimal-large, length-decimal-large}
+use Rattle.pciv_format.proofs.ReportLaws.{decimal-small, decimal-large, length-decimal-large}
 use Rattle.pciv_report.proofs.TextLaws.{put-then, put-length}
 use Rattle.pciv_report.proofs.text.put_decimal.Reads as reads
 use Rattle.pciv_report.proofs.text.put_decimal.Kinds as kinds

@@ -2,7 +2,7 @@
 use borrow.Author.Needs.{needs}
 use native.Mathlib.Omega.{arith}
 use Rattle.pciv_format.specs.Report.{field}
-use Rattle.pciv_report.proofs.ReportLaws.{length-decimal-le}
+use Rattle.pciv_format.proofs.ReportLaws.{length-decimal-le}
 use Rattle.pciv_report.proofs.TextLaws.{put-then}
 use Rattle.pciv_report.proofs.text.put_field.Statement.{statement}
 use Rattle.pciv_report.proofs.text.put_field.Tie as tie

@@ -1,0 +1,4 @@
+pub mod AddendLaws
+pub mod BytesLaws
+pub mod LargeLaws
+pub mod PutLaws

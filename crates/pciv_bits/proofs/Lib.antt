@@ -1,0 +1,4 @@
+pub mod TransposeLaws
+pub mod GatherLaws
+pub mod WordLaws
+pub mod FlipLaws

@@ -1,0 +1,40 @@
+// The header's sections "Check" and "Primary array".
+ghost use mathlib.Core.Path.{_≡_};
+ghost use Rattle.pciv_format.specs.Check.{checkFile};
+ghost use Rattle.pciv_c_cells.specs.Cells.{ToldFile, spanCells, spanLength};
+use pciv_c_cells::tell_file;
+use pciv_check::check;
+use pciv_format::FileAnswer;
+use pciv_format::HEADER_LEN;
+
+#[no_mangle]
+pub extern "C" fn pciv_check(
+    file: &[u8],
+    summary: &mut [usize; 5],
+    refusal: &mut [usize; 3],
+) -> usize
+    ensures told { λ r. ⌜ ToldFile (checkFile 1 (now (file .entry)))
+        r (now (summary .entry)) (now (summary .exit)) (now (refusal .exit)) ⌝ }
+{
+    tell_file(check(file), summary, refusal)
+}
+
+// The primary part as its start in the file and its length, since no reference is returned to C.
+#[no_mangle]
+pub extern "C" fn pciv_primary_span(file: &[u8], span: &mut [usize; 2]) -> usize
+    ensures len { λ r. ⌜ r ≡ spanLength (checkFile 1 (now (file .entry))) ⌝ }
+    ensures cells { λ _. ⌜ now (span .exit) ≡ spanCells (checkFile 1 (now (file .entry))) ⌝ }
+{
+    let checked = check(file);
+    match checked {
+        FileAnswer::Done(s) => {
+            let n = s.n;
+            *span = [HEADER_LEN, n];
+            n
+        }
+        FileAnswer::Refused(_) => {
+            *span = [0, 0];
+            0
+        }
+    }
+}

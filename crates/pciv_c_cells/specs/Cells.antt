@@ -1,0 +1,86 @@
+-- How an outcome is told to C: a number, and what the caller's cells hold afterwards (include/pciv.h).
+--   codeOf o              the call's own answer: 0 when done, else the refusal's number
+--   noCells, cellsOf r    the cells of pciv_refusal where there is no refusal, and for a refusal r
+--   refusalCells o        the same for an outcome o
+--   cellAfter o old       a number's cell: the result when done, else as it was
+--   summaryCells o old    the cells of pciv_summary: the counts when done, else as they were
+--   spanCells o, spanLength o    where the primary part starts, and its length; 0 and 0 for a refused file
+--   ToldNumber, ToldFile  all three of a call: its answer, the result's cells, the refusal's cells
+--   fileOutcome, numberOutcome, distanceOutcome, figureOutcome    the outcome that an answer stands for
+-- Laws are in proofs/CellsLaws.antt. Axioms: none.
+use mathlib.Core.Path.{_≡_}
+use Prim.Native.Nat.{ℕ}
+use mathlib.Core.List.{List, [], _∷_}
+use lib.Ieee.{Float}
+use Rattle.pciv_format.specs.Refusals.{Outcome, done, refused}
+use Rattle.pciv_format.specs.declared.Summary.{Summary}
+use Rattle.pciv_format.specs.declared.Refusal.{Refusal}
+use Rattle.pciv_format.specs.declared.FileAnswer.{FileAnswer}
+use Rattle.pciv_format.specs.declared.FileAnswer.the-variants as InFile
+use Rattle.pciv_format.specs.declared.NumberAnswer.{NumberAnswer}
+use Rattle.pciv_format.specs.declared.NumberAnswer.the-variants as InNumber
+use Rattle.pciv_format.specs.declared.DistanceAnswer.{DistanceAnswer}
+use Rattle.pciv_format.specs.declared.DistanceAnswer.the-variants as InDistance
+use Rattle.pciv_format.specs.declared.FigureAnswer.{FigureAnswer}
+use Rattle.pciv_format.specs.declared.FigureAnswer.the-variants as InFigure
+
+abbrev pub noCells : List ℕ
+noCells = 0 ∷ 0 ∷ 0 ∷ []
+
+abbrev pub cellsOf : Refusal → List ℕ
+cellsOf r = r .number ∷ r .map ∷ r .place ∷ []
+
+module _ {A : Type 0} where
+  abbrev pub codeOf : Outcome A → ℕ
+  codeOf (done a) = 0
+  codeOf (refused r) = r .number
+
+  abbrev pub refusalCells : Outcome A → List ℕ
+  refusalCells (done a) = noCells
+  refusalCells (refused r) = cellsOf r
+
+  abbrev pub cellAfter : Outcome A → A → A
+  cellAfter (done x) old = x
+  cellAfter (refused r) old = old
+
+abbrev pub summaryCells : Outcome Summary → List ℕ → List ℕ
+summaryCells (done s) old = s .n ∷ s .k ∷ s .m ∷ s .step ∷ s .len ∷ []
+summaryCells (refused r) old = old
+
+abbrev pub spanCells : Outcome Summary → List ℕ
+spanCells (done s) = 40 ∷ s .n ∷ []
+spanCells (refused r) = 0 ∷ 0 ∷ []
+
+abbrev pub spanLength : Outcome Summary → ℕ
+spanLength (done s) = s .n
+spanLength (refused r) = 0
+
+-- ---- what a call with outcome o answers and leaves: `old` stood in the result's cells, `new` stands there now
+
+pub record ToldNumber {A : Type 0} (o : Outcome A) (code : ℕ) (old new : A) (why : List ℕ) : Type 0 where
+  pub codeIs : code ≡ codeOf o
+  pub resultIs : new ≡ cellAfter o old
+  pub whyIs : why ≡ refusalCells o
+
+pub record ToldFile (o : Outcome Summary) (code : ℕ) (old new why : List ℕ) : Type 0 where
+  pub codeIs : code ≡ codeOf o
+  pub resultIs : new ≡ summaryCells o old
+  pub whyIs : why ≡ refusalCells o
+
+-- ---- answers
+
+abbrev pub fileOutcome : FileAnswer → Outcome Summary
+fileOutcome (InFile.Done s) = done s
+fileOutcome (InFile.Refused r) = refused r
+
+abbrev pub numberOutcome : NumberAnswer → Outcome ℕ
+numberOutcome (InNumber.Number x) = done x
+numberOutcome (InNumber.Refused r) = refused r
+
+abbrev pub distanceOutcome : DistanceAnswer → Outcome ℕ
+distanceOutcome (InDistance.Distance x) = done x
+distanceOutcome (InDistance.Refused r) = refused r
+
+abbrev pub figureOutcome : FigureAnswer → Outcome Float
+figureOutcome (InFigure.Quotient x) = done x
+figureOutcome (InFigure.Refused r) = refused r

@@ -1,0 +1,81 @@
+// Answers, told to C (include/pciv.h). A pciv_refusal is three numbers, a pciv_summary five. A call answers the
+// refusal's number, 0 when done, and always writes the refusal; a result is written only when the call is done
+// (specs/Cells.antt).
+ghost use mathlib.Core.Path.{_≡_};
+ghost use Rattle.pciv_c_cells.specs.Cells.{ToldNumber, ToldFile, noCells, cellsOf, fileOutcome};
+ghost use Rattle.pciv_c_cells.specs.Cells.{numberOutcome, distanceOutcome, figureOutcome};
+use pciv_format::DistanceAnswer;
+use pciv_format::FigureAnswer;
+use pciv_format::FileAnswer;
+use pciv_format::NumberAnswer;
+use pciv_format::Refusal;
+
+// The call is done: no refusal is told, and 0 is its answer.
+fn tell_done(refusal: &mut [usize; 3]) -> usize
+    ensures code { λ r. ⌜ r ≡ 0 ⌝ }
+    ensures cells { λ _. ⌜ now (refusal .exit) ≡ noCells ⌝ }
+{
+    *refusal = [0, 0, 0];
+    0
+}
+
+// The call is refused: its answer is the refusal's number.
+fn tell_refused(why: Refusal, refusal: &mut [usize; 3]) -> usize
+    ensures code { λ r. ⌜ r ≡ why .number ⌝ }
+    ensures cells { λ _. ⌜ now (refusal .exit) ≡ cellsOf why ⌝ }
+{
+    *refusal = [why.number, why.map, why.place];
+    why.number
+}
+
+pub fn tell_file(a: FileAnswer, summary: &mut [usize; 5], refusal: &mut [usize; 3]) -> usize
+    ensures told { λ r. ⌜ ToldFile (fileOutcome a)
+        r (now (summary .entry)) (now (summary .exit)) (now (refusal .exit)) ⌝ }
+{
+    match a {
+        FileAnswer::Done(s) => {
+            *summary = [s.n, s.k, s.m, s.step, s.len];
+            tell_done(refusal)
+        }
+        FileAnswer::Refused(r) => tell_refused(r, refusal),
+    }
+}
+
+pub fn tell_number(a: NumberAnswer, cell: &mut usize, refusal: &mut [usize; 3]) -> usize
+    ensures told { λ r. ⌜ ToldNumber (numberOutcome a)
+        r (now (cell .entry)) (now (cell .exit)) (now (refusal .exit)) ⌝ }
+{
+    match a {
+        NumberAnswer::Number(x) => {
+            *cell = x;
+            tell_done(refusal)
+        }
+        NumberAnswer::Refused(r) => tell_refused(r, refusal),
+    }
+}
+
+pub fn tell_distance(a: DistanceAnswer, cell: &mut u32, refusal: &mut [usize; 3]) -> usize
+    ensures told { λ r. ⌜ ToldNumber (distanceOutcome a)
+        r (now (cell .entry)) (now (cell .exit)) (now (refusal .exit)) ⌝ }
+{
+    match a {
+        DistanceAnswer::Distance(x) => {
+            *cell = x;
+            tell_done(refusal)
+        }
+        DistanceAnswer::Refused(r) => tell_refused(r, refusal),
+    }
+}
+
+pub fn tell_figure(a: FigureAnswer, cell: &mut f64, refusal: &mut [usize; 3]) -> usize
+    ensures told { λ r. ⌜ ToldNumber (figureOutcome a)
+        r (now (cell .entry)) (now (cell .exit)) (now (refusal .exit)) ⌝ }
+{
+    match a {
+        FigureAnswer::Quotient(x) => {
+            *cell = x;
+            tell_done(refusal)
+        }
+        FigureAnswer::Refused(r) => tell_refused(r, refusal),
+    }
+}

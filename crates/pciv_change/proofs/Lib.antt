@@ -1,3 +1,0 @@
-pub mod SignedLaws
-pub mod ChangeLaws
-pub mod OutcomeLaws

@@ -1,0 +1,2 @@
+pub mod PartsRefusalLaws
+pub mod PrimaryPartLaws

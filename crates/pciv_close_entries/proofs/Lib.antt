@@ -1,0 +1,5 @@
+pub mod PassesLaws
+pub mod StepLaws
+pub mod Facts
+mod Reborrow
+mod Rest

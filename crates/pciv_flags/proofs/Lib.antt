@@ -1,3 +1,0 @@
-pub mod TransposeLaws
-pub mod GatherLaws
-pub mod WordLaws

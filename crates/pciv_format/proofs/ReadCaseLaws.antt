@@ -1,0 +1,154 @@
+-- What each reading routine answers, case by case: the file is refused, or it is a checked map with counts s.
+--   primary-refused, place-refused, lookup-refused, list-refused, scan-refused, sum-refused, readings-refused
+--                                      the file is refused, and so is the call
+--   checked                            the file is a checked map
+--   primary-done, place-done           its primary part, and where it starts
+--   lookup-outside, lookup-inside      one slot: refusal 9, or the distance
+--   list-outside, list-short, list-done    a list of slots: refusals 9 and 12, or how many
+--   list-inside, list-buffer           where no slot is outside: each is below n, and what is written
+--   scan-short, scan-done, scan-buffer    all slots: refusal 12, or n, and what is written
+--   sum-done, readings-done            the totals
+-- Axioms: none.
+use mathlib.Core.Path.{_≡_, ap, _∙_}
+use Prim.Native.Nat.{ℕ, _≤_, _<_}
+use mathlib.Core.Bool.{false, not}
+use mathlib.Core.List.{List, [], map}
+use lib.ListN.{length, getD, take, drop, length-map}
+use lib.Seq.{sets}
+use lib.Dec.{leb, eqb}
+use borrow.Author.Tests.{le-leb, lt-leb, leb-false}
+use Rattle.pciv_bytes.specs.Ranges.{flag, firstBelow, table, sumFrom}
+use Rattle.pciv_bytes.proofs.RangesLaws.{map-cong, firstBelow-all, length-table}
+use Rattle.pciv_bytes.proofs.WriteLaws.{sets-front}
+use Rattle.pciv_format.specs.Layout.{at}
+use Rattle.pciv_format.specs.Refusals.{done, refused, refuse}
+use Rattle.pciv_format.specs.Parts.{valueOf}
+use Rattle.pciv_format.specs.Check.{fileParts, checkFile, CheckedMap}
+use Rattle.pciv_format.specs.Read.{listOf, primaryPart, behind, primaryPlace, lookupOutcome}
+use Rattle.pciv_format.specs.Read.{itemsInto, lookupListOutcome, lookupListBuffer, scanOutcome}
+use Rattle.pciv_format.specs.Read.{scanBuffer, sumOutcome, readingsOutcome}
+use Rattle.pciv_format.specs.declared.Summary.{Summary}
+use Rattle.pciv_format.specs.declared.Refusal.{Refusal}
+use Rattle.pciv_format.proofs.RefusalsLaws.{refuseFirst-none, refuseFirst-some}
+use Rattle.pciv_format.proofs.CheckLaws.{done-counts}
+use Rattle.pciv_format.proofs.ReadLaws.{listOf-is, at-list, total-is, readings-is, items-fit, items-short}
+
+-- ---- the file is refused
+
+module _ (b : List ℕ) (r : Refusal) (e : checkFile 1 b ≡ refused r) where
+  pub primary-refused : primaryPart b ≡ []
+  unfolding primaryPart
+  primary-refused = rw e
+
+  pub place-refused : (p : ℕ × ℕ) → primaryPlace b p ≡ behind 0 p
+  unfolding primaryPlace
+  place-refused p = rw e
+
+  pub lookup-refused : (slot : ℕ) → lookupOutcome b slot ≡ refused r
+  unfolding lookupOutcome
+  lookup-refused slot = rw e
+
+  pub list-refused : (slots : List ℕ) (capacity : ℕ) → lookupListOutcome b slots capacity ≡ refused r
+  unfolding lookupListOutcome
+  list-refused slots capacity = rw e
+
+  pub scan-refused : (capacity : ℕ) → scanOutcome b capacity ≡ refused r
+  unfolding scanOutcome
+  scan-refused capacity = rw e
+
+  pub sum-refused : sumOutcome b ≡ refused r
+  unfolding sumOutcome
+  sum-refused = rw e
+
+  pub readings-refused : readingsOutcome b ≡ refused r
+  unfolding readingsOutcome
+  readings-refused = rw e
+
+-- ---- the file is a map
+
+module _ (b : List ℕ) (s : Summary) (e : checkFile 1 b ≡ done s) where
+  pub checked : CheckedMap b (s .n) (s .k)
+  checked = done-counts 1 b s e .0
+
+  at-slot : (i : ℕ) → i < s .n → at (listOf b) i ≡ valueOf (fileParts b (s .n) (s .k)) i
+  at-slot = at-list b (s .n) (s .k) (checked .header .nIs) (checked .header .kIs)
+
+  pub primary-done : primaryPart b ≡ take (s .n) (drop 40 b)
+  unfolding primaryPart
+  primary-done = rw e (ap (λ (n : ℕ). take n (drop 40 b)) (checked .header .nIs))
+
+  pub place-done : (p : ℕ × ℕ) → primaryPlace b p ≡ behind 40 p
+  unfolding primaryPlace
+  place-done p = rw e
+
+  pub lookup-outside : (slot : ℕ) → s .n ≤ slot → lookupOutcome b slot ≡ refuse 9 0 0
+  unfolding lookupOutcome
+  lookup-outside slot h = rw (e, le-leb (s .n) slot h)
+
+  pub lookup-inside : (slot : ℕ) → slot < s .n
+      → lookupOutcome b slot ≡ done (valueOf (fileParts b (s .n) (s .k)) slot)
+  unfolding lookupOutcome
+  lookup-inside slot h = rw (e, lt-leb (s .n) slot h, at-slot slot h)
+
+  -- a list of slots
+  module _ (slots : List ℕ) where
+    pub list-outside : (capacity place : ℕ)
+        → place ≡ firstBelow (λ (i : ℕ). leb (s .n) (getD slots i 0)) (length slots)
+        → place < length slots → lookupListOutcome b slots capacity ≡ refuse 9 0 place
+    unfolding lookupListOutcome
+    list-outside capacity place is h =
+        rw e (refuseFirst-some 9 0 (λ (i : ℕ). leb (s .n) (getD slots i 0)) (length slots) place _ is h)
+
+    module _ (all : length slots ≤ firstBelow (λ (i : ℕ). leb (s .n) (getD slots i 0)) (length slots)) where
+      none : (i : ℕ) → i < length slots → leb (s .n) (getD slots i 0) ≡ false
+      none i h = firstBelow-all (λ (i : ℕ). leb (s .n) (getD slots i 0)) (length slots) i all h
+
+      pub list-inside : (i : ℕ) → i < length slots → getD slots i 0 < s .n
+      list-inside i h = leb-false (s .n) (getD slots i 0) (none i h)
+
+      items : (capacity : ℕ) → lookupListOutcome b slots capacity ≡ itemsInto (length slots) capacity
+      unfolding lookupListOutcome
+      items capacity = rw e (refuseFirst-none 9 0 (λ (i : ℕ). leb (s .n) (getD slots i 0)) (length slots) _ none)
+
+      pub list-short : (capacity : ℕ) → capacity < length slots → lookupListOutcome b slots capacity ≡ refuse 12 0 0
+      list-short capacity h = items capacity ∙ items-short (length slots) capacity h
+
+      pub list-done : (capacity : ℕ) → length slots ≤ capacity
+          → lookupListOutcome b slots capacity ≡ done (length slots)
+      list-done capacity h = items capacity ∙ items-fit (length slots) capacity h
+
+      pub list-buffer : (out : List ℕ) → length slots ≤ length out
+          → sets out 0 (map (valueOf (fileParts b (s .n) (s .k))) slots) ≡ lookupListBuffer b slots out
+      unfolding lookupListBuffer
+      list-buffer out h =
+          let f : ℕ → ℕ = valueOf (fileParts b (s .n) (s .k)) in
+          let same : map (at (listOf b)) slots ≡ map f slots =
+          map-cong (at (listOf b)) f slots (λ i hi. at-slot (getD slots i 0) (list-inside i hi)) in
+          rw (list-done (length out) h, same) (sets-front (map f slots) out (rw length-map h))
+
+  -- all slots
+  pub scan-short : (capacity : ℕ) → capacity < s .n → scanOutcome b capacity ≡ refuse 12 0 0
+  unfolding scanOutcome
+  scan-short capacity h = rw e (items-short (s .n) capacity h)
+
+  pub scan-done : (capacity : ℕ) → s .n ≤ capacity → scanOutcome b capacity ≡ done (s .n)
+  unfolding scanOutcome
+  scan-done capacity h = rw e (items-fit (s .n) capacity h)
+
+  pub scan-buffer : (out : List ℕ) → s .n ≤ length out
+      → sets out 0 (table (valueOf (fileParts b (s .n) (s .k))) 0 (s .n)) ≡ scanBuffer b out
+  unfolding scanBuffer
+  scan-buffer out h =
+      let f : ℕ → ℕ = valueOf (fileParts b (s .n) (s .k)) in
+      rw (scan-done (length out) h, listOf-is b (s .n) (s .k) (checked .header .nIs) (checked .header .kIs))
+      (sets-front (table f 0 (s .n)) out (rw length-table h))
+
+  -- totals
+  pub sum-done : sumOutcome b ≡ done (sumFrom (valueOf (fileParts b (s .n) (s .k))) 0 (s .n))
+  unfolding sumOutcome
+  sum-done = rw (e, total-is b (s .n) (s .k) (checked .header .nIs) (checked .header .kIs))
+
+  pub readings-done : readingsOutcome b
+      ≡ done (sumFrom (λ (i : ℕ). flag (not (eqb (valueOf (fileParts b (s .n) (s .k)) i) 0))) 0 (s .n))
+  unfolding readingsOutcome
+  readings-done = rw (e, readings-is b (s .n) (s .k) (checked .header .nIs) (checked .header .kIs))

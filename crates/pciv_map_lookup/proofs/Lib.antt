@@ -1,0 +1,4 @@
+pub mod SearchLaws
+pub mod LookupLaws
+pub mod EightLaws
+pub mod WaitLaws

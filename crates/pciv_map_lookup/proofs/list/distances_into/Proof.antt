@@ -1,0 +1,179 @@
+-- Proves pciv_map_lookup::list::distances_into. Invariant: i bytes are written, and fewer than eight places wait
+-- for the distances in overflow. Falls: length slots - i. The reasoning is in WaitLaws.antt.
+use mathlib.Core.Path.{refl}
+use Prim.Native.Nat.{ℕ, _+_, _-_, _≤_, _<_}
+use native.Mathlib.Omega.{arith}
+use lib.ListN.{length, getD, set}
+use lib.Dec.{eqb}
+use mir.Val.{boolByte}
+use borrow.Author.Needs.{needs}
+use Rattle.pciv_bytes.proofs.RangesLaws.{boolByte-flag}
+use Rattle.pciv_format.specs.Check.{fileParts}
+use Rattle.pciv_format.proofs.MapLaws.{primary-inside}
+use Rattle.pciv_map_lookup.proofs.WaitLaws.{Waits, waits-start, waits-more, waits-places}
+use Rattle.pciv_map_lookup.proofs.WaitLaws.{waits-filled, waits-end}
+use Rattle.pciv_map_lookup.proofs.list.distances_into.Statement.{statement}
+use Rattle.pciv_map_lookup.proofs.list.distances_into.Tie as tie
+
+abbrev Inv-loop : tie.InvT-loop
+Inv-loop file n k slots out₀ places₀ waiting₀ i₀ out places waiting i =
+    (waiting < 8) × Waits (fileParts file n k) slots out₀ out places waiting i
+
+abbrev μ-loop : tie.MeasureT-loop
+μ-loop file n k slots out₀ places₀ waiting₀ i₀ out places waiting i = length slots - i
+
+abbrev entered : tie.At-loop Inv-loop μ-loop → tie.Start Inv-loop μ-loop
+entered c = c .before .before .before .before
+
+-- the slot that is looked up
+inside : (c : tie.In-loop Inv-loop μ-loop) → (let a = entered (c .before) .args in
+    (getD (a .slots .now) (c .before .loop .i) 0 < a .n) × (40 + a .n ≤ length (a .file .now)))
+inside c =
+    let pre = entered (c .before) .pre in
+    (pre .1 .0 (c .before .loop .i) (c .loop-test .taken), primary-inside _ _ _ (pre .0))
+
+-- its byte
+abbrev at-byte : tie.In-loop Inv-loop μ-loop → ℕ
+at-byte c = 40 + getD (entered (c .before) .args .slots .now) (c .before .loop .i) 0
+
+abbrev byte : tie.In-loop Inv-loop μ-loop → ℕ
+byte c = getD (entered (c .before) .args .file .now) (at-byte c) 0
+
+-- the walk after a turn, with the places that wait
+abbrev Walked : tie.In-loop Inv-loop μ-loop → ℕ → Type 0
+Walked c waiting =
+    let a = entered (c .before) .args in
+    let l = c .before .loop in
+    Waits (fileParts (a .file .now) (a .n) (a .k)) (a .slots .now) (a .out .now) (set (l .out) (l .i) (byte c))
+    (set (l .places) (l .waiting) (l .i)) waiting (l .i + 1)
+
+byte-lt : (c : tie.After-shared-slice-known4 Inv-loop μ-loop) → byte (c .before .before) < 256
+byte-lt c = omega (arith, c .shared-slice-known4 .given (at-byte (c .before .before)))
+
+walked : (c : tie.After-shared-slice-known4 Inv-loop μ-loop) → (let in-loop = c .before .before in
+    Walked in-loop (in-loop .before .loop .waiting + boolByte (eqb (byte in-loop) 255)))
+walked c =
+    let in-loop = c .before .before in
+    let l = in-loop .before .loop in
+    let pre = entered (in-loop .before) .pre in
+    rw (boolByte-flag (eqb (byte in-loop) 255))
+    (waits-more _ (pre .0 .parts) _ _ (pre .1 .0) _ _ _ _ (l .inv .1) (l .inv .0) (in-loop .loop-test .taken)
+    (byte in-loop) refl (byte-lt c))
+
+-- eight places wait
+full : (c : tie.Then1 Inv-loop μ-loop) → Walked (c .before .before .before) 8
+full c = rw (c .if1 .taken) at (walked (c .before))
+
+loop-holds : tie.Need-loop-holds Inv-loop μ-loop
+loop-holds c =
+    let pre = c .before .before .before .pre in
+    (omega arith, waits-start _ (pre .0 .parts) _ _ (pre .1 .0))
+
+mul-byte : tie.Need-mul-byte Inv-loop μ-loop
+mul-byte c = search needs
+
+shared-slice-read-byte : tie.Need-shared-slice-read-byte Inv-loop μ-loop
+shared-slice-read-byte c = search needs
+
+add-byte : tie.Need-add-byte Inv-loop μ-loop
+add-byte c = omega (arith, inside (c .before))
+
+shared-slice-read-byte-2 : tie.Need-shared-slice-read-byte-2 Inv-loop μ-loop
+shared-slice-read-byte-2 c = omega (arith, inside (c .before .before))
+
+cast-out : tie.Need-cast-out Inv-loop μ-loop
+cast-out c = omega (arith, byte-lt c)
+
+mul-out : tie.Need-mul-out Inv-loop μ-loop
+mul-out c = search needs
+
+slice-write-out : tie.Need-slice-write-out Inv-loop μ-loop
+slice-write-out c = omega (arith, c .before .before .before .loop .inv .1 .same)
+
+mul-places : tie.Need-mul-places Inv-loop μ-loop
+mul-places c = search needs
+
+array-write-places : tie.Need-array-write-places Inv-loop μ-loop
+array-write-places c = search needs
+
+cast-waiting : tie.Need-cast-waiting Inv-loop μ-loop
+cast-waiting c = search needs
+
+add-waiting : tie.Need-add-waiting Inv-loop μ-loop
+add-waiting c = omega (arith, walked c .overflows .long, walked c .eight)
+
+add-i : tie.Need-add-i Inv-loop μ-loop
+add-i c = search needs
+
+distances8-requires : tie.Need-distances8-requires Inv-loop μ-loop
+distances8-requires c κs =
+    let then = c .before .before in
+    let pre = entered (then .before .before .before .before) .pre in
+    (pre .0, (waits-places _ (pre .0 .parts) _ _ (pre .1 .0) _ _ _ _ (full then), omega (arith, full then .same)))
+
+loop-less : tie.Need-loop-less Inv-loop μ-loop
+loop-less c = search needs
+
+loop-again : tie.Need-loop-again Inv-loop μ-loop
+loop-again c =
+    let call = c .before .before in
+    let then = call .before .before .before in
+    let pre = entered (then .before .before .before .before) .pre in
+    let filled = call .distances8 in (
+      omega arith,
+      waits-filled _ (pre .0 .parts) _ _ (pre .1 .0) _ _ _ _ (full then) _ (filled .kept .0) (filled .ensures),
+    )
+
+loop-less-2 : tie.Need-loop-less-2 Inv-loop μ-loop
+loop-less-2 c = search needs
+
+loop-again-2 : tie.Need-loop-again-2 Inv-loop μ-loop
+loop-again-2 c =
+    let w = walked (c .before) in
+    (omega (arith, w .overflows .long, w .eight, c .if1 .left), w)
+
+distances-few-requires : tie.Need-distances-few-requires Inv-loop μ-loop
+distances-few-requires c κs =
+    let at-loop = c .before .before .before in
+    let pre = entered at-loop .pre in
+    let w = at-loop .loop .inv .1 in
+    (pre .0, ((omega arith, waits-places _ (pre .0 .parts) _ _ (pre .1 .0) _ _ _ _ w), omega (arith, w .same)))
+
+same-length : tie.Need-same-length Inv-loop μ-loop
+same-length c = search needs
+
+returns : tie.Need-returns Inv-loop μ-loop
+returns c =
+    let call = c .before .before in
+    let end = call .before .before .before in
+    let pre = entered (end .before) .pre in
+    waits-end _ (pre .0 .parts) _ _ (pre .1 .0) _ _ _ _ (end .before .loop .inv .1) _ (end .loop-test .left)
+    (call .distances-few .ensures)
+
+pub distances-into-spec : {M : Type 1} → statement M
+distances-into-spec =
+    tie.close
+    (tie.spec
+    Inv-loop
+    μ-loop
+    loop-holds
+    mul-byte
+    shared-slice-read-byte
+    add-byte
+    shared-slice-read-byte-2
+    cast-out
+    mul-out
+    slice-write-out
+    mul-places
+    array-write-places
+    cast-waiting
+    add-waiting
+    add-i
+    distances8-requires
+    loop-less
+    loop-again
+    loop-less-2
+    loop-again-2
+    distances-few-requires
+    same-length
+    returns)

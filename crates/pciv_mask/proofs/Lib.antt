@@ -1,2 +1,0 @@
-pub mod CombineLaws
-pub mod OutcomeLaws

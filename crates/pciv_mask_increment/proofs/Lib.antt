@@ -1,0 +1,2 @@
+pub mod PickedLaws
+pub mod RaisedLaws

@@ -1,0 +1,2 @@
+pub mod EntryBitsLaws
+pub mod SelectLaws

@@ -1,0 +1,105 @@
+// Masks of a map (docs/FORMAT.md, "Masks"): the slots whose distance is below, at most, above or at least t, and the near
+// mask. The file is checked first, and refused as the check refuses it, with map 1; then 12. A refused call changes no
+// word, and words past the mask stay as they were.
+mod entries;
+
+ghost use mathlib.Core.Path.{_≡_};
+ghost use Prim.Native.Nat.{_≤_};
+ghost use lib.ListN.{length};
+ghost use lib.Seq.{sets};
+ghost use Rattle.pciv_format.specs.Refusals.{numberAnswer};
+ghost use Rattle.pciv_format.specs.Check.{fileParts, CheckedMap};
+ghost use Rattle.pciv_format.specs.Mask.{maskLen, maskOf, selectOutcome, selectWords, thresholdOutcome};
+ghost use Rattle.pciv_format.specs.Mask.{thresholdWords, nearMaskOutcome, nearMaskWords};
+ghost use Rattle.pciv_bits.specs.Flags.{passes};
+ghost use Rattle.pciv_mask_threshold.specs.Select.{limitOf, isNegated, selected};
+use crate::entries::select_entries;
+use pciv_bits::flags::flags_into;
+use pciv_check::check;
+use pciv_format::BUFFER_TOO_SMALL;
+use pciv_format::Comparison;
+use pciv_format::FileAnswer;
+use pciv_format::HEADER_LEN;
+use pciv_format::NumberAnswer;
+use pciv_format::SENTINEL;
+use pciv_layout::mask_len;
+use pciv_layout::refusals::refuse_number;
+
+// The least limit that every inline distance is below.
+const INLINE_LIMIT: u64 = SENTINEL as u64;
+
+// The limit that a comparison with t asks about.
+fn limit_of(comparison: Comparison, t: u32) -> u64
+    ensures { λ r. ⌜ r ≡ limitOf comparison t ⌝ }
+{
+    match comparison {
+        Comparison::Below => t as u64,
+        Comparison::AtMost => t as u64 + 1,
+        Comparison::Above => t as u64 + 1,
+        Comparison::AtLeast => t as u64,
+    }
+}
+
+// The comparison asks for the distances that are not below the limit.
+fn is_negated(comparison: Comparison) -> bool
+    ensures { λ r. ⌜ r ≡ isNegated comparison ⌝ }
+{
+    match comparison {
+        Comparison::Below => false,
+        Comparison::AtMost => false,
+        Comparison::Above => true,
+        Comparison::AtLeast => true,
+    }
+}
+
+// The mask of a checked map for a limit: by the primary bytes where they tell, else by the entries.
+fn select_into(file: &[u8], n: usize, k: usize, limit: u64, negated: bool, out: &mut [u64])
+    requires { ⌜ CheckedMap (now file) n k ⌝ }
+    requires { ⌜ maskLen n ≤ length (now out) ⌝ }
+    ensures { λ _. ⌜ now (out .exit) ≡ sets (now (out .entry)) 0 (maskOf n (selected (fileParts (now (file .entry)) n k) limit negated)) ⌝ }
+{
+    if limit < INLINE_LIMIT {
+        let end = HEADER_LEN + n;
+        flags_into(&file[HEADER_LEN..end], limit as u8, negated, out);
+    } else {
+        select_entries(file, n, k, limit, negated, out);
+    }
+}
+
+// The mask of the distances below a limit, or, negated, of the others, to the front of out.
+fn select(file: &[u8], limit: u64, negated: bool, out: &mut [u64]) -> NumberAnswer
+    ensures answer { λ r. ⌜ r ≡ numberAnswer (selectOutcome (now (file .entry)) (length (now (out .entry)))) ⌝ }
+    ensures words { λ _. ⌜ now (out .exit) ≡ selectWords (passes limit negated) (now (file .entry)) (now (out .entry)) ⌝ }
+{
+    let checked = check(file);
+    match checked {
+        FileAnswer::Refused(r) => NumberAnswer::Refused(r),
+        FileAnswer::Done(s) => {
+            let n = s.n;
+            let k = s.k;
+            let count = mask_len(n);
+            if out.len() < count {
+                return refuse_number(BUFFER_TOO_SMALL, 0, 0);
+            }
+            select_into(file, n, k, limit, negated, out);
+            NumberAnswer::Number(count)
+        }
+    }
+}
+
+// The mask of the slots whose distance compares with t as asked, to the front of the caller's list of words; answers how
+// many words. Refusals: 1 to 8, then 12.
+pub fn threshold(file: &[u8], comparison: Comparison, t: u32, out: &mut [u64]) -> NumberAnswer
+    ensures answer { λ r. ⌜ r ≡ numberAnswer (thresholdOutcome comparison (now (file .entry)) t (length (now (out .entry)))) ⌝ }
+    ensures words { λ _. ⌜ now (out .exit) ≡ thresholdWords comparison (now (file .entry)) t (now (out .entry)) ⌝ }
+{
+    select(file, limit_of(comparison, t), is_negated(comparison), out)
+}
+
+// The near mask at t, likewise. Refusals: 1 to 8, then 12.
+pub fn near_mask(file: &[u8], t: u32, out: &mut [u64]) -> NumberAnswer
+    ensures answer { λ r. ⌜ r ≡ numberAnswer (nearMaskOutcome (now (file .entry)) t (length (now (out .entry)))) ⌝ }
+    ensures words { λ _. ⌜ now (out .exit) ≡ nearMaskWords (now (file .entry)) t (now (out .entry)) ⌝ }
+{
+    threshold(file, Comparison::AtMost, t, out)
+}

@@ -1,3 +1,0 @@
-pub mod FlipLaws
-pub mod EntriesLaws
-pub mod SelectLaws

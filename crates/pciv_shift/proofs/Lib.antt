@@ -1,2 +1,0 @@
-pub mod LoweredLaws
-pub mod ShiftLaws

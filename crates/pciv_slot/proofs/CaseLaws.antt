@@ -1,0 +1,135 @@
+-- An edit of a slot of a checked map: its old and new distance, and what the editor answers and leaves where it stays
+-- inline or in overflow. A slot that moves into or out of overflow: ChangeLaws.antt.
+--   holds                  the file at the front of the buffer
+--   new-at, file-edited    the list after the edit, at the slot, and its file
+--   edit-counted           the answer is that of beginning a file with the new number of overflow entries
+--   old-inline, -overflow  the slot's old distance, by its primary byte
+--   below-count            how many entries stand before the slot's;  entry-inside  in overflow, the slot has one
+--   stays-inline, -overflow    answer and buffer where the slot stays inline, or in overflow
+-- Axioms: none.
+use mathlib.Core.Path.{_≡_, sym, ap, ap₂, _∙_}
+use Prim.Native.Nat.{ℕ, _+_, _*_, _≤_, _<_}
+use native.Mathlib.Omega.{arith}
+use mathlib.Core.List.{List, _++_}
+use lib.ListN.{length, getD, drop, set}
+use lib.Seq.{sets}
+use lib.Dec.{ltb, leb}
+use borrow.Author.Tests.{le-leb, lt-leb}
+use Rattle.pciv_bytes.specs.LittleEndian.{le, Bytes}
+use Rattle.pciv_format.specs.Layout.{fileLen, overflowCount, file, countsOf, summary, at, fileOf}
+use Rattle.pciv_format.specs.Refusals.{done, refuse, refuseIf}
+use Rattle.pciv_format.specs.Parts.{valueOf}
+use Rattle.pciv_format.specs.Check.{fileParts}
+use Rattle.pciv_format.specs.Edit.{Edit, edited, plainOutcome, editOutcome, editBuffer, entryPlace}
+use Rattle.pciv_format.specs.declared.Summary.{Summary}
+use Rattle.pciv_format.proofs.PartsLaws.{valueOf-inline, entry-good}
+use Rattle.pciv_format.proofs.LayoutLaws.{length-file, overflowCount-cong}
+use Rattle.pciv_format.proofs.FrontLaws.{Holds, checked-front}
+use Rattle.pciv_format.proofs.EditLaws.{edited-at, edited-other, length-edited, count-stays}
+use Rattle.pciv_format.proofs.LimitLaws.{edit-stays-inline, edit-stays-overflow}
+use Rattle.pciv_format.proofs.EditCaseLaws.{held, edit-checked}
+use Rattle.pciv_map_lookup.specs.Lookup.{entriesBelow}
+use Rattle.pciv_map_lookup.proofs.LookupLaws.{valueOf-entry, entriesBelow-count}
+use Rattle.pciv_build.specs.Build.{beginOutcome}
+use Rattle.pciv_build.proofs.BuildLaws.{begin-fits}
+use Rattle.pciv_slot.specs.Change.{EditAt}
+
+module _ (b : List ℕ) (n k : ℕ) (bytes : Bytes b) (e : Edit) (p : EditAt b n k (e .slot)) where
+  pub holds : Holds b n k (held b)
+  holds = checked-front b n k bytes (p .checked)
+
+  slot-in : e .slot < length (held b)
+  slot-in = omega (arith, holds .slots, p .inside)
+
+  pub new-at : at (edited (held b) e) (e .slot) ≡ e .distance
+  new-at = edited-at (held b) e slot-in
+
+  slots : length (edited (held b) e) ≡ n
+  slots = length-edited (held b) e ∙ holds .slots
+
+  pub file-edited : fileOf (edited (held b) e) ≡ file n (at (edited (held b) e))
+  file-edited = ap (λ (m : ℕ). file m (at (edited (held b) e))) slots
+
+  pub edit-counted : (count : ℕ) → count ≡ overflowCount n (at (edited (held b) e))
+      → editOutcome b e ≡ beginOutcome n count (length b)
+  unfolding plainOutcome beginOutcome summary
+  edit-counted count is =
+      let w : ℕ → ℕ = at (edited (held b) e) in
+      let len : length (fileOf (edited (held b) e)) ≡ fileLen n count =
+      ap length file-edited ∙ length-file n w ∙ ap (fileLen n) (sym is) in
+      edit-checked b n k bytes (p .checked) e
+      ∙ rw (lt-leb (length (held b)) (e .slot) slot-in, len)
+      (ap (λ (s : Summary). refuseIf (ltb (length b) (fileLen n count)) (refuse 12 0 0) (done s))
+      (ap₂ countsOf slots (ap (λ (m : ℕ). overflowCount m w) slots ∙ sym is)))
+
+  -- ---- the slot's old distance
+
+  pub old-inline : getD b (40 + e .slot) 0 < 255 → at (held b) (e .slot) < 255
+  old-inline h =
+      let P = fileParts b n k in
+      omega (arith, holds .each (e .slot) (p .inside), valueOf-inline P (p .checked .parts) (e .slot) h)
+
+  pub old-overflow : getD b (40 + e .slot) 0 ≡ 255 → 255 ≤ at (held b) (e .slot)
+  old-overflow h =
+      let P = fileParts b n k in
+      let q = valueOf-entry P (p .checked .parts) (e .slot) (p .inside) h in
+      omega (
+        arith,
+        holds .each (e .slot) (p .inside),
+        q .1,
+        entry-good P (p .checked .parts) (entriesBelow P (e .slot)) (q .0) .overflows,
+      )
+
+  -- where its entry stands
+  pub below-count : entriesBelow (fileParts b n k) (e .slot) ≡ overflowCount (e .slot) (at (held b))
+  below-count =
+      let P = fileParts b n k in
+      let q = p .inside in
+      entriesBelow-count P (p .checked .parts) (λ i. bytes (40 + i)) (e .slot) (omega arith)
+      ∙ overflowCount-cong (e .slot) (valueOf P) (at (held b)) (λ i h. sym (holds .each i (omega arith)))
+
+  -- ---- stays inline, or in overflow
+
+  -- as many entries as before
+  stays : leb 255 (at (held b) (e .slot)) ≡ leb 255 (e .distance) → editOutcome b e ≡ done (countsOf n k)
+  stays same =
+      let count : k ≡ overflowCount n (at (edited (held b) e)) =
+      sym
+      (count-stays n (at (held b)) (at (edited (held b) e)) (e .slot) (p .inside) (edited-other (held b) e)
+      (same ∙ ap (leb 255) (sym new-at))
+      ∙ holds .count) in
+      edit-counted k count ∙ begin-fits n k b (p .checked .fits) .0
+
+  -- the same of the buffer taken apart
+  apart-done : (s : Summary) → editOutcome b e ≡ done s
+      → editOutcome (fileOf (held b) ++ drop (fileLen n k) b) e ≡ done s
+  apart-done s is = ap (λ (l : List ℕ). editOutcome l e) (sym (holds .apart)) ∙ is
+
+  pub stays-inline : getD b (40 + e .slot) 0 < 255 → e .distance < 255
+      → (editOutcome b e ≡ done (countsOf n k)) × (editBuffer b e ≡ set b (40 + e .slot) (e .distance))
+  stays-inline old new =
+      let was = old-inline old in
+      let is = stays (lt-leb 255 (at (held b) (e .slot)) was ∙ sym (lt-leb 255 (e .distance) new)) in (
+        is,
+        ap (λ (l : List ℕ). editBuffer l e) (holds .apart)
+            ∙ edit-stays-inline (held b) (drop (fileLen n k) b) (holds .limits) e _ (apart-done _ is) was new
+            ∙ ap (λ (l : List ℕ). set l (40 + e .slot) (e .distance)) (sym (holds .apart)),
+      )
+
+  pub stays-overflow : getD b (40 + e .slot) 0 ≡ 255 → 255 ≤ e .distance
+      → (j : ℕ) → j ≡ entriesBelow (fileParts b n k) (e .slot)
+      → (editOutcome b e ≡ done (countsOf n k)) × (editBuffer b e ≡ sets b (40 + n + 12 * j + 8) (le 4 (e .distance)))
+  stays-overflow old new j at-j =
+      let was = old-overflow old in
+      let is = stays (le-leb 255 (at (held b) (e .slot)) was ∙ sym (le-leb 255 (e .distance) new)) in
+      let place : entryPlace (held b) (e .slot) + 8 ≡ 40 + n + 12 * j + 8 =
+      omega (arith, holds .slots, at-j, below-count) in (
+        is,
+        ap (λ (l : List ℕ). editBuffer l e) (holds .apart)
+            ∙ edit-stays-overflow (held b) (drop (fileLen n k) b) (holds .limits) e _ (apart-done _ is) was new
+            ∙ ap₂ (λ (l : List ℕ) (i : ℕ). sets l i (le 4 (e .distance))) (sym (holds .apart)) place,
+      )
+
+  -- the entry of a slot in overflow
+  pub entry-inside : getD b (40 + e .slot) 0 ≡ 255 → entriesBelow (fileParts b n k) (e .slot) < k
+  entry-inside old = valueOf-entry (fileParts b n k) (p .checked .parts) (e .slot) (p .inside) old .0

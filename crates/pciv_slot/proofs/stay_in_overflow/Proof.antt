@@ -1,0 +1,82 @@
+-- Proves pciv_slot::stay_in_overflow.
+use mathlib.Core.Path.{sym, ap, _∙_}
+use Prim.Native.Nat.{_+_, _*_, _≤_}
+use native.Mathlib.Omega.{arith}
+use lib.ListN.{length}
+use Rattle.pciv_bytes.specs.LittleEndian.{Bytes}
+use Rattle.pciv_format.specs.Edit.{Edit, editAnswer}
+use Rattle.pciv_format.proofs.LayoutLaws.{fileLen-is}
+use Rattle.pciv_slot.proofs.CaseLaws.{entry-inside, stays-overflow}
+use borrow.Author.Needs.{needs}
+use Rattle.pciv_slot.proofs.stay_in_overflow.Statement.{statement}
+use Rattle.pciv_slot.proofs.stay_in_overflow.Tie as tie
+
+bytes : (c : tie.After-slice-known) → Bytes (c .before .args .buffer .now)
+bytes c i = c .slice-known .given i .fits
+
+-- the slot's entry is one of them
+entry-fits : (c : tie.After-entry-of)
+    → (let a = c .before .before .before .args in 40 + a .n + 12 * c .entry-of .result + 12 ≤ length (a .buffer .now))
+entry-fits c =
+    let known = c .before .before in
+    let entry = known .before in
+    let a = entry .args in
+    let e : Edit = record { slot = a .slot; distance = a .distance } in
+    omega (
+      arith,
+      c .entry-of .ensures,
+      entry-inside (a .buffer .now) (a .n) (a .k) (bytes known) e (entry .pre .0) (entry .pre .1 .0),
+      entry .pre .0 .checked .fits,
+      fileLen-is (a .n) (a .k),
+    )
+
+entry-of-requires : tie.Need-entry-of-requires
+entry-of-requires c κs = search needs
+
+add-put32 : tie.Need-add-put32
+add-put32 c = search needs
+
+mul-put32 : tie.Need-mul-put32
+mul-put32 c = omega (arith, entry-fits (c .before))
+
+add-put32-2 : tie.Need-add-put32-2
+add-put32-2 c = omega (arith, entry-fits (c .before))
+
+add-put32-3 : tie.Need-add-put32-3
+add-put32-3 c = omega (arith, entry-fits (c .before))
+
+put32-requires : tie.Need-put32-requires
+put32-requires c κs = omega (arith, entry-fits (c .before))
+
+edited-requires : tie.Need-edited-requires
+edited-requires c κs = search needs
+
+same-length : tie.Need-same-length
+same-length c = search needs
+
+returns : tie.Need-returns
+returns c =
+    let put = c .before .before .before in
+    let found = put .before .before in
+    let known = found .before .before in
+    let entry = known .before in
+    let a = entry .args in
+    let e : Edit = record { slot = a .slot; distance = a .distance } in
+    let is =
+    stays-overflow (a .buffer .now) (a .n) (a .k) (bytes known) e (entry .pre .0) (entry .pre .1 .0)
+    (entry .pre .1 .1) (found .entry-of .result) (found .entry-of .ensures) in
+    (c .edited .ensures ∙ ap editAnswer (sym (is .0)), put .put32 .ensures ∙ sym (is .1))
+
+pub stay-in-overflow-spec : {M : Type 1} → statement M
+stay-in-overflow-spec =
+    tie.close
+    (tie.spec
+    entry-of-requires
+    add-put32
+    mul-put32
+    add-put32-2
+    add-put32-3
+    put32-requires
+    edited-requires
+    same-length
+    returns)

@@ -1,0 +1,117 @@
+// An edit of a buffer with a checked file at its front. Each routine answers as the editor does; they differ in what
+// the slot's old and new distances are.
+mod change;
+
+ghost use mathlib.Core.Path.{_≡_};
+ghost use Prim.Native.Nat.{_+_, _≤_, _<_};
+ghost use lib.ListN.{getD};
+ghost use lib.Dec.{eqb, ltb};
+ghost use Rattle.pciv_format.specs.Layout.{maxSlots, countsOf};
+ghost use Rattle.pciv_format.specs.Refusals.{done, refuse};
+ghost use Rattle.pciv_format.specs.Check.{CheckedMap};
+ghost use Rattle.pciv_format.specs.Edit.{editOutcome, editAnswer, editBuffer};
+ghost use Rattle.pciv_slot.specs.Change.{newCount, EditAt};
+use crate::change::change_entries;
+use crate::change::finish_change;
+use pciv_build::put_header;
+use pciv_bytes::little_endian::put32;
+use pciv_format::BUFFER_TOO_SMALL;
+use pciv_format::EditAnswer;
+use pciv_format::FileAnswer;
+use pciv_format::HEADER_LEN;
+use pciv_format::SENTINEL;
+use pciv_format::SLOT_OUT_OF_RANGE;
+use pciv_layout::file_len;
+use pciv_layout::refusals::refuse_file;
+use pciv_layout::summary_of;
+use pciv_map_lookup::entry_of;
+
+// The slot is changed, and the file has n slots and k overflow entries now.
+fn edited(n: usize, k: usize) -> EditAnswer
+    requires { ⌜ (n ≤ maxSlots) × (k ≤ n) ⌝ }
+    ensures { λ r. ⌜ r ≡ editAnswer (done (countsOf n k)) ⌝ }
+{
+    EditAnswer {
+        outcome: FileAnswer::Done(summary_of(n, k)),
+    }
+}
+
+// A refusal, which concerns no map.
+fn refused(number: usize) -> EditAnswer
+    ensures { λ r. ⌜ r ≡ editAnswer (refuse number 0 0) ⌝ }
+{
+    EditAnswer {
+        outcome: refuse_file(number, 0, 0),
+    }
+}
+
+// Inline before and after: one byte.
+fn stay_inline(buffer: &mut [u8], n: usize, k: usize, slot: usize, distance: u32) -> EditAnswer
+    requires { ⌜ EditAt (now buffer) n k slot ⌝ }
+    requires { ⌜ (getD (now buffer) (40 + slot) 0 < 255) × (distance < 255) ⌝ }
+    ensures answer { λ r. ⌜ r ≡ editAnswer (editOutcome (now (buffer .entry)) (record { slot = slot; distance = distance })) ⌝ }
+    ensures buffer { λ _. ⌜ now (buffer .exit) ≡ editBuffer (now (buffer .entry)) (record { slot = slot; distance = distance }) ⌝ }
+{
+    buffer[HEADER_LEN + slot] = distance as u8;
+    edited(n, k)
+}
+
+// In overflow before and after: the four distance bytes of its entry.
+fn stay_in_overflow(buffer: &mut [u8], n: usize, k: usize, slot: usize, distance: u32) -> EditAnswer
+    requires { ⌜ EditAt (now buffer) n k slot ⌝ }
+    requires { ⌜ (getD (now buffer) (40 + slot) 0 ≡ 255) × (255 ≤ distance) ⌝ }
+    ensures answer { λ r. ⌜ r ≡ editAnswer (editOutcome (now (buffer .entry)) (record { slot = slot; distance = distance })) ⌝ }
+    ensures buffer { λ _. ⌜ now (buffer .exit) ≡ editBuffer (now (buffer .entry)) (record { slot = slot; distance = distance }) ⌝ }
+{
+    let j = entry_of(buffer, n, k, slot);
+    put32(buffer, HEADER_LEN + n + 12 * j + 8, distance);
+    edited(n, k)
+}
+
+// The slot moves into or out of overflow, after which there are `count` entries: refusal 12, or the header, the slot's
+// byte and entry, the index, and zeros behind a file that has got shorter.
+fn move_slot(
+    buffer: &mut [u8],
+    n: usize,
+    k: usize,
+    count: usize,
+    slot: usize,
+    distance: u32,
+) -> EditAnswer
+    requires { ⌜ EditAt (now buffer) n k slot ⌝ }
+    requires { ⌜ (eqb (getD (now buffer) (40 + slot) 0) 255 ≡ ltb distance 255) × (count ≡ newCount k distance) ⌝ }
+    ensures answer { λ r. ⌜ r ≡ editAnswer (editOutcome (now (buffer .entry)) (record { slot = slot; distance = distance })) ⌝ }
+    ensures buffer { λ _. ⌜ now (buffer .exit) ≡ editBuffer (now (buffer .entry)) (record { slot = slot; distance = distance }) ⌝ }
+{
+    if buffer.len() < file_len(n, count) {
+        return refused(BUFFER_TOO_SMALL);
+    }
+    let j = entry_of(buffer, n, k, slot);
+    put_header(buffer, n, count);
+    change_entries(buffer, n, k, j, slot, distance);
+    finish_change(buffer, n, k, count);
+    edited(n, count)
+}
+
+// One edit, with no check of the file: refusals 9, then 12.
+pub fn edit_checked(buffer: &mut [u8], n: usize, k: usize, slot: usize, distance: u32) -> EditAnswer
+    requires { ⌜ CheckedMap (now buffer) n k ⌝ }
+    ensures answer { λ r. ⌜ r ≡ editAnswer (editOutcome (now (buffer .entry)) (record { slot = slot; distance = distance })) ⌝ }
+    ensures buffer { λ _. ⌜ now (buffer .exit) ≡ editBuffer (now (buffer .entry)) (record { slot = slot; distance = distance }) ⌝ }
+{
+    if n <= slot {
+        return refused(SLOT_OUT_OF_RANGE);
+    }
+    let byte = buffer[HEADER_LEN + slot] as u32;
+    let mark = SENTINEL as u32;
+    if distance < mark {
+        if byte < mark {
+            return stay_inline(buffer, n, k, slot, distance);
+        }
+        return move_slot(buffer, n, k, k - 1, slot, distance);
+    }
+    if byte < mark {
+        return move_slot(buffer, n, k, k + 1, slot, distance);
+    }
+    stay_in_overflow(buffer, n, k, slot, distance)
+}
