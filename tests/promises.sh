@@ -1,6 +1,7 @@
 #!/bin/sh
-# Holds docs/PROMISES.md to the sources: every must-fail edit, law and file of definitions that it names is there, and every
-# function of include/pciv.h is named. Prints a line for each that is not.
+# Holds docs/PROMISES.md to the sources: every must-fail edit, law and file of definitions that it names is there, in the
+# crate that it names, and every function of include/pciv.h is named; so are the paths below crates in the other documents.
+# Prints a line for each that is not.
 set -u
 
 cd "$(dirname "$0")/.." || exit 1
@@ -34,6 +35,18 @@ done
 for file in $(grep -oE '[A-Za-z]+\.antt' $doc | sort -u); do
     [ -n "$(find crates -name "$file")" ] && found=yes || found=no
     want $found "there is no file $file"
+done
+
+# Files with their crate, as `crate`, `File.antt`, or as a path.
+for pair in $(tr '\n' ' ' <$doc | grep -oE '`pciv_[a-z_]+`, +`[A-Za-z]+\.antt`' | tr -d '` '); do
+    crate=${pair%,*}
+    file=${pair#*,}
+    [ -n "$(find "crates/$crate" -name "$file" 2>/dev/null)" ] && found=yes || found=no
+    want $found "$crate has no file $file"
+done
+for path in $(grep -ohE 'crates/pciv_[A-Za-z0-9_/]+(\.[a-z]+)?' $doc README.md CONTRIBUTING.md docs/DECISIONS.md docs/PROVING.md | sort -u); do
+    [ -e "$path" ] && found=yes || found=no
+    want $found "there is no $path"
 done
 
 for name in $(grep -oE '\bpciv_[a-z_]+\(' include/pciv.h | tr -d '(' | sort -u); do
