@@ -3,7 +3,7 @@
 --   primary-inside, -length, -at, -over    they lie within b; how many they are; byte i; as a list of distances
 --   entry-inside     entry j lies within b
 --   value-lt, sum-lt, excess-lt    every distance fits 32 bits, and sums of them 52
---   sum-primary      what the primary bytes and the entries add up to; readings-primary likewise for readings
+--   sum-primary      what the primary bytes and the entries add up to
 -- Axioms: none.
 use mathlib.Core.Path.{_≡_, sym, ap, _∙_}
 use Prim.Native.Nat.{ℕ, _+_, _*_, _^_, _≤_, _<_}
@@ -23,7 +23,7 @@ use Rattle.pciv_format.specs.Parts.{valueOf}
 use Rattle.pciv_format.specs.Check.{fileParts, CheckedMap}
 use Rattle.pciv_format.proofs.PartsLaws.{valueOf-le}
 use Rattle.pciv_format.proofs.LayoutLaws.{fileLen-is}
-use Rattle.pciv_format.proofs.EntryLaws.{excess, reading, sum-entries, readings-bytes}
+use Rattle.pciv_format.proofs.EntryLaws.{excess, sum-entries}
 use Rattle.pciv_format.proofs.PatchLaws.{plain, over, over-sets, patched-start}
 
 abbrev pub primaryOf : List ℕ → ℕ → List ℕ
@@ -82,12 +82,6 @@ module _ (b : List ℕ) (n k : ℕ) (c : CheckedMap b n k) where
     sum-primary =
         let all = sum-entries (fileParts b n k) (c .parts) (λ i. bytes (40 + i)) in
         omega (arith, primary-sum (λ (x : ℕ). x))
-
-    pub readings-primary : sumFrom (λ (i : ℕ). reading (byteAt (primaryOf b n) i)) 0 (length (primaryOf b n))
-        ≡ sumFrom (λ (i : ℕ). reading (valueOf (fileParts b n k) i)) 0 n
-    readings-primary =
-        primary-sum reading
-        ∙ sym (readings-bytes (fileParts b n k) (c .parts) (λ i. bytes (40 + i)))
 
     -- at most 2 ^ 20 distances, each below 2 ^ 32
     pub sum-lt : sumFrom (valueOf (fileParts b n k)) 0 n < 2 ^ 52
