@@ -4,8 +4,8 @@
 --   counts, setTo, Gives, LengthRow    short forms of what the statements repeat
 --   cases       the cases that "Worked examples" marks as proved, under one statement: a component for each
 --   lengths     the table of "Derived counts"
---   further     cases of the routines that the examples leave out, edits before other bytes, and masks of more
---               than a word
+--   further     cases of the routines that the examples leave out, the readings of a primary array, edits before
+--               other bytes, and masks of more than a word
 --   examples    the other cases of "Worked examples", and texts of "The report program"
 -- A caller's buffer or list holds 7 in each place, so that what is left unchanged shows. Axioms: none.
 use mathlib.Core.Path.{_≡_, refl}
@@ -196,7 +196,7 @@ pub further :
     × (writeBuffer A (replicate 69 7) ≡ fileOf A ++ (7 ∷ []))
     × (closeBuffer (0 ∷ 254 ∷ 255 ∷ 255 ∷ []) (2 ∷ 3 ∷ []) (255 ∷ 300 ∷ []) (replicate 69 7) ≡ fileOf A ++ (7 ∷ []))
     × (closeOutcome (0 ∷ 254 ∷ 255 ∷ 255 ∷ []) (2 ∷ 3 ∷ []) (255 ∷ []) 99 ≡ refuse 6 1 1)
-    -- the primary bytes of A have 3 readings, as have three maps that they are the primary array of; none has none
+    -- the primary bytes of A have 3 readings, as have maps with that primary array; the empty array has none
     × (readings primaryOfA ≡ 3)
     × ((primaryPart (fileOf A) ≡ primaryOfA) × (readings A ≡ 3))
     × ((primaryPart (fileOf (0 ∷ 254 ∷ 4294967295 ∷ 256 ∷ [])) ≡ primaryOfA)

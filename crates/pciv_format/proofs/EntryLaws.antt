@@ -3,7 +3,7 @@
 --   excess P j         what entry j has above the byte 255
 --   slots-sorted       the slots of the entries do not fall
 --   slot-below         entries before entry j have smaller slots
---   gap-inline         a slot past entry j - 1 and before entry j is inline
+--   gap-inline, -value a slot past entry j - 1 and before entry j is inline; its byte is its distance
 --   entryOf-there      a slot with byte 255 has its entry, and valueOf-entryOf its distance there
 --   entryOf-from, -above, -unique
 --                      a search for that entry: not before entry t, past an entry with a smaller slot, found

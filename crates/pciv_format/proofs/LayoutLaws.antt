@@ -127,7 +127,7 @@ pub overflowCount-le : (n : ℕ) (v : ℕ → ℕ) → overflowCount n v ≤ n
 unfolding overflowCount overflowSlots
 overflowCount-le n v = positions-count (λ (i : ℕ). inOverflow (v i)) 0 n
 
--- ---- the primary array depends on the bytes of the n slots alone, and the file on their distances
+-- ---- the primary array depends on the bytes of the n slots alone, the file on their distances
 
 pub primary-cong : (n : ℕ) (v w : ℕ → ℕ) → ((i : ℕ) → i < n → primaryByte (v i) ≡ primaryByte (w i))
     → primary n v ≡ primary n w

@@ -1,15 +1,14 @@
 -- Laws of readings, the distances that are not 0: the primary array alone tells how many a map has.
---   readings-rest          the elements of a list that are not 0 and those that are
+--   readings-rest          the elements of a list that are not 0 and those that are, all together
 --   readings-primary       as many bytes of a primary array are not 0 as distances are
---   readings-of-primary    so a primary array has as many as every map whose file has that primary array
+--   readings-of-primary    so a primary array has as many readings as every map whose file has it
 --   primary-of-some        every list of bytes that is not too long is the primary array of some map
---   primary-of-many        and of several where it has a byte 255: a distance in overflow may be any other such
+--   primary-of-many        it is the same where a distance in overflow is replaced by any other such
 -- Axioms: none.
 use mathlib.Core.Path.{_≡_, refl, sym, ap, _∙_}
 use Prim.Native.Nat.{ℕ, _+_, _≤_, _<_}
-use native.Mathlib.Decide.{ℕ-discrete}
 use native.Mathlib.Omega.{arith}
-use native.Mathlib.Decide.{decLe}
+use native.Mathlib.Decide.{decLe, ℕ-discrete}
 use mathlib.Core.Bool.{Bool, true, false, not}
 use mathlib.Core.List.{List}
 use lib.ListN.{length, set}
@@ -35,7 +34,8 @@ flag-not false = refl
 pub readings-rest : (xs : List ℕ) → readings xs + sumFrom (byteIs xs 0) 0 (length xs) ≡ length xs
 unfolding readings
 readings-rest xs =
-    sumFrom-rest (λ (i : ℕ). flag (not (eqb (at xs i) 0))) (byteIs xs 0) (λ i. flag-not (eqb (at xs i) 0)) 0 (length xs)
+    sumFrom-rest (λ (i : ℕ). flag (not (eqb (at xs i) 0))) (byteIs xs 0)
+    (λ i. flag-not (eqb (at xs i) 0)) 0 (length xs)
 
 -- ---- from the primary array
 

@@ -38,8 +38,8 @@ pub fn sum_of(file: &[u8], n: usize, k: usize) -> usize
     sum_bytes(&file[HEADER_LEN..end]) + excess_of(file, n, k)
 }
 
-// How many bytes are not 0, which is how many distances are in every map that has these primary bytes, whatever
-// the rest of its file says.
+// How many bytes are not 0: as many as distances are not 0 in every map that has these primary bytes, whatever
+// else its file says.
 pub fn readings_of(bytes: &[u8]) -> usize
     ensures count { λ r. ⌜ r ≡ readings (now (bytes .entry)) ⌝ }
     ensures every { λ r. ⌜ ((xs : List ℕ) → Limits xs → primaryPart (fileOf xs) ≡ now (bytes .entry)

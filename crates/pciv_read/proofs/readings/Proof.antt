@@ -1,4 +1,4 @@
--- Proves pciv_read::readings: the file is that of the list that it is read as, and its primary part alone is counted.
+-- Proves pciv_read::readings: the file is that of the list that it is read as, and the primary part is counted.
 use mathlib.Core.Path.{_≡_, sym, ap, _∙_}
 use Prim.Native.Nat.{ℕ, _+_, _-_}
 use native.Mathlib.Omega.{arith}

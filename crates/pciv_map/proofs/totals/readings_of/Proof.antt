@@ -1,5 +1,5 @@
--- Proves pciv_map::totals::readings_of: the bytes that are 0 and those that are not are all bytes, and a map's
--- readings depend on its primary bytes alone.
+-- Proves pciv_map::totals::readings_of: the bytes that are 0 and those that are not are all bytes; a map has as
+-- many readings as its primary bytes.
 use native.Mathlib.Omega.{arith}
 use borrow.Author.Needs.{needs}
 use Rattle.pciv_format.proofs.ReadingsLaws.{readings-rest, readings-of-primary}
