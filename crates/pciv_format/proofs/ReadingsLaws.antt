@@ -3,7 +3,7 @@
 --   readings-primary       as many bytes of a primary array are not 0 as distances are
 --   readings-of-primary    so a primary array has as many readings as every map whose file has it
 --   primary-of-some        every list of bytes that is not too long is the primary array of some map
---   primary-of-many        it is the same where a distance in overflow is replaced by any other such
+--   primary-of-many        a distance in overflow can be replaced by any other such: the primary array stays
 -- Axioms: none.
 use mathlib.Core.Path.{_≡_, refl, sym, ap, _∙_}
 use Prim.Native.Nat.{ℕ, _+_, _≤_, _<_}
