@@ -1,10 +1,11 @@
 -- The worked examples of docs/FORMAT.md, proved for the definitions by computing them.
 --   A, B        the two maps of "Worked examples";  M  64 slots at 1 and one at 300;  ones  a word of set bits
+--   primaryOfA  the primary array of A
 --   counts, setTo, Gives, LengthRow    short forms of what the statements repeat
 --   cases       the cases that "Worked examples" marks as proved, under one statement: a component for each
 --   lengths     the table of "Derived counts"
---   further     cases of the routines that the examples leave out, edits before other bytes, and masks of more
---               than a word
+--   further     cases of the routines that the examples leave out, the readings of a primary array, edits before
+--               other bytes, and masks of more than a word
 --   examples    the other cases of "Worked examples", and texts of "The report program"
 -- A caller's buffer or list holds 7 in each place, so that what is left unchanged shows. Axioms: none.
 use mathlib.Core.Path.{_≡_, refl}
@@ -184,6 +185,9 @@ M = replicate 64 1 ++ (300 ∷ [])
 abbrev pub ones : ℕ
 ones = 0xFFFFFFFFFFFFFFFF
 
+abbrev pub primaryOfA : List ℕ
+primaryOfA = 0x00 ∷ 0xFE ∷ 0xFF ∷ 0xFF ∷ []
+
 pub further :
     -- lookups of slots 3, 0, 3 of A; all of A; the file of A, from its list and from its parts
     (lookupListBuffer (fileOf A) (3 ∷ 0 ∷ 3 ∷ []) (7 ∷ 7 ∷ 7 ∷ 7 ∷ []) ≡ 300 ∷ 0 ∷ 300 ∷ 7 ∷ [])
@@ -192,6 +196,13 @@ pub further :
     × (writeBuffer A (replicate 69 7) ≡ fileOf A ++ (7 ∷ []))
     × (closeBuffer (0 ∷ 254 ∷ 255 ∷ 255 ∷ []) (2 ∷ 3 ∷ []) (255 ∷ 300 ∷ []) (replicate 69 7) ≡ fileOf A ++ (7 ∷ []))
     × (closeOutcome (0 ∷ 254 ∷ 255 ∷ 255 ∷ []) (2 ∷ 3 ∷ []) (255 ∷ []) 99 ≡ refuse 6 1 1)
+    -- the primary bytes of A have 3 readings, as have maps with that primary array; the empty array has none
+    × (readings primaryOfA ≡ 3)
+    × ((primaryPart (fileOf A) ≡ primaryOfA) × (readings A ≡ 3))
+    × ((primaryPart (fileOf (0 ∷ 254 ∷ 4294967295 ∷ 256 ∷ [])) ≡ primaryOfA)
+    × (readings (0 ∷ 254 ∷ 4294967295 ∷ 256 ∷ []) ≡ 3))
+    × (primaryPart (fileOf primaryOfA) ≡ primaryOfA)
+    × ((primaryPart (fileOf []) ≡ []) × (readings [] ≡ 0))
     -- an edit of A in 71 bytes to the same distance; slot 2 to 254: 12 bytes freed, and those behind the file stay
     × (editOutcome (fileOf A ++ replicate 3 7) (setTo 3 300) ≡ done (counts 4 2 0 0 68))
     × (editBuffer (fileOf A ++ replicate 3 7) (setTo 3 300) ≡ fileOf A ++ replicate 3 7)
@@ -235,7 +246,8 @@ unfolding
     firstFrom firstBelow table positions joined sumFrom le number get indexStep indexLen fileLen primary
     overflowSlots overflowCount overflowEntry overflowPart indexEntry indexPart header file countsOf summary
     wrongEntry badEntry entryOf badSlot valueOf badIndexEntry badCounts checkParts checkHeader checkWith
-    listOf bitAt maskHas word maskOf badMask thresholdOutcome thresholdWords combineOutcome combineWords
+    listOf primaryPart readings bitAt maskHas word maskOf badMask thresholdOutcome thresholdWords
+    combineOutcome combineWords
     complementOutcome complementWords setBits setBitsOutcome mapOfMaskOutcome mapOfMaskBuffer
     keepMaskedOutcome keepMaskedBuffer incrementMaskedOutcome incrementMaskedBuffer
     quotient countAt jaccardOutcome ofBits ofInt div shiftedBy shiftOutcome shiftBuffer
@@ -251,6 +263,11 @@ further = (
   refl,
   refl,
   refl,
+  refl,
+  (refl, refl),
+  (refl, refl),
+  refl,
+  (refl, refl),
   refl,
   refl,
   refl,

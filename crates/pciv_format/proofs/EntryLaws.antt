@@ -1,38 +1,28 @@
 -- Laws of sound parts along their overflow entries: between two entries all slots are inline, so the entries
 -- alone tell how the distances differ from the primary bytes.
 --   excess P j         what entry j has above the byte 255
---   reading x          1 for a reading, a distance or byte that is not 0
 --   slots-sorted       the slots of the entries do not fall
 --   slot-below         entries before entry j have smaller slots
---   gap-inline         a slot past entry j - 1 and before entry j is inline
+--   gap-inline, -value a slot past entry j - 1 and before entry j is inline; its byte is its distance
 --   entryOf-there      a slot with byte 255 has its entry, and valueOf-entryOf its distance there
 --   entryOf-from, -above, -unique
 --                      a search for that entry: not before entry t, past an entry with a smaller slot, found
 --   sum-entries        the sum of all distances: that of the bytes and of the excesses; sum-entries-of for any f
---   readings-bytes     as many distances as bytes are not 0
 -- Axioms: none.
-use mathlib.Core.Path.{_≡_, refl, sym, ap, _∙_}
+use mathlib.Core.Path.{_≡_, sym, ap, _∙_}
 use Prim.Native.Nat.{ℕ, zero, suc, _+_, _-_, _≤_, _<_}
 use native.Mathlib.Nat.{zero-add, sub-zero}
 use native.Mathlib.Numerals.{add-one}
 use native.Mathlib.Omega.{arith}
 use native.Mathlib.Decide.{decLe}
-use mathlib.Core.Bool.{Bool, true, false, not}
-use mathlib.Core.List.{List}
-use lib.ListN.{length}
-use lib.Dec.{eqb}
-use Rattle.pciv_bytes.specs.Ranges.{flag, sumFrom}
-use Rattle.pciv_bytes.specs.ByteAt.{byteAt, byteIs}
-use Rattle.pciv_bytes.proofs.SumLaws.{sumFrom-none, sumFrom-more, sumFrom-split, sumFrom-cong, sumFrom-rest}
+use Rattle.pciv_bytes.specs.Ranges.{sumFrom}
+use Rattle.pciv_bytes.proofs.SumLaws.{sumFrom-none, sumFrom-more, sumFrom-split, sumFrom-cong}
 use Rattle.pciv_format.specs.Parts.{Parts, lowestSlot, entryOf, valueOf, SoundParts}
 use Rattle.pciv_format.proofs.PartsLaws.{entry-good, slots-rise, entryOf-slot, slot-entry}
-use Rattle.pciv_format.proofs.PartsLaws.{valueOf-slot, valueOf-inline, slot-cases, neb-not}
+use Rattle.pciv_format.proofs.PartsLaws.{valueOf-slot, valueOf-inline, slot-cases}
 
 abbrev pub excess : Parts → ℕ → ℕ
 excess P j = P .distance j - 255
-
-abbrev pub reading : ℕ → ℕ
-reading x = flag (not (eqb x 0))
 
 -- the slots of the entries do not fall
 pub slots-sorted : (P : Parts) → SoundParts P → (i j : ℕ) → i ≤ j → j < P .k → P .slot i ≤ P .slot j
@@ -153,25 +143,3 @@ module _ (P : Parts) (s : SoundParts P) (bytes : (i : ℕ) → P .byte i < 256) 
       ≡ sumFrom (P .byte) 0 (P .n) + sumFrom (excess P) 0 (P .k)
   sum-entries =
       sum-entries-of (λ (i x : ℕ). x) (excess P) (λ j h. omega (arith, entry-good P s j h .overflows))
-
-  -- a byte 255 is a reading already
-  pub readings-bytes : sumFrom (λ (i : ℕ). reading (valueOf P i)) 0 (P .n)
-      ≡ sumFrom (λ (i : ℕ). reading (P .byte i)) 0 (P .n)
-  readings-bytes =
-      sumFrom-cong (λ (i : ℕ). reading (valueOf P i)) (λ (i : ℕ). reading (P .byte i)) 0 (P .n)
-      (λ i h₁ h₂. slot-cases P s bytes i (omega arith) (λ small e. ap reading e)
-      (λ j hj at e w overflows.
-      ap flag (neb-not (valueOf P i) 0 (λ q. omega arith) ∙ sym (neb-not (P .byte i) 0 (λ q. omega arith)))))
-
--- ---- of bytes alone
-
-flag-not : (b : Bool) → flag (not b) + flag b ≡ 1
-flag-not true = refl
-flag-not false = refl
-
--- the bytes that are not 0 and those that are
-pub readings-rest : (xs : List ℕ)
-    → sumFrom (λ (i : ℕ). reading (byteAt xs i)) 0 (length xs) + sumFrom (byteIs xs 0) 0 (length xs) ≡ length xs
-readings-rest xs =
-    sumFrom-rest (λ (i : ℕ). reading (byteAt xs i)) (byteIs xs 0)
-    (λ i. flag-not (eqb (byteAt xs i) 0)) 0 (length xs)

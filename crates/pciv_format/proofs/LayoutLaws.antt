@@ -5,23 +5,24 @@
 --   indexStep-le, indexLen-le, overflowCount-le    how large they are
 --   fileLen-is                   the length of a file, written out
 --   length-primary, -overflowEntry, -indexEntry, -header, -overflowPart, -indexPart, -file    lengths of parts
+--   primary-cong                 of distances with the same bytes
 --   overflowCount-cong, file-cong, summary-cong    of distances that agree on the slots
 -- Axioms: none.
-use mathlib.Core.Path.{_≡_, refl, sym, ap, ap₂, _∙_}
+use mathlib.Core.Path.{_≡_, refl, ap, _∙_}
 use Prim.Native.Nat.{ℕ, suc, _+_, _-_, _*_, _/_, _≤_, _<_}
-use native.Mathlib.Nat.{add-zero, le-div-iff-mul-le, suc-mul, div-le-self}
+use native.Mathlib.Nat.{le-div-iff-mul-le, suc-mul, div-le-self}
 use native.Mathlib.Omega.{arith}
-use mathlib.Core.Bool.{Bool, true, false, cond}
+use mathlib.Core.Bool.{Bool, true, false}
 use mathlib.Core.List.{List, _++_}
 use lib.ListN.{length, getD, length-append}
-use lib.Dec.{leb, eqb}
+use lib.Dec.{leb}
 use borrow.Author.Tests.{le-leb, lt-leb, leb-false, leb-true, eq-eqb, ne-eqb}
-use Rattle.pciv_bytes.specs.Ranges.{ceilDiv, table, positions, joined}
+use Rattle.pciv_bytes.specs.Ranges.{ceilDiv, joined}
 use Rattle.pciv_bytes.specs.LittleEndian.{le}
 use Rattle.pciv_bytes.proofs.RangesLaws.{length-table, table-cong}
 use Rattle.pciv_bytes.proofs.PositionsLaws.{positions-count, positions-at, positions-cong}
 use Rattle.pciv_bytes.proofs.JoinedLaws.{length-joined, joined-cong}
-use Rattle.pciv_format.specs.Layout.{maxSlots, inOverflow, primaryByte, indexStep, indexLen, fileLen}
+use Rattle.pciv_format.specs.Layout.{inOverflow, primaryByte, indexStep, indexLen, fileLen}
 use Rattle.pciv_format.specs.Layout.{primary, overflowSlots, overflowCount, overflowEntry}
 use Rattle.pciv_format.specs.Layout.{overflowPart, indexEntry, indexPart, header, file, countsOf}
 use Rattle.pciv_format.specs.Layout.{summary}
@@ -126,7 +127,13 @@ pub overflowCount-le : (n : ℕ) (v : ℕ → ℕ) → overflowCount n v ≤ n
 unfolding overflowCount overflowSlots
 overflowCount-le n v = positions-count (λ (i : ℕ). inOverflow (v i)) 0 n
 
--- ---- the file depends on the distances of the n slots alone
+-- ---- the primary array depends on the bytes of the n slots alone, the file on their distances
+
+pub primary-cong : (n : ℕ) (v w : ℕ → ℕ) → ((i : ℕ) → i < n → primaryByte (v i) ≡ primaryByte (w i))
+    → primary n v ≡ primary n w
+unfolding primary
+primary-cong n v w same =
+    table-cong (λ (i : ℕ). primaryByte (v i)) (λ (i : ℕ). primaryByte (w i)) 0 n (λ j h. same j (omega arith))
 
 module _ (n : ℕ) (v w : ℕ → ℕ) (same : (i : ℕ) → i < n → v i ≡ w i) where
   overflowSlots-cong : overflowSlots n v ≡ overflowSlots n w
@@ -134,12 +141,6 @@ module _ (n : ℕ) (v w : ℕ → ℕ) (same : (i : ℕ) → i < n → v i ≡ w
   overflowSlots-cong =
       positions-cong (λ (i : ℕ). inOverflow (v i)) (λ (i : ℕ). inOverflow (w i)) 0 n
       (λ j h₁ h₂. ap inOverflow (same j (omega arith)))
-
-  primary-cong : primary n v ≡ primary n w
-  unfolding primary
-  primary-cong =
-      table-cong (λ (i : ℕ). primaryByte (v i)) (λ (i : ℕ). primaryByte (w i)) 0 n
-      (λ j h. ap primaryByte (same j (omega arith)))
 
   overflowPart-cong : overflowPart n v ≡ overflowPart n w
   unfolding overflowPart overflowEntry overflowSlots
@@ -157,7 +158,9 @@ module _ (n : ℕ) (v w : ℕ → ℕ) (same : (i : ℕ) → i < n → v i ≡ w
 
   pub file-cong : file n v ≡ file n w
   unfolding file
-  file-cong = rw (overflowCount-cong, primary-cong, overflowPart-cong, overflowSlots-cong)
+  file-cong =
+      let bytes = primary-cong n v w (λ i h. ap primaryByte (same i h)) in
+      rw (overflowCount-cong, bytes, overflowPart-cong, overflowSlots-cong)
 
   pub summary-cong : summary n v ≡ summary n w
   unfolding summary

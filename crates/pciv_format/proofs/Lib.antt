@@ -23,6 +23,7 @@ pub mod ListLaws
 pub mod EntryLaws
 pub mod PatchLaws
 pub mod MapLaws
+pub mod ReadingsLaws
 pub mod ReadCaseLaws
 pub mod BitLaws
 pub mod MaskLaws

@@ -3,7 +3,7 @@
 --   primary-inside, -length, -at, -over    they lie within b; how many they are; byte i; as a list of distances
 --   entry-inside     entry j lies within b
 --   value-lt, sum-lt, excess-lt    every distance fits 32 bits, and sums of them 52
---   sum-primary      what the primary bytes and the entries add up to; readings-primary likewise for readings
+--   sum-primary      what the primary bytes and the entries add up to
 -- Axioms: none.
 use mathlib.Core.Path.{_≡_, sym, ap, _∙_}
 use Prim.Native.Nat.{ℕ, _+_, _*_, _^_, _≤_, _<_}
@@ -23,7 +23,7 @@ use Rattle.pciv_format.specs.Parts.{valueOf}
 use Rattle.pciv_format.specs.Check.{fileParts, CheckedMap}
 use Rattle.pciv_format.proofs.PartsLaws.{valueOf-le}
 use Rattle.pciv_format.proofs.LayoutLaws.{fileLen-is}
-use Rattle.pciv_format.proofs.EntryLaws.{excess, reading, sum-entries, readings-bytes}
+use Rattle.pciv_format.proofs.EntryLaws.{excess, sum-entries}
 use Rattle.pciv_format.proofs.PatchLaws.{plain, over, over-sets, patched-start}
 
 abbrev pub primaryOf : List ℕ → ℕ → List ℕ
@@ -52,14 +52,6 @@ module _ (b : List ℕ) (n k : ℕ) (c : CheckedMap b n k) where
       (let inside : i < n = rw primary-length at h in
       primary-at i inside ∙ sym (getD-table byte 0 0 n i inside ∙ ap byte (zero-add i))))
 
-  -- f of every primary byte
-  primary-sum : (f : ℕ → ℕ) → sumFrom (λ (i : ℕ). f (byteAt (primaryOf b n) i)) 0 (length (primaryOf b n))
-      ≡ sumFrom (λ (i : ℕ). f (fileParts b n k .byte i)) 0 n
-  primary-sum f =
-      rw primary-length
-      (sumFrom-cong (λ (i : ℕ). f (byteAt (primaryOf b n) i)) (λ (i : ℕ). f (fileParts b n k .byte i)) 0 n
-      (λ i h₁ h₂. ap f (primary-at i (omega arith))))
-
   -- ---- where b is bytes
 
   module _ (bytes : Bytes b) where
@@ -80,14 +72,13 @@ module _ (b : List ℕ) (n k : ℕ) (c : CheckedMap b n k) where
         + sumFrom (excess (fileParts b n k)) 0 k
         ≡ sumFrom (valueOf (fileParts b n k)) 0 n
     sum-primary =
-        let all = sum-entries (fileParts b n k) (c .parts) (λ i. bytes (40 + i)) in
-        omega (arith, primary-sum (λ (x : ℕ). x))
-
-    pub readings-primary : sumFrom (λ (i : ℕ). reading (byteAt (primaryOf b n) i)) 0 (length (primaryOf b n))
-        ≡ sumFrom (λ (i : ℕ). reading (valueOf (fileParts b n k) i)) 0 n
-    readings-primary =
-        primary-sum reading
-        ∙ sym (readings-bytes (fileParts b n k) (c .parts) (λ i. bytes (40 + i)))
+        let P = fileParts b n k in
+        rw primary-length
+        (omega (
+          arith,
+          sumFrom-cong (byteAt (primaryOf b n)) (P .byte) 0 n (λ i h₁ h₂. primary-at i (omega arith)),
+          sum-entries P (c .parts) (λ i. bytes (40 + i)),
+        ))
 
     -- at most 2 ^ 20 distances, each below 2 ^ 32
     pub sum-lt : sumFrom (valueOf (fileParts b n k)) 0 n < 2 ^ 52

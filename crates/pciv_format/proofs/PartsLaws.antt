@@ -1,6 +1,6 @@
 -- Laws of a primary array and overflow entries, wherever they stand, and of the tests on them.
 --   or-false, or-true, and-left, and-false, not-eqb, eqb-not, neb-not    of tests
---   primaryByte-overflow, -inline, -min    the primary byte of a distance
+--   primaryByte-overflow, -inline, -min, -full, -zero    the primary byte of a distance
 --   GoodEntry P j               what is known of an entry that is right
 --   goodEntry-of-test, badEntry-good    from the test, and to it
 --   entry-at, entries-rise      where every entry is right: each of them, and that the slots rise
@@ -12,7 +12,7 @@
 --   overflowSlots-are, overflowCount-is    the slots in overflow are the entries' slots
 -- Axioms: none.
 use mathlib.Core.Path.{_≡_, refl, sym, ap, _∙_}
-use Prim.Native.Nat.{ℕ, suc, _-_, _≤_, _<_, min}
+use Prim.Native.Nat.{ℕ, suc, _≤_, _<_, min}
 use native.Mathlib.Omega.{arith}
 use native.Mathlib.Decide.{decLe}
 use mathlib.Core.Bool.{Bool, true, false, not, _&&_, _||_}
@@ -76,6 +76,14 @@ primaryByte-full x =
       | yes d ↦ eq-eqb (primaryByte x) 255 (primaryByte-overflow x d) ∙ sym (le-leb 255 x d)
       | no d ↦ ne-eqb (primaryByte x) 255 (λ q. omega (arith, q, primaryByte-inline x (omega arith)))
           ∙ sym (lt-leb 255 x (omega arith))
+    ]
+
+-- a byte is 0 where the distance is
+pub primaryByte-zero : (x : ℕ) → eqb (primaryByte x) 0 ≡ eqb x 0
+primaryByte-zero x =
+    elim (decLe 255 x) [
+      | yes d ↦ rw (primaryByte-overflow x d) (sym (ne-eqb x 0 (λ q. omega arith)))
+      | no d ↦ rw (primaryByte-inline x (omega arith))
     ]
 
 -- ---- an overflow entry that is right

@@ -11,13 +11,13 @@
 -- Axioms: none.
 use mathlib.Core.Path.{_≡_, ap, _∙_}
 use Prim.Native.Nat.{ℕ, _≤_, _<_}
-use mathlib.Core.Bool.{false, not}
+use mathlib.Core.Bool.{false}
 use mathlib.Core.List.{List, [], map}
 use lib.ListN.{length, getD, take, drop, length-map}
 use lib.Seq.{sets}
-use lib.Dec.{leb, eqb}
+use lib.Dec.{leb}
 use borrow.Author.Tests.{le-leb, lt-leb, leb-false}
-use Rattle.pciv_bytes.specs.Ranges.{flag, firstBelow, table, sumFrom}
+use Rattle.pciv_bytes.specs.Ranges.{firstBelow, table, sumFrom}
 use Rattle.pciv_bytes.proofs.RangesLaws.{map-cong, firstBelow-all, length-table}
 use Rattle.pciv_bytes.proofs.WriteLaws.{sets-front}
 use Rattle.pciv_format.specs.Layout.{at}
@@ -26,12 +26,12 @@ use Rattle.pciv_format.specs.Parts.{valueOf}
 use Rattle.pciv_format.specs.Check.{fileParts, checkFile, CheckedMap}
 use Rattle.pciv_format.specs.Read.{listOf, primaryPart, behind, primaryPlace, lookupOutcome}
 use Rattle.pciv_format.specs.Read.{itemsInto, lookupListOutcome, lookupListBuffer, scanOutcome}
-use Rattle.pciv_format.specs.Read.{scanBuffer, sumOutcome, readingsOutcome}
+use Rattle.pciv_format.specs.Read.{scanBuffer, readings, sumOutcome, readingsOutcome}
 use Rattle.pciv_format.specs.declared.Summary.{Summary}
 use Rattle.pciv_format.specs.declared.Refusal.{Refusal}
 use Rattle.pciv_format.proofs.RefusalsLaws.{refuseFirst-none, refuseFirst-some}
 use Rattle.pciv_format.proofs.CheckLaws.{done-counts}
-use Rattle.pciv_format.proofs.ReadLaws.{listOf-is, at-list, total-is, readings-is, items-fit, items-short}
+use Rattle.pciv_format.proofs.ReadLaws.{listOf-is, at-list, total-is, items-fit, items-short}
 
 -- ---- the file is refused
 
@@ -148,7 +148,6 @@ module _ (b : List ℕ) (s : Summary) (e : checkFile 1 b ≡ done s) where
   unfolding sumOutcome
   sum-done = rw (e, total-is b (s .n) (s .k) (checked .header .nIs) (checked .header .kIs))
 
-  pub readings-done : readingsOutcome b
-      ≡ done (sumFrom (λ (i : ℕ). flag (not (eqb (valueOf (fileParts b (s .n) (s .k)) i) 0))) 0 (s .n))
+  pub readings-done : readingsOutcome b ≡ done (readings (listOf b))
   unfolding readingsOutcome
-  readings-done = rw (e, readings-is b (s .n) (s .k) (checked .header .nIs) (checked .header .kIs))
+  readings-done = rw e

@@ -1,26 +1,24 @@
 -- Laws of the list that a file is read as, and of items that are written to a list.
 --   length-listOf, at-listOf    its length and elements
 --   listOf-is, at-list          the same at the counts n and k that the code holds
---   total-is, readings-is       its totals
+--   total-is                    the sum of all distances
 --   items-fit, items-short      items into a list that holds them, or not
 -- Axioms: none.
 use mathlib.Core.Path.{_≡_, ap, ap₂, _∙_}
 use Prim.Native.Nat.{ℕ, _≤_, _<_}
 use native.Mathlib.Nat.{zero-add}
 use native.Mathlib.Omega.{arith}
-use mathlib.Core.Bool.{not}
 use mathlib.Core.List.{List}
 use lib.ListN.{length}
-use lib.Dec.{eqb}
 use borrow.Author.Tests.{lt-ltb, le-ltb}
-use Rattle.pciv_bytes.specs.Ranges.{flag, table, sumFrom}
+use Rattle.pciv_bytes.specs.Ranges.{table, sumFrom}
 use Rattle.pciv_bytes.proofs.RangesLaws.{length-table, getD-table}
 use Rattle.pciv_bytes.proofs.SumLaws.{sumFrom-cong}
 use Rattle.pciv_format.specs.Layout.{at}
 use Rattle.pciv_format.specs.Refusals.{done, refuse}
 use Rattle.pciv_format.specs.Parts.{valueOf}
 use Rattle.pciv_format.specs.Check.{nField, kField, fileParts}
-use Rattle.pciv_format.specs.Read.{valueAt, listOf, itemsInto, total, readings}
+use Rattle.pciv_format.specs.Read.{valueAt, listOf, itemsInto, total}
 
 pub length-listOf : (b : List ℕ) → length (listOf b) ≡ nField b
 unfolding listOf
@@ -39,20 +37,11 @@ module _ (b : List ℕ) (n k : ℕ) (nIs : nField b ≡ n) (kIs : kField b ≡ k
   pub at-list : (i : ℕ) → i < n → at (listOf b) i ≡ valueOf (fileParts b n k) i
   at-list i h = rw (nIs, kIs) at (at-listOf b i (omega (arith, nIs)))
 
-  sum-list : (f : ℕ → ℕ) → sumFrom (λ (i : ℕ). f (at (listOf b) i)) 0 (length (listOf b))
-      ≡ sumFrom (λ (i : ℕ). f (valueOf (fileParts b n k) i)) 0 n
-  sum-list f =
-      rw (length-listOf b, nIs)
-      (sumFrom-cong (λ (i : ℕ). f (at (listOf b) i)) (λ (i : ℕ). f (valueOf (fileParts b n k) i)) 0 n
-      (λ i h₁ h₂. ap f (at-list i (omega arith))))
-
   pub total-is : total (listOf b) ≡ sumFrom (valueOf (fileParts b n k)) 0 n
   unfolding total
-  total-is = sum-list (λ (x : ℕ). x)
-
-  pub readings-is : readings (listOf b) ≡ sumFrom (λ (i : ℕ). flag (not (eqb (valueOf (fileParts b n k) i) 0))) 0 n
-  unfolding readings
-  readings-is = sum-list (λ (x : ℕ). flag (not (eqb x 0)))
+  total-is =
+      rw (length-listOf b, nIs)
+      (sumFrom-cong (at (listOf b)) (valueOf (fileParts b n k)) 0 n (λ i h₁ h₂. at-list i (omega arith)))
 
 -- ---- items that fit
 

@@ -8,9 +8,10 @@
 --   itemsInto c capacity     c items into a list that holds `capacity` of them: how many, or refusal 12
 --   lookupOutcome            one slot
 --   lookupListOutcome, lookupListBuffer, scanOutcome, scanBuffer    a list of slots, and all of them, into a list
---   total xs, readings xs    the sum of all distances, and how many are not 0
+--   total xs, readings xs    the sum of all distances, and how many are not 0; of bytes likewise
 --   sumOutcome, readingsOutcome    these of a file
--- Laws are in proofs/ReadLaws.antt, and the outcomes case by case in proofs/ReadCaseLaws.antt. Axioms: none.
+-- Laws are in proofs/ReadLaws.antt, of readings in proofs/ReadingsLaws.antt, of the outcomes case by case in
+-- proofs/ReadCaseLaws.antt. Axioms: none.
 use Prim.Native.Nat.{ℕ, _+_}
 use mathlib.Core.Bool.{not}
 use mathlib.Core.List.{List, [], map}
@@ -81,7 +82,7 @@ scanBuffer b out = written (scanOutcome b (length out)) (listOf b) out
 unfoldable pub total : List ℕ → ℕ
 total xs = sumFrom (at xs) 0 (length xs)
 
--- a reading is a distance that is not 0
+-- how many are not 0: of distances these are the readings, and of a map's primary bytes there are as many
 unfoldable pub readings : List ℕ → ℕ
 readings xs = sumFrom (λ (i : ℕ). flag (not (eqb (at xs i) 0))) 0 (length xs)
 

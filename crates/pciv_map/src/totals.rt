@@ -3,12 +3,12 @@
 // the entries tell, while for the count a byte 255 is as good as its distance.
 ghost use mathlib.Core.Path.{_≡_};
 ghost use Prim.Native.Nat.{ℕ, _-_};
-ghost use mathlib.Core.Bool.{not};
-ghost use lib.ListN.{length, getD};
-ghost use lib.Dec.{eqb};
-ghost use Rattle.pciv_bytes.specs.Ranges.{flag, sumFrom};
+ghost use mathlib.Core.List.{List};
+ghost use Rattle.pciv_bytes.specs.Ranges.{sumFrom};
+ghost use Rattle.pciv_format.specs.Layout.{fileOf, Limits};
 ghost use Rattle.pciv_format.specs.Parts.{valueOf};
 ghost use Rattle.pciv_format.specs.Check.{fileParts, CheckedMap};
+ghost use Rattle.pciv_format.specs.Read.{primaryPart, readings};
 use crate::entries::entry_distance;
 use pciv_format::HEADER_LEN;
 use pciv_format::SENTINEL;
@@ -38,10 +38,12 @@ pub fn sum_of(file: &[u8], n: usize, k: usize) -> usize
     sum_bytes(&file[HEADER_LEN..end]) + excess_of(file, n, k)
 }
 
-// How many of a map's primary bytes are not 0, which is how many of its distances are.
+// How many bytes are not 0: as many as distances are not 0 in every map that has these primary bytes, whatever
+// else its file says.
 pub fn readings_of(bytes: &[u8]) -> usize
-    ensures { λ r. ⌜ r
-        ≡ sumFrom (λ (i : ℕ). flag (not (eqb (getD (now (bytes .entry)) i 0) 0))) 0 (length (now (bytes .entry))) ⌝ }
+    ensures count { λ r. ⌜ r ≡ readings (now (bytes .entry)) ⌝ }
+    ensures every { λ r. ⌜ ((xs : List ℕ) → Limits xs → primaryPart (fileOf xs) ≡ now (bytes .entry)
+        → r ≡ readings xs) ⌝ }
 {
     bytes.len() - count_byte(bytes, 0)
 }

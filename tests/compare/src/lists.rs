@@ -119,6 +119,17 @@ fn distance_beside(rng: &mut Rng, x: u32) -> u32 {
     }
 }
 
+/// A list with the same primary array: every distance in overflow is another one.
+pub fn other_overflow(rng: &mut Rng, list: &[u32]) -> Vec<u32> {
+    let another = |rng: &mut Rng, old| match overflow(rng) {
+        same if same == old => (old ^ 256) | 255,
+        other => other,
+    };
+    list.iter()
+        .map(|&x| if x < 255 { x } else { another(rng, x) })
+        .collect()
+}
+
 /// Distances which, shifted, are next to 0, 255 or the largest distance; some lists have one above
 /// that.
 pub fn about_shift(rng: &mut Rng, n: usize, by: i32) -> Vec<u32> {

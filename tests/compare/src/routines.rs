@@ -36,6 +36,7 @@ pub fn compare_list(judge: &mut Judge, rng: &mut Rng, file: &[u8], distances: &[
 }
 
 fn sound_file(trial: &mut Trial, rng: &mut Rng, summary: &Summary) {
+    trial.readings_of_primary(rng);
     for capacity in capacities(rng, summary.n as usize) {
         trial.scan(capacity);
     }

@@ -1,10 +1,12 @@
 //! Calls on one file.
 
-use crate::call::{capacities, file_capacities, summary_of, Call, Dirty};
+use crate::call::{capacities, file_capacities, summary_of, Answer, Call, Dirty};
 use crate::edits;
+use crate::files::encode;
 use crate::judge::Judge;
 use crate::masks::{MASKING, SELECTING};
 use crate::read_only::ReadOnly;
+use compare::lists;
 use compare::rng::Rng;
 use pciv::raw;
 
@@ -96,8 +98,27 @@ impl<'a> Trial<'a> {
     }
 
     pub fn readings(&mut self) {
-        let call = Call::new("readings", "");
-        let answer = reference::readings(self.file.original());
+        self.hold_readings("", reference::readings(self.file.original()));
+    }
+
+    /// The primary array alone tells the readings of a sound file: the reference counts them from
+    /// its bytes, and the library on a file that has them and other distances in overflow.
+    pub fn readings_of_primary(&mut self, rng: &mut Rng) {
+        let list = reference::decode(self.file.original()).unwrap_or_default();
+        let other = encode(&lists::other_overflow(rng, &list));
+        let primary = reference::primary(self.file.original());
+        let kept = &"the primary array with other distances in overflow";
+        self.judge
+            .same_buffer(kept, primary, reference::primary(&other));
+        let count = reference::readings_of_primary(primary);
+        let listed = reference::readings(self.file.original());
+        self.judge
+            .same(&"the reference's readings", listed, Ok(count));
+        Trial::new(self.judge, rng, &other).hold_readings(" with other distances", Ok(count));
+    }
+
+    fn hold_readings(&mut self, with: &str, answer: Answer<u64>) {
+        let call = Call::new("readings", with);
         self.judge.value(&call, answer, |out, refusal| {
             raw::readings(self.file.contents(), out, refusal)
         });

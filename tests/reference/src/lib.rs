@@ -24,7 +24,9 @@ pub use edit::{edit, edit_list, PlainEditor, ANSWER_LEN};
 pub use entries::Entry;
 pub use figures::{bray_curtis, bray_curtis_parts, jaccard, jaccard_parts, nearest_quotient};
 pub use layout::{file_len, index_len, index_step, HEADER_LEN, MAX_SLOTS, SENTINEL};
-pub use map::{check, decode, lookup, lookup_list, primary, readings, scan, sum, Map};
+pub use map::{
+    check, decode, lookup, lookup_list, primary, readings, readings_of_primary, scan, sum, Map,
+};
 pub use mask::{
     increment_masked, keep_masked, map_of_mask, mask_and, mask_len, mask_not, mask_or, mask_xor,
     near_mask, set_bits, threshold, Comparison,

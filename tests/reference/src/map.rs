@@ -208,6 +208,12 @@ pub fn sum(file: &[u8]) -> Result<u64, Refusal> {
     Map::open(file).map(|map| map.sum())
 }
 
+/// The number of readings of a map, from its primary array: a sentinel stands for a distance that is
+/// not 0.
+pub fn readings_of_primary(primary: &[u8]) -> u64 {
+    primary.iter().filter(|&&byte| byte != 0).count() as u64
+}
+
 /// The number of readings. Refusals 1 to 8.
 pub fn readings(file: &[u8]) -> Result<u64, Refusal> {
     Map::open(file).map(|map| map.readings())

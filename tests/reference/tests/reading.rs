@@ -1,7 +1,8 @@
 //! Reading by the reference, held to the small maps and rules of `docs/FORMAT.md`.
 
 use reference::{
-    check, decode, encode, lookup, lookup_list, primary, readings, scan, sum, Refusal, Summary,
+    check, decode, encode, lookup, lookup_list, primary, readings, readings_of_primary, scan, sum,
+    Refusal, Summary,
 };
 
 const A: [u32; 4] = [0, 254, 255, 300];
@@ -65,6 +66,7 @@ fn map_a() {
     assert_eq!(primary(&file), [0x00, 0xFE, 0xFF, 0xFF]);
     assert_eq!(decode(&file).unwrap(), A);
     assert_eq!((sum(&file), readings(&file)), (Ok(809), Ok(3)));
+    assert_eq!(readings_of_primary(primary(&file)), 3);
 }
 
 #[test]

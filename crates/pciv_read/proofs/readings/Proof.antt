@@ -1,18 +1,17 @@
--- Proves pciv_read::readings: the primary part alone is counted.
+-- Proves pciv_read::readings: the file is that of the list that it is read as, and the primary part is counted.
 use mathlib.Core.Path.{_≡_, sym, ap, _∙_}
 use Prim.Native.Nat.{ℕ, _+_, _-_}
 use native.Mathlib.Omega.{arith}
 use Rattle.pciv_format.specs.Refusals.{done, refused, numberAnswer}
+use Rattle.pciv_format.specs.Layout.{fileOf}
 use Rattle.pciv_format.specs.Check.{checkFile}
+use Rattle.pciv_format.specs.Read.{listOf, primaryPart}
 use Rattle.pciv_format.proofs.RefusalsLaws.{fileAnswer-done, fileAnswer-refused}
-use mathlib.Core.List.{List}
-use mathlib.Core.Bool.{not}
-use lib.ListN.{length, take, drop, getD}
-use lib.Dec.{eqb}
-use Rattle.pciv_bytes.specs.Ranges.{flag, sumFrom}
+use lib.ListN.{take, drop}
 use Rattle.pciv_bytes.specs.LittleEndian.{Bytes}
-use Rattle.pciv_format.proofs.MapLaws.{primary-inside, readings-primary}
-use Rattle.pciv_format.proofs.ReadCaseLaws.{checked, readings-refused, readings-done}
+use Rattle.pciv_format.proofs.Acceptance.{accepted-is-file}
+use Rattle.pciv_format.proofs.MapLaws.{primary-inside}
+use Rattle.pciv_format.proofs.ReadCaseLaws.{checked, primary-done, readings-refused, readings-done}
 use borrow.Author.Needs.{needs}
 use Rattle.pciv_read.proofs.readings.Statement.{statement}
 use Rattle.pciv_read.proofs.readings.Tie as tie
@@ -63,13 +62,14 @@ returns-2 c =
     let known = k .before .before .before in
     let b = known .before .args .file .now in
     let s = k .checked2 .given .0 .0 in
-    let m = checked b s (is-map k) in
+    let is = is-map k in
     let bytes : Bytes b = λ i. known .shared-slice-known .given i .fits in
+    let f = accepted-is-file 1 b s bytes is in
     let n : 40 + s .n - 40 ≡ s .n = omega arith in
-    let count : List ℕ → ℕ = λ l. sumFrom (λ (i : ℕ). flag (not (eqb (getD l i 0) 0))) 0 (length l) in
-    let part = ap (λ (z : ℕ). count (take z (drop 40 b))) n in
-    ap (λ (x : ℕ). numberAnswer (done x)) (c .readings-of .ensures ∙ part ∙ readings-primary b (s .n) (s .k) m bytes)
-    ∙ ap numberAnswer (sym (readings-done b s (is-map k)))
+    let primary : primaryPart (fileOf (listOf b)) ≡ take (40 + s .n - 40) (drop 40 b) =
+    ap primaryPart (sym (f .bytes)) ∙ primary-done b s is ∙ ap (λ (z : ℕ). take z (drop 40 b)) (sym n) in
+    ap (λ (x : ℕ). numberAnswer (done x)) (c .readings-of .ensures .1 (listOf b) (f .limits) primary)
+    ∙ ap numberAnswer (sym (readings-done b s is))
 
 pub readings-spec : {M : Type 1} → statement M
 readings-spec =
