@@ -16,6 +16,7 @@ use lib.ListN.{set}
 use lib.Seq.{sets}
 use lib.Pow.{ones-split, ones-lt, high, pow-mono}
 use Rattle.pciv_bytes.specs.Ranges.{flag}
+use Rattle.pciv_bytes.proofs.RangesLaws.{flag-not}
 use Rattle.pciv_format.specs.Mask.{maskLen, word, maskOf}
 use Rattle.pciv_format.proofs.BitLaws.{word-lt}
 use Rattle.pciv_format.proofs.MaskLaws.{maskWord, maskOf-table}
@@ -30,10 +31,6 @@ ones-shr c h =
     ap (λ (x : ℕ). x / 2 ^ (64 - c)) parts ∙ high (2 ^ c - 1) (64 - c) (ones-lt (64 - c))
 
 -- ---- a word and its negation
-
-flag-not : (b : Bool) → flag b + flag (not b) ≡ 1
-flag-not true = refl
-flag-not false = refl
 
 word-not : (p : ℕ → Bool) (i c : ℕ) → word p i c + word (λ (j : ℕ). not (p j)) i c + 1 ≡ 2 ^ c
 unfolding word

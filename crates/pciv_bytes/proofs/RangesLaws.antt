@@ -1,6 +1,6 @@
 -- Laws of `flag`, `firstBelow` and `table`, and of the elements of a list.
 --   true-false                no test is both
---   flag-le, flag-zero        a flag is at most 1; where it is 0, the test fails
+--   flag-le, -zero, -not      a flag is at most 1; where it is 0, the test fails; a test and its negation
 --   boolByte-flag             a test, cast to a number
 --   getD-inside               inside a list the default does not matter
 --   map-cong                  functions that agree on the elements of a list
@@ -17,7 +17,7 @@ use native.Mathlib.Nat.{zero-add, add-zero}
 use native.Mathlib.Omega.{arith}
 use native.Mathlib.Decide.{decLe}
 use native.Mathlib.Numerals.{add-one}
-use mathlib.Core.Bool.{Bool, true, false, cond}
+use mathlib.Core.Bool.{Bool, true, false, cond, not}
 use mathlib.Core.List.{List, [], _∷_, _++_, map}
 use lib.ListN.{length, getD}
 use mir.Val.{boolByte}
@@ -35,6 +35,10 @@ flag-le false = omega arith
 pub flag-zero : (b : Bool) → flag b ≡ 0 → b ≡ false
 flag-zero true e = absurd (omega arith)
 flag-zero false e = refl
+
+pub flag-not : (b : Bool) → flag (not b) + flag b ≡ 1
+flag-not true = refl
+flag-not false = refl
 
 -- a test, cast to a number
 pub boolByte-flag : (b : Bool) → boolByte b ≡ flag b

@@ -5,19 +5,20 @@
 -- Axioms: none.
 use mathlib.Core.Path.{_≡_, refl, sym, ap, ap₂, _∙_}
 use Prim.Native.Nat.{ℕ, zero, suc, _+_, _-_, _*_, max, _≤_, _<_}
-use native.Mathlib.Nat.{add-zero, sub-zero, zero-add, max-eq-left}
+use native.Mathlib.Nat.{add-zero, sub-zero, max-eq-left}
 use native.Mathlib.Omega.{arith}
 use mathlib.Core.List.{List, _++_}
 use lib.ListN.{length}
-use lib.Seq.{sets, length-sets, ext-getD}
+use lib.Seq.{sets, length-sets}
 use Rattle.pciv_bytes.specs.Ranges.{table, joined}
 use Rattle.pciv_bytes.specs.LittleEndian.{le, Bytes}
-use Rattle.pciv_bytes.proofs.RangesLaws.{length-table, getD-table, table-rest, table-done}
+use Rattle.pciv_bytes.proofs.RangesLaws.{table-rest, table-done}
 use Rattle.pciv_bytes.proofs.WriteLaws.{sets-append}
-use Rattle.pciv_format.specs.Layout.{at, primaryByte, primary, overflowCount, overflowEntry, overflowPart}
+use Rattle.pciv_format.specs.Layout.{at, primary, overflowCount, overflowEntry, overflowPart}
 use Rattle.pciv_format.specs.Parts.{Parts, valueOf, SoundParts}
 use Rattle.pciv_format.specs.Write.{closeParts}
 use Rattle.pciv_format.proofs.PartsLaws.{valueOf-slot, primaryByte-valueOf, overflowSlots-are, overflowCount-is}
+use Rattle.pciv_format.proofs.PrimaryLaws.{primary-is}
 use Rattle.pciv_close.specs.Close.{entriesFrom, EntriesLeft}
 use Rattle.pciv_close.proofs.CloseLaws.{slot-is, lengths-same}
 
@@ -53,16 +54,9 @@ module _ (bytes slots distances : List ℕ) (sound : SoundParts (closeParts byte
   k-is = max-eq-left (omega (arith, lengths-same bytes slots distances (sound .entries)))
 
   pub primary-close : primary (length bytes) (valueOf (closeParts bytes slots distances)) ≡ bytes
-  unfolding primary
   primary-close =
-      let v : ℕ → ℕ = valueOf (closeParts bytes slots distances) in
-      let b : ℕ → ℕ = λ i. primaryByte (v i) in
-      ext-getD 0 (table b 0 (length bytes)) bytes (length-table b 0 (length bytes))
-      (λ i h.
-      (let inside : i < length bytes = omega (arith, length-table b 0 (length bytes)) in
-      getD-table b 0 0 (length bytes) i inside
-      ∙ ap b (zero-add i)
-      ∙ primaryByte-valueOf (closeParts bytes slots distances) sound each i inside))
+      primary-is (length bytes) (valueOf (closeParts bytes slots distances)) bytes refl
+      (primaryByte-valueOf (closeParts bytes slots distances) sound each)
 
   pub overflowPart-close : overflowPart (length bytes) (valueOf (closeParts bytes slots distances))
       ≡ entriesFrom (at slots) (at distances) 0 (length slots)

@@ -9,13 +9,13 @@ use native.Mathlib.Nat.{zero-add}
 use native.Mathlib.Omega.{arith}
 use mathlib.Core.List.{List, _++_}
 use lib.ListN.{length, getD, take, drop, length-drop, take-append-drop}
-use lib.Seq.{drop-drop, take-add, length-take-le, getD-take, getD-drop, ext-getD, take-all}
+use lib.Seq.{drop-drop, take-add, length-take-le, getD-take, getD-drop, take-all}
 use Rattle.pciv_bytes.specs.Ranges.{table}
 use Rattle.pciv_bytes.specs.LittleEndian.{le, get, Bytes}
 use Rattle.pciv_bytes.proofs.RangesLaws.{length-table, getD-table}
 use Rattle.pciv_bytes.proofs.JoinedLaws.{joined-is}
 use Rattle.pciv_bytes.proofs.LittleEndianLaws.{le-get, get-lt}
-use Rattle.pciv_format.specs.Layout.{maxDistance, indexStep, indexLen, fileLen, primaryByte, primary}
+use Rattle.pciv_format.specs.Layout.{maxDistance, indexStep, indexLen, fileLen, primary}
 use Rattle.pciv_format.specs.Layout.{overflowSlots, overflowCount, overflowEntry, overflowPart}
 use Rattle.pciv_format.specs.Layout.{indexEntry, indexPart, header, file}
 use Rattle.pciv_format.specs.Parts.{valueOf}
@@ -23,6 +23,7 @@ use Rattle.pciv_format.specs.Check.{fileParts, badIndexEntry, CheckedMap
 use Rattle.pciv_format.proofs.PartsLaws.{or-false, not-eqb, valueOf-slot, primaryByte-valueOf}
 use Rattle.pciv_format.proofs.PartsLaws.{valueOf-le, overflowSlots-are, overflowCount-is}
 use Rattle.pciv_format.proofs.CheckLaws.{checked-length}
+use Rattle.pciv_format.proofs.PrimaryLaws.{primary-is}
 use Rattle.pciv_format.proofs.LayoutLaws.{index-inside, fileLen-is, length-overflowEntry, length-indexEntry}
 
 -- two neighbouring stretches of b
@@ -79,17 +80,12 @@ module _ (b : List ℕ) (n k : ℕ) (bytes : Bytes b) (c : CheckedMap b n k) whe
       (stretches 8 24 8 b ∙ ap (λ (l : List ℕ). take 8 (drop 8 b) ++ l) (stretches 8 16 16 b)))
 
   primary-part : primary n (valueOf (fileParts b n k)) ≡ take n (drop 40 b)
-  unfolding primary
   primary-part =
-      let f : ℕ → ℕ = λ i. primaryByte (valueOf (fileParts b n k) i) in
-      ext-getD 0 _ _
-      (length-table f 0 n ∙ sym (length-take-le n (drop 40 b) (simp length-drop (omega (arith, inside)))))
+      primary-is n (valueOf (fileParts b n k)) (take n (drop 40 b))
+      (length-take-le n (drop 40 b) (simp length-drop (omega (arith, inside))))
       (λ i h.
-      (let h' : i < n = rw (length-table f 0 n) at h in
-      getD-table f 0 0 n i h'
-      ∙ ap f (zero-add i)
-      ∙ primaryByte-valueOf (fileParts b n k) (c .parts) byte-bound i h'
-      ∙ sym (getD-take n (drop 40 b) i 0 h' ∙ getD-drop 40 b i 0)))
+      primaryByte-valueOf (fileParts b n k) (c .parts) byte-bound i h
+      ∙ sym (getD-take n (drop 40 b) i 0 h ∙ getD-drop 40 b i 0))
 
   overflow-part : overflowPart n (valueOf (fileParts b n k)) ≡ take (12 * k) (drop (40 + n) b)
   unfolding overflowPart overflowEntry overflowCount

@@ -22,20 +22,19 @@
 -- Axioms: none.
 use mathlib.Core.Path.{_≡_, refl, sym, ap, _∙_}
 use Prim.Native.Nat.{ℕ, _+_, _*_, _≤_, _<_, min}
-use native.Mathlib.Nat.{zero-add}
 use native.Mathlib.Omega.{arith}
 use native.Mathlib.Decide.{decLe}
 use mathlib.Core.Bool.{Bool, not, _||_, xor}
 use mathlib.Core.List.{List, _++_, map}
-use lib.ListN.{length, getD, take, drop, length-map, List·getD-map, List·getD-eq-default}
+use lib.ListN.{length, take, drop, length-map, List·getD-map, List·getD-eq-default}
 use lib.Seq.{take-at, drop-at}
 use lib.Dec.{ltb, leb, eqb}
 use lib.IntN.{ℤ}
 use borrow.Author.Tests.{ltb-false, le-ltb}
 use Rattle.pciv_bytes.specs.Ranges.{table}
 use Rattle.pciv_bytes.specs.LittleEndian.{Bytes}
-use Rattle.pciv_bytes.proofs.RangesLaws.{getD-table, getD-inside}
-use Rattle.pciv_format.specs.Layout.{maxSlots, maxDistance, primaryByte, primary, overflowSlots}
+use Rattle.pciv_bytes.proofs.RangesLaws.{getD-inside}
+use Rattle.pciv_format.specs.Layout.{maxSlots, maxDistance, primary, overflowSlots}
 use Rattle.pciv_format.specs.Layout.{overflowCount, header, file, countsOf, summary, at, fileOf}
 use Rattle.pciv_format.specs.Layout.{summaryOf, Limits}
 use Rattle.pciv_format.specs.Refusals.{Outcome, done, refuse, refuseIf, refuseFirst, written}
@@ -67,6 +66,7 @@ use Rattle.pciv_format.specs.declared.Comparison.{Comparison}
 use Rattle.pciv_format.proofs.PartsLaws.{primaryByte-overflow, primaryByte-inline, valueOf-le}
 use Rattle.pciv_format.proofs.RefusalsLaws.{refuseIf-done, refuseFirst-done, refuseFirst-none}
 use Rattle.pciv_format.proofs.LayoutLaws.{length-header, length-primary, length-file, file-cong, summary-cong}
+use Rattle.pciv_format.proofs.PrimaryLaws.{primary-byte}
 use Rattle.pciv_format.proofs.FileLaws.{file-header, file-byte, file-slot, file-distance}
 use Rattle.pciv_format.proofs.FileLaws.{file-checked, file-value}
 use Rattle.pciv_format.proofs.Acceptance.{file-accepted, file-read, file-table, summary-table, table-limits}
@@ -388,17 +388,11 @@ close-read bytes slots distances small each out s =
 abbrev pub overflowDistances : ℕ → (ℕ → ℕ) → List ℕ
 overflowDistances n v = map v (overflowSlots n v)
 
-primary-at : (n : ℕ) (v : ℕ → ℕ) (i : ℕ) → i < n → getD (primary n v) i 0 ≡ primaryByte (v i)
-unfolding primary
-primary-at n v i h =
-    let f : ℕ → ℕ = λ j. primaryByte (v j) in
-    getD-table f 0 0 n i h ∙ ap f (zero-add i)
-
 primary-bytes : (n : ℕ) (v : ℕ → ℕ) → Bytes (primary n v)
 primary-bytes n v i =
     elim (decLe n i) [
       | yes past ↦ omega (arith, List·getD-eq-default (primary n v) 0 {n = i} (omega (arith, length-primary n v)))
-      | no inside ↦ (let at-i = primary-at n v i (omega arith) in
+      | no inside ↦ (let at-i = primary-byte n v i (omega arith) in
           elim (decLe 255 (v i)) [
             | yes overflows ↦ omega (arith, at-i, primaryByte-overflow (v i) overflows)
             | no small ↦ omega (arith, at-i, primaryByte-inline (v i) (omega arith))
@@ -418,7 +412,7 @@ module _ (n : ℕ) (v : ℕ → ℕ) (few : n ≤ maxSlots) (each : (i : ℕ) �
       record {
         nSame = length-primary n v;
         kSame = rw (length-map ss v) (omega arith);
-        byteSame = λ i h. primary-at n v i h ∙ sym (file-byte n v few each i h);
+        byteSame = λ i h. primary-byte n v i h ∙ sym (file-byte n v few each i h);
         slotSame = λ j h. getD-inside ss j _ 0 h ∙ sym (file-slot n v few each j h);
         distanceSame = λ j h.
             getD-inside (map v ss) j 0 (v 0) (rw (length-map ss v) h)

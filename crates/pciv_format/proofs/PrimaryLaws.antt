@@ -2,6 +2,7 @@
 --   PrimaryLeft            the invariant: the bytes of the slots from i on are left
 --   -start, -more, -end    before the first slot, one slot on, and after the last
 --   primary-byte           the byte of a slot
+--   primary-is             a list with the bytes of the slots is the primary array
 --   primary-at             the byte of a slot, once the array is written
 use mathlib.Core.Path.{_≡_, refl, sym, ap, _∙_}
 use Prim.Native.Nat.{ℕ, _+_, _-_, _≤_, _<_}
@@ -9,7 +10,7 @@ use native.Mathlib.Nat.{zero-add}
 use native.Mathlib.Omega.{arith}
 use mathlib.Core.List.{List, _++_, append-assoc}
 use lib.ListN.{length, getD, set, take, drop, length-set, List·getD-append}
-use lib.Seq.{sets, sets-eq, length-take-le, getD-append-add}
+use lib.Seq.{sets, sets-eq, ext-getD, length-take-le, getD-append-add}
 use Rattle.pciv_bytes.specs.Ranges.{table}
 use Rattle.pciv_bytes.proofs.RangesLaws.{getD-table}
 use Rattle.pciv_bytes.proofs.WriteLaws.{sets-table-start, sets-table-more, sets-table-end}
@@ -43,6 +44,12 @@ module _ {n : ℕ} {v : ℕ → ℕ} {d₀ : List ℕ} {i : ℕ} {d : List ℕ} 
 pub primary-byte : (n : ℕ) (v : ℕ → ℕ) (i : ℕ) → i < n → getD (primary n v) i 0 ≡ primaryByte (v i)
 unfolding primary
 primary-byte n v i h = getD-table (byteOf v) 0 0 n i h ∙ ap (byteOf v) (zero-add i)
+
+pub primary-is : (n : ℕ) (v : ℕ → ℕ) (p : List ℕ) → length p ≡ n
+    → ((i : ℕ) → i < n → primaryByte (v i) ≡ getD p i 0) → primary n v ≡ p
+primary-is n v p long same =
+    ext-getD 0 (primary n v) p (length-primary n v ∙ sym long)
+    (λ i h. (let inside : i < n = rw (length-primary n v) at h in primary-byte n v i inside ∙ same i inside))
 
 pub primary-at : (n : ℕ) (v : ℕ → ℕ) (d : List ℕ) → 40 + n ≤ length d → (i : ℕ) → i < n
     → getD (sets d 40 (primary n v)) (40 + i) 0 ≡ primaryByte (v i)

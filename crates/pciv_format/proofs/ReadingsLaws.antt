@@ -8,28 +8,24 @@
 use mathlib.Core.Path.{_≡_, refl, sym, ap, _∙_}
 use Prim.Native.Nat.{ℕ, _+_, _≤_, _<_}
 use native.Mathlib.Omega.{arith}
-use native.Mathlib.Decide.{decLe, ℕ-discrete}
-use mathlib.Core.Bool.{Bool, true, false, not}
+use native.Mathlib.Decide.{ℕ-discrete}
+use mathlib.Core.Bool.{not}
 use mathlib.Core.List.{List}
 use lib.ListN.{length, set}
-use lib.Seq.{ext-getD}
 use lib.Dec.{eqb}
 use Rattle.pciv_bytes.specs.Ranges.{flag, sumFrom}
 use Rattle.pciv_bytes.specs.LittleEndian.{Bytes}
 use Rattle.pciv_bytes.specs.ByteAt.{byteIs}
+use Rattle.pciv_bytes.proofs.RangesLaws.{flag-not}
 use Rattle.pciv_bytes.proofs.SumLaws.{sumFrom-cong, sumFrom-rest}
 use Rattle.pciv_format.specs.Layout.{maxSlots, maxDistance, primaryByte, primary, at, fileOf, Limits}
 use Rattle.pciv_format.specs.Read.{primaryPart, readings}
 use Rattle.pciv_format.specs.Edit.{Edit}
-use Rattle.pciv_format.proofs.PartsLaws.{primaryByte-overflow, primaryByte-inline, primaryByte-zero}
+use Rattle.pciv_format.proofs.PartsLaws.{primaryByte-overflow, primaryByte-min, primaryByte-zero}
 use Rattle.pciv_format.proofs.LayoutLaws.{length-primary, primary-cong}
-use Rattle.pciv_format.proofs.PrimaryLaws.{primary-byte}
+use Rattle.pciv_format.proofs.PrimaryLaws.{primary-byte, primary-is}
 use Rattle.pciv_format.proofs.EditLaws.{edited-at, edited-other, length-edited, edited-limits}
 use Rattle.pciv_format.proofs.ListLaws.{file-primary}
-
-flag-not : (b : Bool) → flag (not b) + flag b ≡ 1
-flag-not true = refl
-flag-not false = refl
 
 pub readings-rest : (xs : List ℕ) → readings xs + sumFrom (byteIs xs 0) 0 (length xs) ≡ length xs
 unfolding readings
@@ -58,24 +54,11 @@ readings-of-primary p xs l e =
 -- the bytes themselves, as distances, are one
 pub primary-of-some : (p : List ℕ) → Bytes p → length p ≤ maxSlots
     → (xs : List ℕ) × Limits xs × (primaryPart (fileOf xs) ≡ p)
-primary-of-some p bytes few = (p, limits, file-primary p limits ∙ same)
-  where
-    limits : Limits p
-    limits = record { count = few; each = λ i h. omega (arith, bytes i) }
-
-    byte-same : (x : ℕ) → x < 256 → primaryByte x ≡ x
-    byte-same x h =
-        elim (decLe 255 x) [
-          | yes full ↦ primaryByte-overflow x full ∙ omega arith
-          | no inline ↦ primaryByte-inline x (omega arith)
-        ]
-
-    same : primary (length p) (at p) ≡ p
-    same =
-        ext-getD 0 _ _ (length-primary (length p) (at p))
-        (λ i h.
-        primary-byte (length p) (at p) i (omega (arith, length-primary (length p) (at p)))
-        ∙ byte-same (at p i) (bytes i))
+primary-of-some p bytes few =
+    let limits : Limits p = record { count = few; each = λ i h. omega (arith, bytes i) } in
+    let same : primary (length p) (at p) ≡ p =
+    primary-is (length p) (at p) p refl (λ i h. primaryByte-min (at p i) ∙ omega (arith, bytes i)) in
+    (p, limits, file-primary p limits ∙ same)
 
 pub primary-of-many : (xs : List ℕ) → Limits xs → (i x : ℕ) → 255 ≤ at xs i → 255 ≤ x → x ≤ maxDistance
     → Limits (set xs i x) × (primaryPart (fileOf (set xs i x)) ≡ primaryPart (fileOf xs))
