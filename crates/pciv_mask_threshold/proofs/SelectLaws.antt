@@ -2,6 +2,8 @@
 -- case.
 --   holds-limit         a comparison with t is a test of a limit
 --   bytes-selected      for a limit up to 255 the mask of the primary bytes is that of the distances
+--   near-bytes          so is the near mask for t below 255
+--   near-flipped        for t from 255 on it is that of the bytes with the slots of distances above t flipped
 --   select-refused, -short, -done      the outcome, where the file is refused, and where it is a map with counts s
 --   words-refused, -done, -cong        the caller's words afterwards
 -- Axioms: none.
@@ -9,7 +11,7 @@ use mathlib.Core.Path.{_≡_, refl, sym, ap, ap₂, _∙_}
 use Prim.Native.Nat.{ℕ, _+_, _≤_, _<_}
 use native.Mathlib.Omega.{arith}
 use native.Mathlib.Decide.{decLe}
-use mathlib.Core.Bool.{Bool, not}
+use mathlib.Core.Bool.{Bool, false, not}
 use mathlib.Core.List.{List}
 use lib.ListN.{length}
 use lib.Seq.{sets}
@@ -17,23 +19,23 @@ use lib.Dec.{ltb, leb}
 use borrow.Author.Tests.{lt-ltb, le-ltb, le-leb, lt-leb}
 use Rattle.pciv_bytes.specs.LittleEndian.{Bytes}
 use Rattle.pciv_bytes.proofs.WriteLaws.{sets-front}
-use Rattle.pciv_format.specs.Layout.{at}
+use Rattle.pciv_format.specs.Layout.{primaryByte, at}
 use Rattle.pciv_format.specs.Refusals.{Outcome, done, refused, refuse, written}
 use Rattle.pciv_format.specs.Parts.{Parts, valueOf, SoundParts}
 use Rattle.pciv_format.specs.Check.{checkFile, fileParts, CheckedMap}
 use Rattle.pciv_format.specs.Read.{listOf}
-use Rattle.pciv_format.specs.Mask.{maskLen, maskOf, holds, selectOutcome, selectWords}
+use Rattle.pciv_format.specs.Mask.{maskLen, maskOf, holds, isNear, selectOutcome, selectWords}
 use Rattle.pciv_format.specs.declared.Summary.{Summary}
 use Rattle.pciv_format.specs.declared.Refusal.{Refusal}
 use Rattle.pciv_format.specs.declared.Comparison.{Comparison}
 use Rattle.pciv_format.specs.declared.Comparison.the-variants.{Below, AtMost, Above, AtLeast}
-use Rattle.pciv_format.proofs.PartsLaws.{slot-cases}
+use Rattle.pciv_format.proofs.PartsLaws.{and-false, primaryByte-overflow, primaryByte-inline, slot-cases}
 use Rattle.pciv_format.proofs.ReadLaws.{length-listOf, at-list, items-fit, items-short}
 use Rattle.pciv_format.proofs.MapLaws.{primaryOf, primary-length, primary-at}
 use Rattle.pciv_format.proofs.ReadCaseLaws.{checked}
 use Rattle.pciv_format.proofs.MaskLaws.{length-maskOf, maskOf-cong}
-use Rattle.pciv_bits.specs.Flags.{flipIf, passes, passesAt}
-use Rattle.pciv_mask_threshold.specs.Select.{limitOf, isNegated, selected}
+use Rattle.pciv_bits.specs.Flags.{flipIf, passes, passesAt, nearAt}
+use Rattle.pciv_mask_threshold.specs.Select.{limitOf, isNegated, selected, nearIn, flippedFrom}
 
 -- ---- comparisons
 
@@ -83,6 +85,52 @@ bytes-selected b n k m bytes limit negated low =
     (λ i h.
     ap (λ (x : ℕ). passes limit negated x) (primary-at b n k m i h)
     ∙ ap (flipIf negated) (byte-below (fileParts b n k) (m .parts) (λ t. bytes (40 + t)) limit low i h))
+
+-- above t
+near-none : (t x : ℕ) → t < x → isNear t x ≡ false
+near-none t x h = rw (lt-leb x t h) (and-false (leb 1 x))
+
+-- for t from 255 on: an inline distance, and one in overflow, whose byte is 255
+near-inline : (t x : ℕ) → x < 255 → 255 ≤ t → flipIf (leb (t + 1) x) (isNear 255 x) ≡ isNear t x
+near-inline t x small high = rw (lt-leb (t + 1) x (omega arith), le-leb x 255 (omega arith), le-leb x t (omega arith))
+
+near-overflow : (t x : ℕ) → 255 ≤ x → 255 ≤ t → flipIf (leb (t + 1) x) (isNear 255 255) ≡ isNear t x
+near-overflow t x large high =
+    elim (decLe x t) [
+      | yes d ↦ rw (lt-leb (t + 1) x (omega arith), le-leb 1 x (omega arith), le-leb x t d)
+      | no d ↦ rw (le-leb (t + 1) x (omega arith), near-none t x (omega arith))
+    ]
+
+module _ (b : List ℕ) (n k : ℕ) (m : CheckedMap b n k) (bytes : Bytes b) (t : ℕ) where
+  abbrev P : Parts
+  P = fileParts b n k
+
+  -- the near mask of the primary bytes, those of overflow entries counting as 255
+  abbrev near : ℕ → Bool
+  near = nearAt (primaryOf b n) (primaryByte t)
+
+  near-at : (i : ℕ) → i < n → near i ≡ isNear (primaryByte t) (P .byte i)
+  near-at i h = ap (isNear (primaryByte t)) (primary-at b n k m i h)
+
+  pub near-bytes : t < 255 → maskOf (length (primaryOf b n)) near ≡ maskOf n (nearIn P t)
+  near-bytes low =
+      ap (λ (c : ℕ). maskOf c near) (primary-length b n k m)
+      ∙ maskOf-cong n near (nearIn P t)
+      (λ i h.
+      near-at i h
+      ∙ rw (primaryByte-inline t low)
+      (slot-cases P (m .parts) (λ s. bytes (40 + s)) i h (λ small e. ap (isNear t) (sym e))
+      (λ j hj at e w overflows. near-none t (P .byte i) (omega arith) ∙ sym (near-none t (valueOf P i) (omega arith)))))
+
+  pub near-flipped : 255 ≤ t → maskOf n (flippedFrom P (t + 1) near) ≡ maskOf n (nearIn P t)
+  near-flipped high =
+      maskOf-cong n (flippedFrom P (t + 1) near) (nearIn P t)
+      (λ i h.
+      ap (flipIf (leb (t + 1) (valueOf P i))) (near-at i h)
+      ∙ rw (primaryByte-overflow t high)
+      (slot-cases P (m .parts) (λ s. bytes (40 + s)) i h
+      (λ small e. rw e (near-inline t (P .byte i) small high))
+      (λ j hj at e w overflows. rw e (near-overflow t (valueOf P i) overflows high))))
 
 -- ---- the caller's words, by the outcome
 

@@ -1,5 +1,5 @@
 // Masks of a map (docs/FORMAT.md, "Masks"): the slots whose distance is below, at most, above or at least t, and the near
-// mask. The file is checked first, and refused as the check refuses it, with map 1; then 12. A refused call changes no
+// mask, the slots whose distance is from 1 to t. The file is checked first, and refused as the check refuses it, with map 1; then 12. A refused call changes no
 // word, and words past the mask stay as they were.
 mod entries;
 
@@ -11,10 +11,11 @@ ghost use Rattle.pciv_format.specs.Refusals.{numberAnswer};
 ghost use Rattle.pciv_format.specs.Check.{fileParts, CheckedMap};
 ghost use Rattle.pciv_format.specs.Mask.{maskLen, maskOf, selectOutcome, selectWords, thresholdOutcome};
 ghost use Rattle.pciv_format.specs.Mask.{thresholdWords, nearMaskOutcome, nearMaskWords};
-ghost use Rattle.pciv_bits.specs.Flags.{passes};
-ghost use Rattle.pciv_mask_threshold.specs.Select.{limitOf, isNegated, selected};
+ghost use Rattle.pciv_mask_threshold.specs.Select.{limitOf, isNegated, selected, nearIn, askedOf, askedIn};
+use crate::entries::flip_entries;
 use crate::entries::select_entries;
 use pciv_bits::flags::flags_into;
+use pciv_bits::flags::near_into;
 use pciv_check::check;
 use pciv_format::BUFFER_TOO_SMALL;
 use pciv_format::Comparison;
@@ -23,6 +24,7 @@ use pciv_format::HEADER_LEN;
 use pciv_format::NumberAnswer;
 use pciv_format::SENTINEL;
 use pciv_layout::mask_len;
+use pciv_layout::primary_byte;
 use pciv_layout::refusals::refuse_number;
 
 // The least limit that every inline distance is below.
@@ -66,10 +68,43 @@ fn select_into(file: &[u8], n: usize, k: usize, limit: u64, negated: bool, out: 
     }
 }
 
-// The mask of the distances below a limit, or, negated, of the others, to the front of out.
-fn select(file: &[u8], limit: u64, negated: bool, out: &mut [u64]) -> NumberAnswer
+// The near mask of a checked map: by the primary bytes, where those of entries count as 255. Where t is 255 or more, the
+// slots of the entries above t are among them, and are flipped.
+fn select_near(file: &[u8], n: usize, k: usize, t: u32, out: &mut [u64])
+    requires { ⌜ CheckedMap (now file) n k ⌝ }
+    requires { ⌜ maskLen n ≤ length (now out) ⌝ }
+    ensures { λ _. ⌜ now (out .exit) ≡ sets (now (out .entry)) 0 (maskOf n (nearIn (fileParts (now (file .entry)) n k) t)) ⌝ }
+{
+    let end = HEADER_LEN + n;
+    near_into(&file[HEADER_LEN..end], primary_byte(t), out);
+    let limit = t as u64 + 1;
+    if INLINE_LIMIT < limit {
+        flip_entries(file, n, k, limit, out);
+    }
+}
+
+// What is asked of a distance: that it is below a limit, or, negated, that it is not; or that it is from 1 to t.
+enum Asked {
+    Limit(u64, bool),
+    Near(u32),
+}
+
+// The mask of a checked map by what is asked.
+fn asked_into(file: &[u8], n: usize, k: usize, asked: Asked, out: &mut [u64])
+    requires { ⌜ CheckedMap (now file) n k ⌝ }
+    requires { ⌜ maskLen n ≤ length (now out) ⌝ }
+    ensures { λ _. ⌜ now (out .exit) ≡ sets (now (out .entry)) 0 (maskOf n (askedIn (fileParts (now (file .entry)) n k) asked)) ⌝ }
+{
+    match asked {
+        Asked::Limit(limit, negated) => select_into(file, n, k, limit, negated, out),
+        Asked::Near(t) => select_near(file, n, k, t, out),
+    }
+}
+
+// The mask of the distances of which holds what is asked, to the front of out.
+fn select(file: &[u8], asked: Asked, out: &mut [u64]) -> NumberAnswer
     ensures answer { λ r. ⌜ r ≡ numberAnswer (selectOutcome (now (file .entry)) (length (now (out .entry)))) ⌝ }
-    ensures words { λ _. ⌜ now (out .exit) ≡ selectWords (passes limit negated) (now (file .entry)) (now (out .entry)) ⌝ }
+    ensures words { λ _. ⌜ now (out .exit) ≡ selectWords (askedOf asked) (now (file .entry)) (now (out .entry)) ⌝ }
 {
     let checked = check(file);
     match checked {
@@ -81,7 +116,7 @@ fn select(file: &[u8], limit: u64, negated: bool, out: &mut [u64]) -> NumberAnsw
             if out.len() < count {
                 return refuse_number(BUFFER_TOO_SMALL, 0, 0);
             }
-            select_into(file, n, k, limit, negated, out);
+            asked_into(file, n, k, asked, out);
             NumberAnswer::Number(count)
         }
     }
@@ -93,13 +128,17 @@ pub fn threshold(file: &[u8], comparison: Comparison, t: u32, out: &mut [u64]) -
     ensures answer { λ r. ⌜ r ≡ numberAnswer (thresholdOutcome comparison (now (file .entry)) t (length (now (out .entry)))) ⌝ }
     ensures words { λ _. ⌜ now (out .exit) ≡ thresholdWords comparison (now (file .entry)) t (now (out .entry)) ⌝ }
 {
-    select(file, limit_of(comparison, t), is_negated(comparison), out)
+    select(
+        file,
+        Asked::Limit(limit_of(comparison, t), is_negated(comparison)),
+        out,
+    )
 }
 
-// The near mask at t, likewise. Refusals: 1 to 8, then 12.
+// The near mask at t, likewise: the slots whose distance is from 1 to t. Refusals: 1 to 8, then 12.
 pub fn near_mask(file: &[u8], t: u32, out: &mut [u64]) -> NumberAnswer
     ensures answer { λ r. ⌜ r ≡ numberAnswer (nearMaskOutcome (now (file .entry)) t (length (now (out .entry)))) ⌝ }
     ensures words { λ _. ⌜ now (out .exit) ≡ nearMaskWords (now (file .entry)) t (now (out .entry)) ⌝ }
 {
-    threshold(file, Comparison::AtMost, t, out)
+    select(file, Asked::Near(t), out)
 }
