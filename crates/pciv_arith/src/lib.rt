@@ -100,8 +100,8 @@ fn which_way(by: i32) -> Direction
     Direction::Up(d as u32)
 }
 
-// Each distance with `by` added: a zero distance stays 0; another one becomes v + by, or 1 where that is 0 or below.
-// Refusals: 1 to 8, then 11 with the least slot whose result is no distance, then 12.
+// Each non-zero distance with `by` added, or 1 where that is 0 or below; a zero distance stays. Refusals: 1 to 8, then 11
+// with the least slot whose result is no distance, then 12.
 pub fn shift(file: &[u8], by: i32, out: &mut [u8]) -> FileAnswer
     ensures answer { λ r. ⌜ r ≡ fileAnswer (shiftOutcome (now (file .entry)) by (length (now (out .entry)))) ⌝ }
     ensures buffer { λ _. ⌜ now (out .exit) ≡ shiftBuffer (now (file .entry)) by (now (out .entry)) ⌝ }

@@ -1,4 +1,4 @@
--- A map whose distances are all lowered by m.
+-- A map whose non-zero distances are lowered by m.
 --   lowByte m                           the primary byte that a byte or a distance leads to
 --   lowered-bytes-start, -more, -end    the primary bytes, put right one entry a step
 --   lowered-bytes-again                 of bytes written twice the last count

@@ -1,4 +1,4 @@
--- A map whose distances are all lowered by one number.
+-- A map whose non-zero distances are lowered by one number.
 --   lowered m x        a distance lowered by m: a zero distance stays, another one is at least 1 afterwards
 --   loweredAt P m i    the distance of the result at slot i
 -- Axioms: none.

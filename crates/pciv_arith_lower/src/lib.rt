@@ -1,5 +1,5 @@
-// A checked map with all distances lowered by m, written as a file: a zero distance stays, another one is at least 1
-// afterwards. Only what is in overflow can stay so: the primary bytes are lowered all at once, then a walk over the
+// A checked map with its non-zero distances lowered by m, to 1 at the least, written as a file; a zero distance stays.
+// Only what is in overflow can stay so: the primary bytes are lowered all at once, then a walk over the
 // overflow entries puts the bytes of their slots right, and another writes the entries that are left.
 ghost use mathlib.Core.Path.{_≡_};
 ghost use Prim.Native.Nat.{_+_, _*_, _≤_};
@@ -21,14 +21,12 @@ use pciv_map::entries::entry_slot;
 use pciv_passes::pairs::ByteOp;
 use pciv_passes::pairs::map_into;
 
-// A distance lowered by m: 0 stays, another one is at least 1 afterwards.
+// A non-zero distance lowered by m, to 1 at the least.
 fn lower(x: u32, m: u32) -> u32
+    requires { ⌜ 1 ≤ x ⌝ }
     ensures { λ r. ⌜ r ≡ lowered m x ⌝ }
 {
-    if m < x {
-        return x - m;
-    }
-    if x == 0 { 0 } else { 1 }
+    if x <= m { 1 } else { x - m }
 }
 
 // How many slots of the result are in overflow.

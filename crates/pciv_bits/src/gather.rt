@@ -6,6 +6,7 @@ ghost use lib.ListN.{length};
 ghost use Rattle.pciv_bytes.specs.Ranges.{flag};
 ghost use Rattle.pciv_format.specs.Mask.{isNear};
 ghost use Rattle.pciv_bits.specs.Flags.{meets, isMet, spread, Gathered};
+ghost use Rattle.pciv_bits.specs.declared.gather.ByteTest.the-variants.{Below, Near};
 use pciv_bytes::little_endian::get64;
 use std::num::wrapping_sub_u8;
 
@@ -22,7 +23,7 @@ fn is_near(x: u8, t: u8) -> bool
     wrapping_sub_u8(x, 1) < t
 }
 
-// The byte meets the test. It is the same test for all bytes, so the compiler chooses once for a whole loop.
+// The byte meets the test.
 pub(crate) fn is_met(test: ByteTest, x: u8) -> bool
     ensures { λ r. ⌜ r ≡ meets test x ⌝ }
 {
@@ -32,22 +33,52 @@ pub(crate) fn is_met(test: ByteTest, x: u8) -> bool
     }
 }
 
-// The weight of a byte's flag, where it is set.
-fn weigh(test: ByteTest, x: u8, weight: u8) -> u8
-    ensures { λ r. ⌜ (r ≡ flag (meets test x) * weight) × (r ≤ weight) ⌝ }
+// The weight of a flag, where it is set.
+fn weigh(is_set: bool, weight: u8) -> u8
+    ensures { λ r. ⌜ (r ≡ flag «is_set» * weight) × (r ≤ weight) ⌝ }
 {
-    if is_met(test, x) { weight } else { 0 }
+    if is_set { weight } else { 0 }
 }
 
-// The flags of four bytes, at every other bit.
+// The weight of a byte, where it is from 1 to t.
+fn weigh_near(x: u8, t: u8, weight: u8) -> u8
+    ensures { λ r. ⌜ (r ≡ flag (isNear t x) * weight) × (r ≤ weight) ⌝ }
+{
+    weigh(is_near(x, t), weight)
+}
+
+// The flags of four bytes, at every other bit: of those below the limit.
+fn lane_below(a: &[u8], i: usize, limit: u8) -> u8
+    requires { ⌜ i + 48 < length (now a) ⌝ }
+    ensures { λ r. ⌜ r ≡ spread (isMet (now (a .entry)) (Below limit)) i ⌝ }
+{
+    weigh(a[i] < limit, 1)
+        + weigh(a[i + 16] < limit, 4)
+        + weigh(a[i + 32] < limit, 16)
+        + weigh(a[i + 48] < limit, 64)
+}
+
+// The same of those from 1 to t.
+fn lane_near(a: &[u8], i: usize, t: u8) -> u8
+    requires { ⌜ i + 48 < length (now a) ⌝ }
+    ensures { λ r. ⌜ r ≡ spread (isMet (now (a .entry)) (Near t)) i ⌝ }
+{
+    weigh_near(a[i], t, 1)
+        + weigh_near(a[i + 16], t, 4)
+        + weigh_near(a[i + 32], t, 16)
+        + weigh_near(a[i + 48], t, 64)
+}
+
+// The flags of four bytes, by the test. It is the same for all lanes, so the compiler chooses once for all of them; with
+// the choice in the test of a byte it would make one test of both, which is slower.
 fn lane(a: &[u8], i: usize, test: ByteTest) -> u8
     requires { ⌜ i + 48 < length (now a) ⌝ }
     ensures { λ r. ⌜ r ≡ spread (isMet (now (a .entry)) test) i ⌝ }
 {
-    weigh(test, a[i], 1)
-        + weigh(test, a[i + 16], 4)
-        + weigh(test, a[i + 32], 16)
-        + weigh(test, a[i + 48], 64)
+    match test {
+        ByteTest::Below(limit) => lane_below(a, i, limit),
+        ByteTest::Near(t) => lane_near(a, i, t),
+    }
 }
 
 // Two words.

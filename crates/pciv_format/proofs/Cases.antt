@@ -4,8 +4,8 @@
 --   counts, setTo, Gives, LengthRow    short forms of what the statements repeat
 --   cases       the cases that "Worked examples" marks as proved, under one statement: a component for each
 --   lengths     the table of "Derived counts"
---   further     cases of the routines that the examples leave out, the readings of a primary array, edits before
---               other bytes, and masks of more than a word
+--   further     the near masks and shifts of "Worked examples", cases of the routines that these leave out, the readings
+--               of a primary array, edits before other bytes, and masks of more than a word
 --   examples    the other cases of "Worked examples", and texts of "The report program"
 -- A caller's buffer or list holds 7 in each place, so that what is left unchanged shows. Axioms: none.
 use mathlib.Core.Path.{_≡_, refl}
@@ -240,7 +240,8 @@ pub further :
     × (incrementMaskedOutcome (fileOf B) (8 ∷ []) 99 ≡ refuse 11 0 3)
     -- Jaccard of A and B at 255: one slot in exactly one, two in either
     × (jaccardOutcome 255 (fileOf A) (fileOf B) ≡ done (ofBits binary64 0x3FE0000000000000))
-    -- A shifted by -300, -255, 0, 1 and 300, with as many readings as A has; distances 0, 1 and 5; B; B - A
+    -- A shifted by -300, with as many readings as A has, and by -255, 0, 1 and 300; distances 1, 5 and 0; B and the empty
+    -- map shifted; B - A
     × ((shiftBuffer (fileOf A) (negsuc 299) (replicate 45 7) ≡ fileOf (0 ∷ 1 ∷ 1 ∷ 1 ∷ []) ++ (7 ∷ []))
     × (readings (0 ∷ 1 ∷ 1 ∷ 1 ∷ []) ≡ readings A))
     × (shiftBuffer (fileOf A) (negsuc 254) (replicate 45 7) ≡ fileOf (0 ∷ 1 ∷ 1 ∷ 45 ∷ []) ++ (7 ∷ []))

@@ -1,15 +1,15 @@
 -- Laws of zero distances ("holes"): the near mask leaves them out; a shift keeps them, and makes none of the others
 -- ("readings").
---   near-iff           the near mask's test says: from 1 to t
---   near-mask-has      a bit of the near mask of a list's file, over any number of words
---   near-mask-empty    at t = 0 all words are 0
---   near-at-most       it is the mask for at most t without the zero distances
 --   shift-up, -down    a shift by a number of either sign, on whole numbers that are not negative
 --   shift-hole         a shifted distance is 0 exactly where the distance is
 --   shift-reading      another one becomes x + d, or 1 where that is 0 or below
 --   shift-readings     a shifted list has as many readings, for every d
 --   shift-file         the file of a list becomes the file of the list of shifted distances
 --   shift-large        refusal 11 names a slot whose distance is not 0
+--   near-iff, -none    the near mask's test says: from 1 to t; it fails above t
+--   near-mask-has      a bit of the near mask of a list's file, over any number of words
+--   near-mask-empty    at t = 0 all words are 0
+--   near-at-most       it is the mask for at most t without the zero distances
 -- Axioms: none.
 use mathlib.Core.Path.{_≡_, refl, sym, ap, _∙_, subst, fun-ext}
 use Prim.Native.Nat.{ℕ, suc, _+_, _-_, _*_, _/_, _%_, _≤_, _<_, min, max}
@@ -22,15 +22,15 @@ use lib.IntN.{ℤ, pos, negsuc, _+ℤ_}
 use lib.Signed.{leZ}
 use lib.Dec.{ltb, leb, eqb, lit<}
 use borrow.Author.Tests.{le-leb, lt-leb, leb-true, leb-false, ltb-true, le-ltb, lt-ltb, eq-eqb, ne-eqb}
-use Rattle.pciv_bytes.specs.Ranges.{flag, firstBelow, table, sumFrom}
+use Rattle.pciv_bytes.specs.Ranges.{flag, firstBelow, table}
 use Rattle.pciv_bytes.proofs.RangesLaws.{firstBelow-has, length-table}
 use Rattle.pciv_bytes.proofs.SumLaws.{sumFrom-cong}
 use Rattle.pciv_format.specs.Layout.{maxDistance, file, at, fileOf, Limits}
 use Rattle.pciv_format.specs.Refusals.{Outcome, done, refused, refuse, refuseIf, written}
 use Rattle.pciv_format.specs.Read.{readings, itemsInto}
-use Rattle.pciv_format.specs.Write.{fileInto, mapInto}
-use Rattle.pciv_format.specs.Mask.{maskLen, bitAt, maskHas, word, maskOf, isNear, thresholdWords}
-use Rattle.pciv_format.specs.Mask.{nearMaskOutcome, nearMaskWords}
+use Rattle.pciv_format.specs.Write.{mapInto}
+use Rattle.pciv_format.specs.Mask.{maskLen, bitAt, maskHas, maskOf, isNear, thresholdWords}
+use Rattle.pciv_format.specs.Mask.{nearMaskWords}
 use Rattle.pciv_format.specs.Arith.{atLeastZero, shiftedBy, shiftOutcome, shiftBuffer}
 use Rattle.pciv_format.specs.declared.Summary.{Summary}
 use Rattle.pciv_format.specs.declared.Refusal.{Refusal}
@@ -38,8 +38,8 @@ use Rattle.pciv_format.specs.declared.Comparison.the-variants.{AtMost}
 use Rattle.pciv_format.proofs.PartsLaws.{and-false}
 use Rattle.pciv_format.proofs.BitLaws.{bitAt-none}
 use Rattle.pciv_format.proofs.ReadLaws.{items-fit}
-use Rattle.pciv_format.proofs.MaskLaws.{maskHas-at, maskHas-maskOf, maskHas-maskOf-past, length-maskOf}
-use Rattle.pciv_format.proofs.MaskLaws.{maskOf-cong, table-maskOf}
+use Rattle.pciv_format.proofs.MaskLaws.{maskHas-maskOf, maskHas-maskOf-past, length-maskOf}
+use Rattle.pciv_format.proofs.MaskLaws.{table-maskOf}
 use Rattle.pciv_format.proofs.ListLaws.{Writes, file-threshold, file-nearMask, shiftedAt, file-shift}
 
 -- ---- a shift, one distance
@@ -165,6 +165,9 @@ near-iff t x = (
   λ h₁ h₂. rw (le-leb 1 x h₁, le-leb x t h₂),
 )
 
+pub near-none : (t x : ℕ) → t < x → isNear t x ≡ false
+near-none t x h = rw (lt-leb x t h) (and-false (leb 1 x))
+
 -- the words of a mask at the front of others
 has-front : (ws rest : List ℕ) (i : ℕ) → i < 64 * length ws → maskHas (ws ++ rest) i ≡ maskHas ws i
 unfolding maskHas
@@ -240,7 +243,7 @@ module _ (xs : List ℕ) (l : Limits xs) (out : List ℕ) (long : maskLen (lengt
       ∙ rw (items-fit (maskLen (length xs)) (length out) long, words) (rw (length-table {A = ℕ} (λ (w : ℕ). 0) 0 (maskLen (length xs))))
     where
       none : (x : ℕ) → isNear 0 x ≡ false
-      none x = elim (ℕ-discrete x 0) [ yes e ↦ rw e | no ne ↦ rw (lt-leb x 0 (omega arith)) (and-false (leb 1 x)) ]
+      none x = elim (ℕ-discrete x 0) [ yes e ↦ rw e | no ne ↦ near-none 0 x (omega arith) ]
 
       words : maskOf (length xs) (λ (i : ℕ). isNear 0 (at xs i)) ≡ table (λ (w : ℕ). 0) 0 (maskLen (length xs))
       words =

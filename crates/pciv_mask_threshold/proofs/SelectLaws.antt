@@ -11,7 +11,7 @@ use mathlib.Core.Path.{_≡_, refl, sym, ap, ap₂, _∙_}
 use Prim.Native.Nat.{ℕ, _+_, _≤_, _<_}
 use native.Mathlib.Omega.{arith}
 use native.Mathlib.Decide.{decLe}
-use mathlib.Core.Bool.{Bool, false, not}
+use mathlib.Core.Bool.{Bool, not}
 use mathlib.Core.List.{List}
 use lib.ListN.{length}
 use lib.Seq.{sets}
@@ -29,7 +29,8 @@ use Rattle.pciv_format.specs.declared.Summary.{Summary}
 use Rattle.pciv_format.specs.declared.Refusal.{Refusal}
 use Rattle.pciv_format.specs.declared.Comparison.{Comparison}
 use Rattle.pciv_format.specs.declared.Comparison.the-variants.{Below, AtMost, Above, AtLeast}
-use Rattle.pciv_format.proofs.PartsLaws.{and-false, primaryByte-overflow, primaryByte-inline, slot-cases}
+use Rattle.pciv_format.proofs.PartsLaws.{primaryByte-overflow, primaryByte-inline, slot-cases}
+use Rattle.pciv_format.proofs.ZeroLaws.{near-none}
 use Rattle.pciv_format.proofs.ReadLaws.{length-listOf, at-list, items-fit, items-short}
 use Rattle.pciv_format.proofs.MapLaws.{primaryOf, primary-length, primary-at}
 use Rattle.pciv_format.proofs.ReadCaseLaws.{checked}
@@ -85,10 +86,6 @@ bytes-selected b n k m bytes limit negated low =
     (λ i h.
     ap (λ (x : ℕ). passes limit negated x) (primary-at b n k m i h)
     ∙ ap (flipIf negated) (byte-below (fileParts b n k) (m .parts) (λ t. bytes (40 + t)) limit low i h))
-
--- above t
-near-none : (t x : ℕ) → t < x → isNear t x ≡ false
-near-none t x h = rw (lt-leb x t h) (and-false (leb 1 x))
 
 -- for t from 255 on: an inline distance, and one in overflow, whose byte is 255
 near-inline : (t x : ℕ) → x < 255 → 255 ≤ t → flipIf (leb (t + 1) x) (isNear 255 x) ≡ isNear t x

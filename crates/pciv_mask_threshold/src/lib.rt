@@ -1,6 +1,6 @@
 // Masks of a map (docs/FORMAT.md, "Masks"): the slots whose distance is below, at most, above or at least t, and the near
-// mask, the slots whose distance is from 1 to t. The file is checked first, and refused as the check refuses it, with map 1; then 12. A refused call changes no
-// word, and words past the mask stay as they were.
+// mask, those whose distance is from 1 to t. The file is checked first, and refused as the check refuses it, with map 1;
+// then 12. A refused call changes no word, and words past the mask stay as they were.
 mod entries;
 
 ghost use mathlib.Core.Path.{_≡_};
@@ -101,7 +101,7 @@ fn asked_into(file: &[u8], n: usize, k: usize, asked: Asked, out: &mut [u64])
     }
 }
 
-// The mask of the distances of which holds what is asked, to the front of out.
+// The mask of the distances of which what is asked holds, to the front of out.
 fn select(file: &[u8], asked: Asked, out: &mut [u64]) -> NumberAnswer
     ensures answer { λ r. ⌜ r ≡ numberAnswer (selectOutcome (now (file .entry)) (length (now (out .entry)))) ⌝ }
     ensures words { λ _. ⌜ now (out .exit) ≡ selectWords (askedOf asked) (now (file .entry)) (now (out .entry)) ⌝ }

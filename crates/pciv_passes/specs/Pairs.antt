@@ -1,6 +1,6 @@
 -- Two lists of bytes, byte by byte.
 --   byteOp o x y     the smaller or larger of two bytes, their sum, at most 255, or their difference, at least 0;
---                    Lower and Raise keep an x of 0, and make no other one 0
+--                    Lower, the difference, and Raise, the sum, keep an x of 0 and make no other one 0
 --   pairAt o xs ys i the operation on bytes i
 --   oneAt o xs y i   the operation on byte i and the byte y
 --   fullAt o xs ys i 1 where that is 255, else 0

@@ -59,7 +59,7 @@ pub(crate) fn byte_op(op: ByteOp, x: u8, y: u8) -> u8
         ByteOp::Max => larger_byte(x, y),
         ByteOp::Add => byte_sum(x, y),
         ByteOp::Sub => byte_difference(x, y),
-        ByteOp::Lower => larger_byte(byte_difference(x, y), smaller_byte(x, 1)),
+        ByteOp::Lower => smaller_byte(larger_byte(byte_difference(x, y), 1), x),
         ByteOp::Raise => if x == 0 { 0 } else { byte_sum(x, y) },
     }
 }

@@ -1,12 +1,13 @@
 -- Proves pciv_arith_lower::count_lowered. Invariant: count is that of the slots below the least that entry j may
 -- have. Falls: k - j.
 use mathlib.Core.Path.{_≡_, sym, ap, _∙_}
-use Prim.Native.Nat.{ℕ, _+_, _-_, _≤_}
+use Prim.Native.Nat.{_+_, _-_, _≤_}
 use native.Mathlib.Omega.{arith}
 use Rattle.pciv_format.specs.Parts.{Parts, lowestSlot}
 use Rattle.pciv_format.specs.Check.{fileParts}
 use Rattle.pciv_build.proofs.EntriesLaws.{Counted, counted-start}
 use Rattle.pciv_build.proofs.AlongLaws.{Along, counted-entry, counted-pass, counted-last}
+use Rattle.pciv_format.proofs.PartsLaws.{entry-good}
 use Rattle.pciv_format.proofs.MapLaws.{entry-inside}
 use Rattle.pciv_arith_lower.specs.Lowered.{lowered, loweredAt}
 use Rattle.pciv_arith_lower.proofs.LoweredLaws.{lowered-along, lowered-slot}
@@ -56,7 +57,14 @@ entry-distance-requires c κs =
     entry-inside (s .args .file .now) (s .args .n) (s .args .k) (s .pre) (c .before .loop .j) (omega arith)
 
 lower-requires : tie.Need-lower-requires Inv-loop μ-loop
-lower-requires c κs = search needs
+lower-requires c κs =
+    let d = c .before in
+    let s = start (d .before) in
+    omega (
+      arith,
+      c .entry-distance .ensures,
+      entry-good (parts s) (s .pre .parts) (d .before .loop .j) (d .loop-test .taken) .overflows,
+    )
 
 add-j : tie.Need-add-j Inv-loop μ-loop
 add-j c = search needs

@@ -12,8 +12,5 @@ returns c = omega arith
 returns-2 : tie.Need-returns-2
 returns-2 c = omega arith
 
-returns-3 : tie.Need-returns-3
-returns-3 c = omega arith
-
 pub lower-spec : {M : Type 1} → statement M
-lower-spec = tie.close (tie.spec sub-result returns returns-2 returns-3)
+lower-spec = tie.close (tie.spec sub-result returns returns-2)

@@ -1,12 +1,13 @@
 -- Proves pciv_arith_lower::put_entries. Invariant: the entries of slots from the least that entry j may have on
 -- are left. Falls: k - j.
 use mathlib.Core.Path.{_≡_, sym, ap, _∙_}
-use Prim.Native.Nat.{ℕ, _+_, _-_, _≤_}
+use Prim.Native.Nat.{_+_, _-_, _≤_}
 use native.Mathlib.Omega.{arith}
 use Rattle.pciv_format.specs.Parts.{Parts, lowestSlot}
 use Rattle.pciv_format.specs.Check.{fileParts}
 use Rattle.pciv_build.proofs.EntriesLaws.{EntriesLeft, entries-start}
 use Rattle.pciv_build.proofs.AlongLaws.{Along, entries-fit, entries-entry, entries-pass, entries-last}
+use Rattle.pciv_format.proofs.PartsLaws.{entry-good}
 use Rattle.pciv_format.proofs.MapLaws.{entry-inside}
 use Rattle.pciv_arith_lower.specs.Lowered.{lowered, loweredAt}
 use Rattle.pciv_arith_lower.proofs.LoweredLaws.{lowered-along, lowered-slot}
@@ -66,7 +67,14 @@ entry-distance-requires : tie.Need-entry-distance-requires Inv-loop μ-loop
 entry-distance-requires c κs = entry-slot-requires (c .before) κs
 
 lower-requires : tie.Need-lower-requires Inv-loop μ-loop
-lower-requires c κs = search needs
+lower-requires c κs =
+    let d = c .before .before in
+    let s = start (d .before) in
+    omega (
+      arith,
+      c .entry-distance .ensures,
+      entry-good (parts s) (s .pre .0 .parts) (d .before .loop .j) (d .loop-test .taken) .overflows,
+    )
 
 add-j : tie.Need-add-j Inv-loop μ-loop
 add-j c = search needs

@@ -97,7 +97,7 @@ entry-distance-requires : tie.Need-entry-distance-requires Inv-loop μ-loop
 entry-distance-requires c κs = entry-slot-requires (c .before) κs
 
 lower-requires : tie.Need-lower-requires Inv-loop μ-loop
-lower-requires c κs = search needs
+lower-requires c κs = omega (arith, c .entry-distance .ensures, good (c .before .before) .overflows)
 
 primary-byte-requires-2 : tie.Need-primary-byte-requires-2 Inv-loop μ-loop
 primary-byte-requires-2 c κs = search needs

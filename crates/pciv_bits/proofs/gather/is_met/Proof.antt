@@ -1,5 +1,4 @@
 -- Proves pciv_bits::gather::is_met.
-use mathlib.Core.Path.{_∙_}
 use borrow.Author.Needs.{needs}
 use Rattle.pciv_bits.proofs.gather.is_met.Statement.{statement}
 use Rattle.pciv_bits.proofs.gather.is_met.Tie as tie

@@ -1,6 +1,6 @@
 -- Proves pciv_mask_threshold::entries::flip_entries. Invariant: a mask at the front of out is the one that the first j
 -- entries make of it. Falls: k - j. The reasoning on masks is in EntryBitsLaws.antt.
-use mathlib.Core.Path.{_≡_, refl, sym, ap, _∙_}
+use mathlib.Core.Path.{_≡_, refl, ap, _∙_}
 use Prim.Native.Nat.{ℕ, _+_, _-_, _≤_, _<_}
 use native.Mathlib.Omega.{arith}
 use mathlib.Core.Bool.{Bool}

@@ -1,6 +1,5 @@
 -- Proves pciv_mask_threshold::entries::select_entries.
 use mathlib.Core.Path.{ap, _∙_}
-use native.Mathlib.Omega.{arith}
 use Prim.Native.Nat.{ℕ}
 use mathlib.Core.Bool.{not}
 use lib.Seq.{sets}

@@ -43,11 +43,11 @@ enum-told-5 c = search needs
 byte-difference-requires-2 : tie.Need-byte-difference-requires-2
 byte-difference-requires-2 c κs = search needs
 
-smaller-byte-requires-2 : tie.Need-smaller-byte-requires-2
-smaller-byte-requires-2 c κs = search needs
-
 larger-byte-requires-2 : tie.Need-larger-byte-requires-2
 larger-byte-requires-2 c κs = search needs
+
+smaller-byte-requires-2 : tie.Need-smaller-byte-requires-2
+smaller-byte-requires-2 c κs = search needs
 
 enum-told-6 : tie.Need-enum-told-6
 enum-told-6 c = search needs
@@ -69,10 +69,10 @@ returns-4 c = in-case _ _ _ (c .before .enum-told4 .given .1) (c .byte-differenc
 
 returns-5 : tie.Need-returns-5
 returns-5 c =
-    let s = c .before in
-    let d = s .before in
+    let l = c .before in
+    let d = l .before in
     in-case _ _ _ (d .before .enum-told5 .given .1)
-    (omega (arith, c .larger-byte2 .ensures, s .smaller-byte2 .ensures, d .byte-difference2 .ensures))
+    (omega (arith, c .smaller-byte2 .ensures, l .larger-byte2 .ensures, d .byte-difference2 .ensures))
 
 returns-6 : tie.Need-returns-6
 returns-6 c = in-case _ _ _ (c .before .enum-told6 .given .1) (rw (c .if1 .taken))
@@ -96,8 +96,8 @@ byte-op-spec =
     byte-difference-requires
     enum-told-5
     byte-difference-requires-2
-    smaller-byte-requires-2
     larger-byte-requires-2
+    smaller-byte-requires-2
     enum-told-6
     byte-sum-requires-2
     returns
