@@ -1,6 +1,7 @@
 -- Laws of a mask in which each overflow entry whose distance is not below a limit flips its slot, for a limit that every
 -- inline distance is below.
---   flipped-alike                  all slots alike at first: the mask of a test of the limit
+--   asked-high                     where the bytes do not tell, the limit is so
+--   flipped-asked                  what is asked is then the start, flipped
 --   settled P limit p j i          slot i of the mask made of p after the first j entries
 --   settled-start, -more, -end     before the first entry, one entry on, and after the last
 --   flip-front                     a slot flipped in a mask at the front of a list
@@ -17,16 +18,19 @@ use lib.ListN.{length, getD, set}
 use lib.Seq.{sets}
 use lib.Bits.{bitXor}
 use lib.Dec.{ltb, leb}
-use borrow.Author.Tests.{lt-ltb, le-ltb, le-leb, lt-leb, eq-eqb, ne-eqb}
+use borrow.Author.Tests.{ltb-false, lt-ltb, le-ltb, le-leb, lt-leb, eq-eqb, ne-eqb}
 use Rattle.pciv_bytes.specs.Ranges.{flag}
 use Rattle.pciv_bytes.proofs.WriteLaws.{sets-at, set-sets}
-use Rattle.pciv_format.specs.Mask.{maskLen, maskOf}
+use Rattle.pciv_format.specs.Mask.{maskLen, maskOf, isNear}
 use Rattle.pciv_format.specs.Parts.{Parts, valueOf, lowestSlot, SoundParts}
-use Rattle.pciv_format.proofs.PartsLaws.{entry-good, valueOf-slot}
+use Rattle.pciv_format.proofs.PartsLaws.{entry-good, valueOf-slot, slot-cases}
+use Rattle.pciv_format.proofs.ZeroLaws.{near-none}
 use Rattle.pciv_format.proofs.EntryLaws.{gap-inline, gap-value}
 use Rattle.pciv_format.proofs.MaskLaws.{length-maskOf, maskOf-cong}
 use Rattle.pciv_bits.specs.Flags.{flipIf, passes}
-use Rattle.pciv_mask_threshold.specs.Select.{selected, flippedFrom}
+use Rattle.pciv_mask_threshold.specs.Select.{askedIn, bytesTell, limitAsked, startIn, flippedFrom}
+use Rattle.pciv_mask_threshold.specs.declared.Asked.{Asked}
+use Rattle.pciv_mask_threshold.specs.declared.Asked.the-variants.{Limit, Near}
 use Rattle.pciv_bits.proofs.FlipLaws.{flipAt, flipped, maskOf-flip}
 
 -- ---- one distance
@@ -47,11 +51,41 @@ passes-flip limit negated x =
       | no d ↦ rw (lt-ltb x limit (omega arith), lt-leb limit x (omega arith)) (flip-true negated)
     ]
 
-pub flipped-alike : (P : Parts) (limit : ℕ) (negated : Bool)
-    → maskOf (P .n) (flippedFrom P limit (λ (i : ℕ). not negated)) ≡ maskOf (P .n) (selected P limit negated)
-flipped-alike P limit negated =
-    maskOf-cong (P .n) (flippedFrom P limit (λ (i : ℕ). not negated)) (selected P limit negated)
-    (λ i h. sym (passes-flip limit negated (valueOf P i)))
+pub asked-high : (a : Asked) → bytesTell a ≡ false → 255 ≤ limitAsked a
+asked-high (Limit limit negated) e = ltb-false limit 255 e
+asked-high (Near t) e = omega (arith, ltb-false t 255 e)
+
+-- for t from 255 on: an inline distance, and one in overflow, whose byte is 255
+near-inline : (t x : ℕ) → x < 255 → 255 ≤ t → flipIf (leb (t + 1) x) (passes 1 true x) ≡ isNear t x
+near-inline t x small high =
+    elim (decLe 1 x) [
+      | yes d ↦ rw (
+        lt-leb (t + 1) x (omega arith),
+        le-ltb x 1 d,
+        le-leb 1 x d,
+        le-leb x t (omega arith),
+      )
+      | no d ↦ rw (lt-leb (t + 1) x (omega arith), lt-ltb x 1 (omega arith), lt-leb 1 x (omega arith))
+    ]
+
+near-overflow : (t x : ℕ) → 255 ≤ x → flipIf (leb (t + 1) x) true ≡ isNear t x
+near-overflow t x large =
+    elim (decLe x t) [
+      | yes d ↦ rw (lt-leb (t + 1) x (omega arith), le-leb 1 x (omega arith), le-leb x t d)
+      | no d ↦ rw (le-leb (t + 1) x (omega arith), near-none t x (omega arith))
+    ]
+
+pub flipped-asked : (P : Parts) → SoundParts P → ((i : ℕ) → P .byte i < 256) → (a : Asked) → bytesTell a ≡ false
+    → maskOf (P .n) (flippedFrom P (limitAsked a) (startIn P a)) ≡ maskOf (P .n) (askedIn P a)
+flipped-asked P s bytes a e =
+    maskOf-cong (P .n) (flippedFrom P (limitAsked a) (startIn P a)) (askedIn P a) (slot a e)
+  where
+    slot : (a : Asked) → bytesTell a ≡ false → (i : ℕ) → i < P .n
+        → flippedFrom P (limitAsked a) (startIn P a) i ≡ askedIn P a i
+    slot (Limit limit negated) e i h = sym (passes-flip limit negated (valueOf P i))
+    slot (Near t) e i h =
+        slot-cases P s bytes i h (λ small v. rw v (near-inline t (P .byte i) small (ltb-false t 255 e)))
+        (λ j hj at full w overflows. rw full (near-overflow t (valueOf P i) overflows))
 
 -- ---- entry by entry
 

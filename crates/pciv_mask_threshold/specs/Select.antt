@@ -2,14 +2,15 @@
 -- is below a limit, or that it is not; the near mask, that it is from 1 to t.
 --   limitOf c t       the limit of the comparison c with t
 --   isNegated c       c asks for the distances that are not below it
---   selected P limit negated i   the distance of slot i is below the limit; negated, it is not
---   nearIn P t i      the distance of slot i is from 1 to t
 --   askedOf a x       what is asked holds of x;  askedIn P a i  of the distance of slot i
+--   bytesTell a       the primary bytes tell of which distances
+--   limitAsked a      the least limit that a distance of which it holds is below, or, negated, is not
+--   startIn P a i     it holds at slot i, as far as the primary byte tells
 --   flippedFrom P limit p i      p, flipped at the slots whose distance is not below the limit
 -- Laws are in proofs/SelectLaws.antt and EntryBitsLaws.antt. Axioms: none.
 use Prim.Native.Nat.{ℕ, _+_}
-use mathlib.Core.Bool.{Bool, true, false}
-use lib.Dec.{leb}
+use mathlib.Core.Bool.{Bool, true, false, not}
+use lib.Dec.{ltb, leb}
 use Rattle.pciv_format.specs.Mask.{isNear}
 use Rattle.pciv_format.specs.Parts.{Parts, valueOf}
 use Rattle.pciv_format.specs.declared.Comparison.{Comparison}
@@ -30,18 +31,24 @@ isNegated AtMost = false
 isNegated Above = true
 isNegated AtLeast = true
 
-abbrev pub selected : Parts → ℕ → Bool → ℕ → Bool
-selected P limit negated i = passes limit negated (valueOf P i)
-
-abbrev pub nearIn : Parts → ℕ → ℕ → Bool
-nearIn P t i = isNear t (valueOf P i)
-
 abbrev pub askedOf : Asked → ℕ → Bool
 askedOf (Limit limit negated) x = passes limit negated x
 askedOf (Near t) x = isNear t x
 
 abbrev pub askedIn : Parts → Asked → ℕ → Bool
 askedIn P a i = askedOf a (valueOf P i)
+
+abbrev pub bytesTell : Asked → Bool
+bytesTell (Limit limit negated) = ltb limit 255
+bytesTell (Near t) = ltb t 255
+
+abbrev pub limitAsked : Asked → ℕ
+limitAsked (Limit limit negated) = limit
+limitAsked (Near t) = t + 1
+
+abbrev pub startIn : Parts → Asked → ℕ → Bool
+startIn P (Limit limit negated) i = not negated
+startIn P (Near t) i = passes 1 true (P .byte i)
 
 abbrev pub flippedFrom : Parts → ℕ → (ℕ → Bool) → ℕ → Bool
 flippedFrom P limit p i = flipIf (leb limit (valueOf P i)) (p i)

@@ -1,4 +1,4 @@
-// Masks of a checked map by its overflow entries, for a limit that every inline distance is below.
+// Masks of a checked map put right by its overflow entries, for a limit that every inline distance is below.
 ghost use mathlib.Core.Path.{_≡_};
 ghost use mathlib.Core.Bool.{Bool};
 ghost use mathlib.Core.List.{List};
@@ -7,8 +7,7 @@ ghost use lib.ListN.{length};
 ghost use lib.Seq.{sets};
 ghost use Rattle.pciv_format.specs.Check.{fileParts, CheckedMap};
 ghost use Rattle.pciv_format.specs.Mask.{maskLen, maskOf};
-ghost use Rattle.pciv_mask_threshold.specs.Select.{selected, flippedFrom};
-use pciv_bits::flags::fill;
+ghost use Rattle.pciv_mask_threshold.specs.Select.{flippedFrom};
 use pciv_map::entries::entry_distance;
 use pciv_map::entries::entry_slot;
 
@@ -27,22 +26,4 @@ pub(crate) fn flip_entries(file: &[u8], n: usize, k: usize, limit: u64, out: &mu
         out[w] ^= ((limit <= distance as u64) as u64) << (slot % 64);
         j += 1;
     }
-}
-
-// The mask of the distances below the limit, or, negated, of the others: all slots as the inline ones, then those of
-// the entries flipped.
-pub(crate) fn select_entries(
-    file: &[u8],
-    n: usize,
-    k: usize,
-    limit: u64,
-    negated: bool,
-    out: &mut [u64],
-)
-    requires { ⌜ CheckedMap (now file) n k ⌝ }
-    requires { ⌜ (255 ≤ limit) × (maskLen n ≤ length (now out)) ⌝ }
-    ensures { λ _. ⌜ now (out .exit) ≡ sets (now (out .entry)) 0 (maskOf n (selected (fileParts (now (file .entry)) n k) limit negated)) ⌝ }
-{
-    fill(n, !negated, out);
-    flip_entries(file, n, k, limit, out);
 }

@@ -4,6 +4,7 @@
 mod entries;
 
 ghost use mathlib.Core.Path.{_≡_};
+ghost use mathlib.Core.Bool.{true};
 ghost use Prim.Native.Nat.{_≤_};
 ghost use lib.ListN.{length};
 ghost use lib.Seq.{sets};
@@ -11,9 +12,10 @@ ghost use Rattle.pciv_format.specs.Refusals.{numberAnswer};
 ghost use Rattle.pciv_format.specs.Check.{fileParts, CheckedMap};
 ghost use Rattle.pciv_format.specs.Mask.{maskLen, maskOf, selectOutcome, selectWords, thresholdOutcome};
 ghost use Rattle.pciv_format.specs.Mask.{thresholdWords, nearMaskOutcome, nearMaskWords};
-ghost use Rattle.pciv_mask_threshold.specs.Select.{limitOf, isNegated, selected, nearIn, askedOf, askedIn};
+ghost use Rattle.pciv_mask_threshold.specs.Select.{limitOf, isNegated, askedOf, askedIn, bytesTell};
+ghost use Rattle.pciv_mask_threshold.specs.Select.{limitAsked, startIn};
 use crate::entries::flip_entries;
-use crate::entries::select_entries;
+use pciv_bits::flags::fill;
 use pciv_bits::flags::flags_into;
 use pciv_bits::flags::near_into;
 use pciv_check::check;
@@ -24,7 +26,6 @@ use pciv_format::HEADER_LEN;
 use pciv_format::NumberAnswer;
 use pciv_format::SENTINEL;
 use pciv_layout::mask_len;
-use pciv_layout::primary_byte;
 use pciv_layout::refusals::refuse_number;
 
 // The least limit that every inline distance is below.
@@ -54,50 +55,73 @@ fn is_negated(comparison: Comparison) -> bool
     }
 }
 
-// The mask of a checked map for a limit: by the primary bytes where they tell, else by the entries.
-fn select_into(file: &[u8], n: usize, k: usize, limit: u64, negated: bool, out: &mut [u64])
-    requires { ⌜ CheckedMap (now file) n k ⌝ }
-    requires { ⌜ maskLen n ≤ length (now out) ⌝ }
-    ensures { λ _. ⌜ now (out .exit) ≡ sets (now (out .entry)) 0 (maskOf n (selected (fileParts (now (file .entry)) n k) limit negated)) ⌝ }
-{
-    if limit < INLINE_LIMIT {
-        let end = HEADER_LEN + n;
-        flags_into(&file[HEADER_LEN..end], limit as u8, negated, out);
-    } else {
-        select_entries(file, n, k, limit, negated, out);
-    }
-}
-
-// The near mask of a checked map: by the primary bytes, where those of entries count as 255. Where t is 255 or more, the
-// slots of the entries above t are among them, and are flipped.
-fn select_near(file: &[u8], n: usize, k: usize, t: u32, out: &mut [u64])
-    requires { ⌜ CheckedMap (now file) n k ⌝ }
-    requires { ⌜ maskLen n ≤ length (now out) ⌝ }
-    ensures { λ _. ⌜ now (out .exit) ≡ sets (now (out .entry)) 0 (maskOf n (nearIn (fileParts (now (file .entry)) n k) t)) ⌝ }
-{
-    let end = HEADER_LEN + n;
-    near_into(&file[HEADER_LEN..end], primary_byte(t), out);
-    let limit = t as u64 + 1;
-    if INLINE_LIMIT < limit {
-        flip_entries(file, n, k, limit, out);
-    }
-}
-
 // What is asked of a distance: that it is below a limit, or, negated, that it is not; or that it is from 1 to t.
 enum Asked {
     Limit(u64, bool),
     Near(u32),
 }
 
-// The mask of a checked map by what is asked.
+// The primary bytes tell of which distances what is asked holds. Where they do not, all inline distances are below the
+// limit, or at most t.
+fn bytes_tell(asked: Asked) -> bool
+    ensures { λ r. ⌜ r ≡ bytesTell asked ⌝ }
+{
+    match asked {
+        Asked::Limit(limit, _) => limit < INLINE_LIMIT,
+        Asked::Near(t) => t < SENTINEL as u32,
+    }
+}
+
+// The limit: above t, where it is asked for distances up to t.
+fn limit_asked(asked: Asked) -> u64
+    ensures { λ r. ⌜ r ≡ limitAsked asked ⌝ }
+{
+    match asked {
+        Asked::Limit(limit, _) => limit,
+        Asked::Near(t) => t as u64 + 1,
+    }
+}
+
+// The mask of a checked map where the primary bytes tell.
+fn bytes_into(file: &[u8], n: usize, k: usize, asked: Asked, out: &mut [u64])
+    requires { ⌜ CheckedMap (now file) n k ⌝ }
+    requires { ⌜ (maskLen n ≤ length (now out)) × (bytesTell asked ≡ true) ⌝ }
+    ensures { λ _. ⌜ now (out .exit) ≡ sets (now (out .entry)) 0 (maskOf n (askedIn (fileParts (now (file .entry)) n k) asked)) ⌝ }
+{
+    let end = HEADER_LEN + n;
+    match asked {
+        Asked::Limit(limit, negated) => {
+            flags_into(&file[HEADER_LEN..end], limit as u8, negated, out)
+        }
+        Asked::Near(t) => near_into(&file[HEADER_LEN..end], t as u8, out),
+    }
+}
+
+// The mask as if every distance in overflow were as the inline ones next to it: below the limit, or not above t.
+fn start_into(file: &[u8], n: usize, k: usize, asked: Asked, out: &mut [u64])
+    requires { ⌜ CheckedMap (now file) n k ⌝ }
+    requires { ⌜ maskLen n ≤ length (now out) ⌝ }
+    ensures { λ _. ⌜ now (out .exit) ≡ sets (now (out .entry)) 0 (maskOf n (startIn (fileParts (now (file .entry)) n k) asked)) ⌝ }
+{
+    let end = HEADER_LEN + n;
+    match asked {
+        Asked::Limit(_, negated) => fill(n, !negated, out),
+        Asked::Near(_) => flags_into(&file[HEADER_LEN..end], 1, true, out),
+    }
+}
+
+// The mask of a checked map by what is asked: by the primary bytes where they tell; else the slots of the entries that
+// are not below the limit are flipped.
 fn asked_into(file: &[u8], n: usize, k: usize, asked: Asked, out: &mut [u64])
     requires { ⌜ CheckedMap (now file) n k ⌝ }
     requires { ⌜ maskLen n ≤ length (now out) ⌝ }
     ensures { λ _. ⌜ now (out .exit) ≡ sets (now (out .entry)) 0 (maskOf n (askedIn (fileParts (now (file .entry)) n k) asked)) ⌝ }
 {
-    match asked {
-        Asked::Limit(limit, negated) => select_into(file, n, k, limit, negated, out),
-        Asked::Near(t) => select_near(file, n, k, t, out),
+    if bytes_tell(asked) {
+        bytes_into(file, n, k, asked, out);
+    } else {
+        start_into(file, n, k, asked, out);
+        flip_entries(file, n, k, limit_asked(asked), out);
     }
 }
 
