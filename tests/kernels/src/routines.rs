@@ -52,8 +52,8 @@ const WIDEN_DIFFERENCES: Kernel = Kernel::new(
     "punpckldq|punpckhdq|punpcklwd|punpckhwd|pshufd psubq|paddq store16",
 );
 
-// The near mask has a loop of its own, which takes 1 off each byte first: by an instruction that
-// adds up the flags too.
+// The test of the near mask, which takes 1 off each byte first, is in the same loop beside the other
+// one, behind a branch.
 const FLAGS: Kernel = Kernel::new(
     "bytes to mask words",
     "pcmpeqb|pcmpgtb|pminub|pmaxub por|pmovmskb load16 !byte",
