@@ -3,7 +3,6 @@
 // Refusals 1 to 8 of two maps are those of the first, then those of the second. A refused call changes nothing, and what
 // stands behind the result stays as it was.
 ghost use mathlib.Core.Path.{_≡_};
-ghost use Prim.Native.Nat.{_-_, _<_};
 ghost use lib.ListN.{length};
 ghost use Rattle.pciv_format.specs.Refusals.{fileAnswer, numberAnswer};
 ghost use Rattle.pciv_format.specs.Arith.{combineMapsOutcome, combineMapsBuffer, shiftOutcome, shiftBuffer};
