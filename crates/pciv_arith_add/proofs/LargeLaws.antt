@@ -76,7 +76,7 @@ module _ {P Q : Parts} (p : SoundPair P Q) (of : Addend) (small : Small of) wher
   walked-start slot is =
       walked-to 0 0 0 slot (omega arith) (cursor-start P) (cursorOf-start of Q) (λ i h. absurd (omega arith)) is .0
 
-  -- there the result is the sum
+  -- at such a slot the result is the sum
   walked-sum : (j t slot : ℕ) → Walked of P Q j t slot → slot < P .n
       → addedAt of P Q slot ≡ valueOf P slot + addendAt of Q slot
   walked-sum j t slot w here = sum of (w .next)

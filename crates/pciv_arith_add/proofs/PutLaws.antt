@@ -1,6 +1,6 @@
 -- The parts of the result: its count and its primary bytes from those of two checked files, and the walk that
 -- writes its overflow entries.
---   count-map, count-number        the results 255 are the slots in overflow
+--   count-map, count-number        the results 255, or the bytes that come to 255, are the slots in overflow
 --   primary-map, primary-number    the results are the primary bytes
 --   Putting                        the walk's invariant: the entries of slots from `from` on are left, and both cursors
 --                                  are there
@@ -55,8 +55,8 @@ module _ {a b : List ℕ} {n ka kb : ℕ} (m : Maps a b n ka kb) where
   sum-map i h =
       ap₂ (byteOp Add) (first-at i h) (primary-at b n kb (m .pair .second) i h) ∙ sum-byte (sound m) i h
 
-  sum-number : (d i : ℕ) → i < n → oneAt Raise (primaryOf a n) (primaryByte d) i ≡ primaryByte (addedAt (Number d) P Q i)
-  sum-number d i h = ap (λ (x : ℕ). byteOp Raise x (primaryByte d)) (first-at i h) ∙ raised-byte (sound m) d i h
+  raised-number : (d i : ℕ) → i < n → oneAt Raise (primaryOf a n) (primaryByte d) i ≡ primaryByte (addedAt (Number d) P Q i)
+  raised-number d i h = ap (λ (x : ℕ). byteOp Raise x (primaryByte d)) (first-at i h) ∙ raised-byte (sound m) d i h
 
   -- a count of flags that tell where v is in overflow
   count-is : (v : ℕ → ℕ) (f : ℕ → Bool) → ((i : ℕ) → i < n → f i ≡ inOverflow (v i))
@@ -95,7 +95,7 @@ module _ {a b : List ℕ} {n ka kb : ℕ} (m : Maps a b n ka kb) where
   pub primary-number : (d : ℕ)
       → table (oneAt Raise (primaryOf a n) (primaryByte d)) 0 (length (primaryOf a n))
       ≡ primary n (addedAt (Number d) P Q)
-  primary-number d = table-is (addedAt (Number d) P Q) (oneAt Raise (primaryOf a n) (primaryByte d)) (sum-number d)
+  primary-number d = table-is (addedAt (Number d) P Q) (oneAt Raise (primaryOf a n) (primaryByte d)) (raised-number d)
 
 -- ---- the overflow entries
 

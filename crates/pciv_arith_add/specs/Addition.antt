@@ -1,5 +1,5 @@
 -- What is added to the distances of a map. P is the map, Q the second map.
---   addendAt of Q i         what is added at slot i: the distance of Q there, or one number
+--   addendAt of Q i         what is to be added at slot i: the distance of Q there, or one number
 --   addedAt of P Q i        the distance of the result at slot i; a number is added to non-zero distances alone
 --   tooLarge of P Q i       it is above what a file can hold (refusal 11)
 --   CursorOf, TakenOf, nextOf    a cursor in the entries of Q; nothing is asked of it where a number is added

@@ -1,6 +1,6 @@
 // A checked map with its non-zero distances lowered by m, to 1 at the least, written as a file; a zero distance stays.
-// Only what is in overflow can stay so: the primary bytes are lowered all at once, then a walk over the
-// overflow entries puts the bytes of their slots right, and another writes the entries that are left.
+// Only what is in overflow can be so afterwards: the primary bytes are lowered all at once, then a walk over the overflow
+// entries puts the bytes of their slots right, and another writes the entries that are left.
 ghost use mathlib.Core.Path.{_≡_};
 ghost use Prim.Native.Nat.{_+_, _*_, _≤_};
 ghost use lib.ListN.{length};

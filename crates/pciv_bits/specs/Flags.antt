@@ -3,7 +3,7 @@
 --   flipIf negated b      b, or its negation
 --   flagAt xs test negated i  byte i meets the test; negated, it does not
 --   passes limit negated x    x is below the limit; negated, it is not.  passesAt xs limit negated i  byte i is so
---   nearAt xs t i         byte i is from 1 to t
+--   nearAt xs t i         byte i is from 1 to t. (passesAt and nearAt are flagAt of one test, for contracts outside.)
 --   spread p i            the flags p of i, i + 16, i + 32 and i + 48, at every other bit of a byte
 --   transposed j          the place of bit j once rows and columns of eight by eight bits are exchanged
 --   Gathered p i x        x has the flags p of the 64 numbers from i on, its rows and columns exchanged

@@ -3,9 +3,9 @@
 --   limitOf c t       the limit of the comparison c with t
 --   isNegated c       c asks for the distances that are not below it
 --   askedOf a x       what is asked holds of x;  askedIn P a i  of the distance of slot i
---   bytesTell a       the primary bytes tell of which distances
---   limitAsked a      the limit; for distances up to t it is t + 1
---   startIn P a i     it holds at slot i, if no distance in overflow is at the limit or above
+--   bytesTell a       the primary bytes tell of which distances it holds
+--   limitAsked a      the limit; for the near mask at t it is t + 1
+--   startIn P a i     where the bytes do not tell: it holds at slot i, if no distance in overflow is at the limit or above
 --   flippedFrom P limit p i      p, flipped at the slots whose distance is not below the limit
 -- Laws are in proofs/SelectLaws.antt and EntryBitsLaws.antt. Axioms: none.
 use Prim.Native.Nat.{ℕ, _+_}

@@ -72,7 +72,7 @@ fn bytes_tell(asked: Asked) -> bool
     }
 }
 
-// The limit; for distances up to t the number after it.
+// The limit; for the near mask at t it is t + 1.
 fn limit_asked(asked: Asked) -> u64
     ensures { λ r. ⌜ r ≡ limitAsked asked ⌝ }
 {
@@ -97,7 +97,8 @@ fn bytes_into(file: &[u8], n: usize, k: usize, asked: Asked, out: &mut [u64])
     }
 }
 
-// The mask as if every distance in overflow were below the limit: all slots alike, or those whose byte is not 0.
+// Where the bytes do not tell: the mask as if every distance in overflow were below the limit, so all slots alike, or those
+// whose byte is not 0.
 fn start_into(file: &[u8], n: usize, k: usize, asked: Asked, out: &mut [u64])
     requires { ⌜ CheckedMap (now file) n k ⌝ }
     requires { ⌜ maskLen n ≤ length (now out) ⌝ }
@@ -110,8 +111,8 @@ fn start_into(file: &[u8], n: usize, k: usize, asked: Asked, out: &mut [u64])
     }
 }
 
-// The mask of a checked map by what is asked: by the primary bytes where they tell; else the slots of the entries that
-// are not below the limit are put right.
+// The mask of a checked map by what is asked: by the primary bytes where they tell; else a start, in which the slots
+// of the entries that are not below the limit are then flipped.
 fn asked_into(file: &[u8], n: usize, k: usize, asked: Asked, out: &mut [u64])
     requires { ⌜ CheckedMap (now file) n k ⌝ }
     requires { ⌜ maskLen n ≤ length (now out) ⌝ }

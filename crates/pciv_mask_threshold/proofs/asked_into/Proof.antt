@@ -1,4 +1,4 @@
--- Proves pciv_mask_threshold::asked_into: the bytes tell, or the entries are flipped.
+-- Proves pciv_mask_threshold::asked_into: the bytes tell, or the slots of entries are flipped.
 use mathlib.Core.Path.{_≡_, sym, ap, _∙_}
 use mathlib.Core.Bool.{false}
 use Prim.Native.Nat.{ℕ, _+_, _<_}
