@@ -153,7 +153,7 @@ const FAMILIES: [Family; 17] = [
             "near_mask 300",
         ],
         often: Often::Frame,
-        why: "80 packed instructions for 128 slots, 88 in the near mask: no loop is compiled to SSE2's `pmovmskb`. Above 254 the entries decide, one by one; the near mask passes over the bytes first.",
+        why: "80 to 88 packed instructions for 128 slots: no loop is compiled to SSE2's `pmovmskb`. Above 254 the entries decide; `near_mask` needs both.",
     },
     Family {
         name: "masks of masks, set_bits",
