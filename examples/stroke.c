@@ -1,4 +1,4 @@
-/* stroke MAP DISTANCE OUT: looks at a map, selects what is at most DISTANCE cm away, and paints a
+/* stroke MAP DISTANCE OUT: looks at a map, selects what is 1 to DISTANCE cm away, and paints a
    stroke: every 40th of the selected slots gets the distance 400 in a copy of the map, which is
    edited in place through a memory mapping. The copy is OUT.tmp, and becomes OUT when all is done. */
 #define _POSIX_C_SOURCE 200809L

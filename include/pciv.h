@@ -41,10 +41,10 @@
 /* The version of this header and of the library that it belongs to. The number is made of the three,
    with 1,000 for each MINOR and 1,000,000 for each MAJOR, and is for comparisons by #if. */
 #define PCIV_VERSION_MAJOR 0
-#define PCIV_VERSION_MINOR 2
+#define PCIV_VERSION_MINOR 3
 #define PCIV_VERSION_PATCH 0
-#define PCIV_VERSION_NUMBER 2000
-#define PCIV_VERSION "0.2.0"
+#define PCIV_VERSION_NUMBER 3000
+#define PCIV_VERSION "0.3.0"
 
 #ifdef __cplusplus
 extern "C" {
@@ -292,8 +292,9 @@ uint64_t pciv_difference(const uint8_t *a, size_t a_len, const uint8_t *b, size_
                          uint8_t *out, size_t out_len, pciv_summary *summary,
                          pciv_refusal *refusal);
 
-/* The file of a map whose distances are shifted: each becomes distance + by, or 0 where that is
-   negative.
+/* The file of a map whose non-zero distances are shifted: each becomes distance + by, or 1 where that
+   is 0 or negative. A zero distance, where nothing was measured, stays 0: 0, 1, 5, 300 by -5 is
+   0, 1, 1, 295.
    Refusals: 1 to 8, 11 where a shifted distance is above 4,294,967,295, with the least such slot as
    place, then 12 where the result is longer than out_len.
    When done the first summary->len bytes of out are the result, the bytes behind it are unchanged,
@@ -336,7 +337,8 @@ uint64_t pciv_mask_above(const uint8_t *file, size_t file_len, uint32_t t, uint6
 uint64_t pciv_mask_at_least(const uint8_t *file, size_t file_len, uint32_t t, uint64_t *out,
                             size_t out_len, uint64_t *count, pciv_refusal *refusal);
 
-/* The near mask at t: the slots whose distance is at most t; as pciv_mask_below. */
+/* The near mask at t: the slots whose distance is from 1 to t, none for t = 0; as pciv_mask_below. It
+   is pciv_mask_at_most without the zero distances, where nothing was measured. */
 uint64_t pciv_near_mask(const uint8_t *file, size_t file_len, uint32_t t, uint64_t *out,
                         size_t out_len, uint64_t *count, pciv_refusal *refusal);
 

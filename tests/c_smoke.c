@@ -315,8 +315,9 @@ static void test_sum_maps(const uint8_t *a, const uint8_t *b)
 
 static void test_shift(const uint8_t *a, const uint8_t *b)
 {
-    static const uint32_t nearer[N] = {0, 0, 1, 46};
-    static const uint32_t farther[N] = {1, 255, 256, 301};
+    static const uint32_t nearer[N] = {0, 1, 1, 46};
+    static const uint32_t farther[N] = {0, 255, 256, 301};
+    static const uint32_t in_overflow[N] = {0, 554, 555, 600};
     uint8_t out[100];
     pciv_summary summary;
     pciv_refusal refusal;
@@ -332,6 +333,10 @@ static void test_shift(const uint8_t *a, const uint8_t *b)
     EXPECT(is_file_of(out, sizeof out, &summary, nearer));
     EXPECT(pciv_shift(a, MAP_LEN, 1, out, sizeof out, &summary, &refusal) == PCIV_OK);
     EXPECT(is_summary(&summary, N, 3, 80) && is_file_of(out, sizeof out, &summary, farther));
+    EXPECT(pciv_shift(a, MAP_LEN, 300, out, 80, &summary, &refusal) == PCIV_OK);
+    EXPECT(is_summary(&summary, N, 3, 80) && is_file_of(out, sizeof out, &summary, in_overflow));
+    EXPECT(pciv_shift(a, MAP_LEN, 0, out, sizeof out, &summary, &refusal) == PCIV_OK);
+    EXPECT(is_summary(&summary, N, 2, MAP_LEN) && memcmp(out, a, MAP_LEN) == 0);
 }
 
 static void test_signed_difference(const uint8_t *a, const uint8_t *b)
@@ -473,7 +478,9 @@ static void test_masks(const uint8_t *a, const uint8_t *b)
     test_threshold(pciv_mask_at_most, a, 255, 7);
     test_threshold(pciv_mask_above, a, 255, 8);
     test_threshold(pciv_mask_at_least, a, 255, 12);
-    test_threshold(pciv_near_mask, a, 254, 3);
+    test_threshold(pciv_near_mask, a, 0, 0);
+    test_threshold(pciv_near_mask, a, 254, 2);
+    test_threshold(pciv_near_mask, a, 255, 6);
     test_combine_masks(pciv_mask_and, 2);
     test_combine_masks(pciv_mask_or, 7);
     test_combine_masks(pciv_mask_xor, 5);
@@ -620,8 +627,8 @@ static void test_damage(const uint8_t *map, size_t at, uint8_t byte, uint64_t nu
 /* The string and the number say what the three numbers say; #if can compare them. */
 static void test_version(void)
 {
-#if PCIV_VERSION_NUMBER < 2000
-#error "this header is older than 0.2.0"
+#if PCIV_VERSION_NUMBER < 3000
+#error "this header is older than 0.3.0"
 #endif
     char text[32];
     snprintf(text, sizeof text, "%d.%d.%d", PCIV_VERSION_MAJOR, PCIV_VERSION_MINOR,

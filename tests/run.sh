@@ -163,7 +163,7 @@ stroke_keeps() {
         cmp "$map" examples/portrait-160x120.pciv && grep -qx old "$folder/old" || return 1
     left=$(cd "$folder" && echo *)
     [ "$left" = 'hard link map old short' ] || { echo "$1: left $left"; return 1; }
-    expect 0 '52 edits' "$1" "$map" 100 "$folder/old" && cmp "$folder/old" "$work/c.pciv" && [ ! -e "$folder/old.tmp" ]
+    expect 0 '48 edits' "$1" "$map" 100 "$folder/old" && cmp "$folder/old" "$work/c.pciv" && [ ! -e "$folder/old.tmp" ]
 }
 
 # strokes_agree MAP: C and Rust exit alike, say the same and write the same, a refusal included.
@@ -189,7 +189,7 @@ examples() {
     for input in "$work"/report/*.pciv; do
         strokes_agree "$input" || { echo "$input: C and Rust differ"; return 1; }
     done
-    strokes_agree examples/portrait-160x120.pciv && grep -qx '52 edits: .*' "$work/c.txt" &&
+    strokes_agree examples/portrait-160x120.pciv && grep -qx '48 edits: .*' "$work/c.txt" &&
         stroke_keeps "$work/stroke" && stroke_keeps "$programs/examples/stroke" &&
         while IFS= read -r line; do
             grep -qxF -e "$line" README.md || { echo "README.md does not have: $line"; return 1; }

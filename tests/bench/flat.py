@@ -81,8 +81,24 @@ def with_numpy(s):
         np.maximum(x, y, out=out)
         return np.subtract(out, y, out=out)
 
+    # Zero distances stay; others become no less than 1.
+    def shift_down(size):
+        difference(a, size)
+        np.minimum(a, np.uint32(1), out=out2)
+        return np.maximum(out, out2, out=out)
+
+    def shift_up(size):
+        np.minimum(a, np.uint32(1), out=out)
+        np.multiply(out, size, out=out)
+        return np.add(out, a, out=out)
+
     def masked(test, t):
         return packed(test(a, t, out=s.flags))
+
+    # From 1 to t: 0 less 1 is above any other.
+    def near_mask(t):
+        np.subtract(a, np.uint32(1), out=out)
+        return packed(np.less(out, t, out=s.flags))
 
     def set_bits():
         if hasattr(np, "bitwise_count"):
@@ -124,8 +140,8 @@ def with_numpy(s):
         "sum_maps, few to overflow": lambda: np.add(a, s.small, out=out),
         "sum_maps, half to overflow": lambda: np.add(a, b, out=out),
         "difference": lambda: difference(a, b),
-        "shift by -50": lambda: difference(a, np.uint32(50)),
-        "shift by 10": lambda: np.add(a, np.uint32(10), out=out),
+        "shift by -50": lambda: shift_down(np.uint32(50)),
+        "shift by 10": lambda: shift_up(np.uint32(10)),
         "signed_difference": lambda: np.subtract(b, a, out=s.signed, dtype=np.int64),
         "mask_and": lambda: np.bitwise_and(s.mask, s.other_mask, out=s.words),
         "mask_or": lambda: np.bitwise_or(s.mask, s.other_mask, out=s.words),
@@ -144,7 +160,7 @@ def with_numpy(s):
         calls[f"mask_at_most {t}"] = lambda t=limit: masked(np.less_equal, t)
         calls[f"mask_above {t}"] = lambda t=limit: masked(np.greater, t)
         calls[f"mask_at_least {t}"] = lambda t=limit: masked(np.greater_equal, t)
-        calls[f"near_mask {t}"] = calls[f"mask_at_most {t}"]
+        calls[f"near_mask {t}"] = lambda t=limit: near_mask(t)
         calls[f"jaccard at {t}"] = lambda t=limit: jaccard(t)
     edited = s.edited
     # One edit and a list of edits, to one distance and to another in turns.
@@ -174,7 +190,7 @@ def with_opencv(s):
     def rows(x):
         return x.view(np.int32).reshape(s.shape)
 
-    a, b, small, out = rows(s.a), rows(s.b), rows(s.small), rows(s.out)
+    a, b, small, out, out2 = rows(s.a), rows(s.b), rows(s.small), rows(s.out), rows(s.out2)
     signed = np.zeros(s.shape, np.float64)
     flags, flags2, flags3 = (np.zeros(s.shape, np.uint8) for _ in range(3))
     mask, other, words = (x.view(np.uint8).reshape(1, -1) for x in (s.mask, s.other_mask, s.words))
@@ -182,6 +198,17 @@ def with_opencv(s):
     def difference(y):
         cv2.max(a, y, out)
         return cv2.subtract(out, y, out)
+
+    # Zero distances stay; others become no less than 1.
+    def shift_down(size):
+        difference(size)
+        cv2.min(a, 1.0, out2)
+        return cv2.max(out, out2, out)
+
+    def shift_up(size):
+        cv2.compare(a, 0.0, cv2.CMP_NE, flags)
+        out.fill(0)
+        return cv2.add(a, size, out, flags)
 
     def compared(t, comparison):
         return Flags(cv2.compare(a, t, comparison, flags))
@@ -213,8 +240,8 @@ def with_opencv(s):
         "sum_maps, few to overflow": lambda: cv2.add(a, small, out),
         "sum_maps, half to overflow": lambda: cv2.add(a, b, out),
         "difference": lambda: difference(b),
-        "shift by -50": lambda: difference(50.0),
-        "shift by 10": lambda: cv2.add(a, 10.0, out),
+        "shift by -50": lambda: shift_down(50.0),
+        "shift by 10": lambda: shift_up(10.0),
         "signed_difference": lambda: cv2.subtract(b, a, signed, dtype=cv2.CV_64F),
         "mask_and": lambda: cv2.bitwise_and(mask, other, words),
         "mask_or": lambda: cv2.bitwise_or(mask, other, words),
@@ -229,7 +256,7 @@ def with_opencv(s):
         calls[f"mask_at_most {t}"] = lambda t=limit: compared(t, cv2.CMP_LE)
         calls[f"mask_above {t}"] = lambda t=limit: compared(t, cv2.CMP_GT)
         calls[f"mask_at_least {t}"] = lambda t=limit: compared(t, cv2.CMP_GE)
-        calls[f"near_mask {t}"] = calls[f"mask_at_most {t}"]
+        calls[f"near_mask {t}"] = lambda t=limit: Flags(cv2.inRange(a, 1.0, t, flags))
         calls[f"jaccard at {t}"] = lambda t=limit: jaccard(t)
     for kind, words_of_kind in s.masks.items():
         chosen = (spread(words_of_kind) * 255).reshape(s.shape)

@@ -8,21 +8,20 @@
 --   shift-written             else the file of the shifted map is written
 -- Axioms: none.
 use mathlib.Core.Path.{_≡_, refl, sym, ap, _∙_}
-use Prim.Native.Nat.{ℕ, suc, _+_, _-_, _^_, _<_}
+use Prim.Native.Nat.{ℕ, suc, _+_, _^_, _<_}
 use native.Mathlib.Omega.{arith}
-use native.Mathlib.Decide.{decLe}
-use mathlib.Core.Bool.{true, false}
+use mathlib.Core.Bool.{true, false, cond}
 use mathlib.Core.List.{List}
 use lib.ListN.{length}
 use lib.IntN.{ℤ, pos, negsuc, natAbs, _-ℤ_}
-use lib.Dec.{T}
+use lib.Dec.{T, eqb}
 use lib.Signed.{ltZ, nonNeg}
 use mir.Syntax.{w32, w64}
 use mir.Val.{Fits, SFits}
-use borrow.Author.Tests.{lt-ltb, le-ltb, ltb-true}
+use borrow.Author.Tests.{ltb-true}
 use Rattle.pciv_format.specs.Layout.{at}
 use Rattle.pciv_format.specs.Refusals.{done, refused, fileAnswer}
-use Rattle.pciv_format.specs.Parts.{valueOf}
+use Rattle.pciv_format.specs.Parts.{Parts, valueOf}
 use Rattle.pciv_format.specs.Check.{fileParts, checkFile, CheckedMap}
 use Rattle.pciv_format.specs.Read.{listOf}
 use Rattle.pciv_format.specs.Write.{mapInto, fileBuffer}
@@ -33,7 +32,11 @@ use Rattle.pciv_format.specs.declared.FileAnswer.{FileAnswer}
 use Rattle.pciv_format.specs.declared.FileAnswer.the-variants.{Refused}
 use Rattle.pciv_format.proofs.CheckLaws.{done-counts}
 use Rattle.pciv_format.proofs.ReadLaws.{length-listOf, at-list}
+use Rattle.pciv_format.proofs.ZeroLaws.{shift-up, shift-down}
 use Rattle.pciv_build.proofs.IntoLaws.{map-written}
+use Rattle.pciv_arith_add.specs.Addition.{addedAt}
+use Rattle.pciv_arith_add.specs.declared.addend.Addend.the-variants.{Number}
+use Rattle.pciv_arith_lower.specs.Lowered.{lowered, loweredAt}
 use Rattle.pciv_arith.specs.Direction.{directionOf}
 use Rattle.pciv_arith.specs.declared.Direction.the-variants.{Down, Up}
 
@@ -72,20 +75,13 @@ up-small (negsuc x) m h e = let z : _≡_ {A = ℕ} 0 1 = cc in absurd (omega ar
 
 -- ---- a distance
 
-raise-is : (d : ℤ) (m x : ℕ) → Up m ≡ directionOf d → x + m ≡ shiftedBy d x
-unfolding shiftedBy
-raise-is (pos y) m x e = let same : m ≡ y = cc in rw same
+raise-is : (d : ℤ) (m x : ℕ) → Up m ≡ directionOf d → cond (eqb x 0) 0 (x + m) ≡ shiftedBy d x
+raise-is (pos y) m x e = let same : m ≡ y = cc in rw same (sym (shift-up y x))
 raise-is (negsuc y) m x e = let z : _≡_ {A = ℕ} 0 1 = cc in absurd (omega arith)
 
-lower-is : (d : ℤ) (m x : ℕ) → Down m ≡ directionOf d → x - m ≡ shiftedBy d x
-unfolding shiftedBy
+lower-is : (d : ℤ) (m x : ℕ) → Down m ≡ directionOf d → lowered m x ≡ shiftedBy d x
 lower-is (pos y) m x e = let z : _≡_ {A = ℕ} 0 1 = cc in absurd (omega arith)
-lower-is (negsuc y) m x e =
-    let same : m ≡ suc y = cc in
-    elim (decLe (suc y) x) [
-      | yes h ↦ rw (same, le-ltb x (suc y) h)
-      | no h ↦ rw (same, lt-ltb x (suc y) (omega arith)) (omega arith)
-    ]
+lower-is (negsuc y) m x e = let same : m ≡ suc y = cc in rw same (sym (shift-down y x))
 
 -- ---- the map
 
@@ -98,11 +94,14 @@ module _ (b : List ℕ) (s : Summary) (e : checkFile 1 b ≡ done s) (d : ℤ) w
   pub checked : CheckedMap b (s .n) (s .k)
   checked = done-counts 1 b s e .0
 
+  abbrev P : Parts
+  P = fileParts b (s .n) (s .k)
+
   abbrev shifted : ℕ → ℕ
   shifted i = shiftedBy d (at (listOf b) i)
 
   -- a v that is the shifted map
-  module _ (v : ℕ → ℕ) (is : (i : ℕ) → v i ≡ shiftedBy d (valueOf (fileParts b (s .n) (s .k)) i)) where
+  module _ (v : ℕ → ℕ) (is : (i : ℕ) → v i ≡ shiftedBy d (valueOf P i)) where
     same : (i : ℕ) → i < s .n → v i ≡ shifted i
     same i h =
         is i ∙ ap (shiftedBy d) (sym (at-list b (s .n) (s .k) (checked .header .nIs) (checked .header .kIs) i h))
@@ -116,14 +115,8 @@ module _ (b : List ℕ) (s : Summary) (e : checkFile 1 b ≡ done s) (d : ℤ) w
         (shiftOutcome b d (length out)) (rw e) answer buffer
 
   module _ (m : ℕ) where
-    abbrev raised : ℕ → ℕ
-    raised i = valueOf (fileParts b (s .n) (s .k)) i + m
+    pub up-is : Up m ≡ directionOf d → (i : ℕ) → addedAt (Number m) P P i ≡ shiftedBy d (valueOf P i)
+    up-is up i = raise-is d m (valueOf P i) up
 
-    abbrev low : ℕ → ℕ
-    low i = valueOf (fileParts b (s .n) (s .k)) i - m
-
-    pub up-is : Up m ≡ directionOf d → (i : ℕ) → raised i ≡ shiftedBy d (valueOf (fileParts b (s .n) (s .k)) i)
-    up-is up i = raise-is d m (valueOf (fileParts b (s .n) (s .k)) i) up
-
-    pub down-is : Down m ≡ directionOf d → (i : ℕ) → low i ≡ shiftedBy d (valueOf (fileParts b (s .n) (s .k)) i)
-    down-is down i = lower-is d m (valueOf (fileParts b (s .n) (s .k)) i) down
+    pub down-is : Down m ≡ directionOf d → (i : ℕ) → loweredAt P m i ≡ shiftedBy d (valueOf P i)
+    down-is down i = lower-is d m (valueOf P i) down

@@ -3,7 +3,6 @@
 // Refusals 1 to 8 of two maps are those of the first, then those of the second. A refused call changes nothing, and what
 // stands behind the result stays as it was.
 ghost use mathlib.Core.Path.{_≡_};
-ghost use Prim.Native.Nat.{_-_, _<_};
 ghost use lib.ListN.{length};
 ghost use Rattle.pciv_format.specs.Refusals.{fileAnswer, numberAnswer};
 ghost use Rattle.pciv_format.specs.Arith.{combineMapsOutcome, combineMapsBuffer, shiftOutcome, shiftBuffer};
@@ -100,8 +99,8 @@ fn which_way(by: i32) -> Direction
     Direction::Up(d as u32)
 }
 
-// Each distance with `by` added, or 0 where that is negative. Refusals: 1 to 8, then 11 with the least slot whose result
-// is no distance, then 12.
+// Each non-zero distance with `by` added, or 1 where that is 0 or below; a zero distance stays. Refusals: 1 to 8, then 11
+// with the least slot whose result is no distance, then 12.
 pub fn shift(file: &[u8], by: i32, out: &mut [u8]) -> FileAnswer
     ensures answer { λ r. ⌜ r ≡ fileAnswer (shiftOutcome (now (file .entry)) by (length (now (out .entry)))) ⌝ }
     ensures buffer { λ _. ⌜ now (out .exit) ≡ shiftBuffer (now (file .entry)) by (now (out .entry)) ⌝ }

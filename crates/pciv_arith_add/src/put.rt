@@ -1,9 +1,9 @@
 // The parts of the result: how many of its slots are in overflow, its primary bytes, its overflow entries.
 ghost use mathlib.Core.Path.{_≡_};
-ghost use Prim.Native.Nat.{_+_, _*_, _≤_};
+ghost use Prim.Native.Nat.{_+_, _-_, _*_, _≤_, max};
 ghost use lib.ListN.{length};
 ghost use lib.Seq.{sets};
-ghost use Rattle.pciv_format.specs.Layout.{primary, overflowCount, overflowPart};
+ghost use Rattle.pciv_format.specs.Layout.{primaryByte, primary, overflowCount, overflowPart};
 ghost use Rattle.pciv_format.specs.Check.{fileParts};
 ghost use Rattle.pciv_check.specs.Pair.{CheckedPair};
 ghost use Rattle.pciv_build.specs.Build.{Fits};
@@ -24,6 +24,14 @@ use pciv_passes::pairs::count_full;
 use pciv_passes::pairs::map_into;
 use pciv_passes::pairs::zip_into;
 
+// The byte from which on a distance comes into overflow where d is added: at least 1, since a zero distance stays.
+fn first_full(d: u32) -> u8
+    ensures { λ r. ⌜ r ≡ max 1 (255 - primaryByte d) ⌝ }
+{
+    let left = SENTINEL - primary_byte(d);
+    if left == 0 { 1 } else { left }
+}
+
 // How many slots of the result are in overflow.
 pub fn count_added(of: Addend, a: &[u8], b: &[u8], n: usize, ka: usize, kb: usize) -> usize
     requires { ⌜ CheckedPair (now a) (now b) n ka kb ⌝ }
@@ -32,7 +40,7 @@ pub fn count_added(of: Addend, a: &[u8], b: &[u8], n: usize, ka: usize, kb: usiz
     let end = HEADER_LEN + n;
     match of {
         Addend::Map => count_full(ByteOp::Add, &a[HEADER_LEN..end], &b[HEADER_LEN..end]),
-        Addend::Number(d) => count_from(&a[HEADER_LEN..end], SENTINEL - primary_byte(d)),
+        Addend::Number(d) => count_from(&a[HEADER_LEN..end], first_full(d)),
     }
 }
 
@@ -52,7 +60,7 @@ pub fn put_primary(out: &mut [u8], of: Addend, a: &[u8], b: &[u8], n: usize, ka:
             HEADER_LEN,
         ),
         Addend::Number(d) => map_into(
-            ByteOp::Add,
+            ByteOp::Raise,
             &a[HEADER_LEN..end],
             primary_byte(d),
             out,

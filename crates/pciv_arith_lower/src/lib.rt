@@ -1,15 +1,15 @@
-// A checked map with all distances lowered by m, to 0 at the least, written as a file. Only what is in overflow can
-// stay so: the primary bytes are lowered all at once, then a walk over the overflow entries puts the bytes of their
-// slots right, and another writes the entries that are left.
+// A checked map with its non-zero distances lowered by m, to 1 at the least, written as a file; a zero distance stays.
+// Only what is in overflow can be so afterwards: the primary bytes are lowered all at once, then a walk over the overflow
+// entries puts the bytes of their slots right, and another writes the entries that are left.
 ghost use mathlib.Core.Path.{_≡_};
-ghost use Prim.Native.Nat.{_+_, _-_, _*_, _≤_};
+ghost use Prim.Native.Nat.{_+_, _*_, _≤_};
 ghost use lib.ListN.{length};
 ghost use lib.Seq.{sets};
 ghost use Rattle.pciv_format.specs.Layout.{primary, overflowCount, overflowPart};
 ghost use Rattle.pciv_format.specs.Refusals.{fileAnswer};
 ghost use Rattle.pciv_format.specs.Check.{fileParts, CheckedMap};
 ghost use Rattle.pciv_format.specs.Write.{mapInto, fileBuffer};
-ghost use Rattle.pciv_arith_lower.specs.Lowered.{loweredAt};
+ghost use Rattle.pciv_arith_lower.specs.Lowered.{lowered, loweredAt};
 use pciv_build::begin;
 use pciv_build::finish;
 use pciv_build::put_entry;
@@ -21,11 +21,12 @@ use pciv_map::entries::entry_slot;
 use pciv_passes::pairs::ByteOp;
 use pciv_passes::pairs::map_into;
 
-// A distance lowered by m, to 0 at the least.
-fn truncated_difference(x: u32, m: u32) -> u32
-    ensures { λ r. ⌜ r ≡ x - m ⌝ }
+// A non-zero distance lowered by m, to 1 at the least.
+fn lower(x: u32, m: u32) -> u32
+    requires { ⌜ 1 ≤ x ⌝ }
+    ensures { λ r. ⌜ r ≡ lowered m x ⌝ }
 {
-    if x <= m { 0 } else { x - m }
+    if x <= m { 1 } else { x - m }
 }
 
 // How many slots of the result are in overflow.
@@ -36,7 +37,7 @@ fn count_lowered(file: &[u8], n: usize, k: usize, m: u32) -> usize
     let mut count: usize = 0;
     let mut j = 0;
     while j < k {
-        let x = truncated_difference(entry_distance(file, n, j), m);
+        let x = lower(entry_distance(file, n, j), m);
         j += 1;
         if 255 <= x {
             count += 1;
@@ -53,7 +54,7 @@ fn put_primary(out: &mut [u8], file: &[u8], n: usize, k: usize, m: u32)
 {
     let end = HEADER_LEN + n;
     map_into(
-        ByteOp::Sub,
+        ByteOp::Lower,
         &file[HEADER_LEN..end],
         primary_byte(m),
         out,
@@ -62,7 +63,7 @@ fn put_primary(out: &mut [u8], file: &[u8], n: usize, k: usize, m: u32)
     let mut j = 0;
     while j < k {
         let slot = entry_slot(file, n, j);
-        out[HEADER_LEN + slot] = primary_byte(truncated_difference(entry_distance(file, n, j), m));
+        out[HEADER_LEN + slot] = primary_byte(lower(entry_distance(file, n, j), m));
         j += 1;
     }
 }
@@ -77,7 +78,7 @@ fn put_entries(out: &mut [u8], file: &[u8], n: usize, k: usize, m: u32)
     let mut j = 0;
     while j < k {
         let slot = entry_slot(file, n, j);
-        let x = truncated_difference(entry_distance(file, n, j), m);
+        let x = lower(entry_distance(file, n, j), m);
         j += 1;
         if 255 <= x {
             at = put_entry(out, at, slot, x);

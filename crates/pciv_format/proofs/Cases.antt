@@ -4,8 +4,8 @@
 --   counts, setTo, Gives, LengthRow    short forms of what the statements repeat
 --   cases       the cases that "Worked examples" marks as proved, under one statement: a component for each
 --   lengths     the table of "Derived counts"
---   further     cases of the routines that the examples leave out, the readings of a primary array, edits before
---               other bytes, and masks of more than a word
+--   further     the near masks and shifts of "Worked examples", cases of the routines that these leave out, the readings
+--               of a primary array, edits before other bytes, and masks of more than a word
 --   examples    the other cases of "Worked examples", and texts of "The report program"
 -- A caller's buffer or list holds 7 in each place, so that what is left unchanged shows. Axioms: none.
 use mathlib.Core.Path.{_≡_, refl}
@@ -96,9 +96,7 @@ pub cases :
     × Gives Difference B A (1 ∷ 0 ∷ 0 ∷ 4294966995 ∷ []) 1 56
     -- mask of A, at most 254: one word, 3
     × ((thresholdOutcome AtMost (fileOf A) 254 1 ≡ done 1)
-    × (thresholdWords AtMost (fileOf A) 254 (7 ∷ 7 ∷ []) ≡ 3 ∷ 7 ∷ [])
-    × (nearMaskOutcome (fileOf A) 254 1 ≡ done 1)
-    × (nearMaskWords (fileOf A) 254 (7 ∷ 7 ∷ []) ≡ 3 ∷ 7 ∷ []))
+    × (thresholdWords AtMost (fileOf A) 254 (7 ∷ 7 ∷ []) ≡ 3 ∷ 7 ∷ []))
     -- mask of A, at least 255: one word, 12, with two set bits
     × ((thresholdOutcome AtLeast (fileOf A) 255 1 ≡ done 1)
     × (thresholdWords AtLeast (fileOf A) 255 (7 ∷ 7 ∷ []) ≡ 12 ∷ 7 ∷ [])
@@ -113,7 +111,7 @@ unfolding
     overflowSlots overflowCount overflowEntry overflowPart indexEntry indexPart header file countsOf summary
     wrongEntry badEntry entryOf badSlot valueOf badIndexEntry badCounts checkParts checkHeader checkWith
     listOf primaryPart lookupOutcome bitAt maskHas word maskOf badMask setBits setBitsOutcome
-    thresholdOutcome thresholdWords nearMaskOutcome nearMaskWords combineMapsOutcome combineMapsBuffer
+    thresholdOutcome thresholdWords combineMapsOutcome combineMapsBuffer
     plainOutcome editedFile editOutcome replaced editBuffer
 cases = (
   (refl, refl, refl),
@@ -125,7 +123,7 @@ cases = (
   (refl, refl, refl),
   (refl, refl, refl),
   (refl, refl, refl),
-  (refl, refl, refl, refl),
+  (refl, refl),
   (refl, refl, refl, refl),
   (refl, refl, refl),
 )
@@ -221,6 +219,12 @@ pub further :
     × (thresholdWords Below (fileOf M) 300 (7 ∷ 7 ∷ 7 ∷ []) ≡ ones ∷ 0 ∷ 7 ∷ [])
     × (thresholdWords Above (fileOf M) 299 (7 ∷ 7 ∷ 7 ∷ []) ≡ 0 ∷ 1 ∷ 7 ∷ [])
     × (thresholdOutcome Above (fileOf M) 299 1 ≡ refuse 12 0 0)
+    -- near masks of A at 254, 255 and 0; of M at 299; of the empty map
+    × ((nearMaskOutcome (fileOf A) 254 1 ≡ done 1) × (nearMaskWords (fileOf A) 254 (7 ∷ 7 ∷ []) ≡ 2 ∷ 7 ∷ []))
+    × (nearMaskWords (fileOf A) 255 (7 ∷ 7 ∷ []) ≡ 6 ∷ 7 ∷ [])
+    × (nearMaskWords (fileOf A) 0 (7 ∷ 7 ∷ []) ≡ 0 ∷ 7 ∷ [])
+    × (nearMaskWords (fileOf M) 299 (7 ∷ 7 ∷ 7 ∷ []) ≡ ones ∷ 0 ∷ 7 ∷ [])
+    × ((nearMaskOutcome (fileOf []) 4294967295 0 ≡ done 0) × (nearMaskWords (fileOf []) 4294967295 (7 ∷ []) ≡ 7 ∷ []))
     -- masks of masks: slots 0, 1 and slots 1, 2 of four; the complement of slot 64 of 65; bit 4 is past four slots
     × (combineWords And 4 (3 ∷ []) (6 ∷ []) (7 ∷ []) ≡ 2 ∷ [])
     × (combineWords Or 4 (3 ∷ []) (6 ∷ []) (0 ∷ []) ≡ 7 ∷ [])
@@ -236,10 +240,19 @@ pub further :
     × (incrementMaskedOutcome (fileOf B) (8 ∷ []) 99 ≡ refuse 11 0 3)
     -- Jaccard of A and B at 255: one slot in exactly one, two in either
     × (jaccardOutcome 255 (fileOf A) (fileOf B) ≡ done (ofBits binary64 0x3FE0000000000000))
-    -- A shifted by -255 and by 1; B - A
-    × (shiftBuffer (fileOf A) (negsuc 254) (replicate 45 7) ≡ fileOf (0 ∷ 0 ∷ 0 ∷ 45 ∷ []) ++ (7 ∷ []))
-    × (shiftBuffer (fileOf A) (pos 1) (replicate 81 7) ≡ fileOf (1 ∷ 255 ∷ 256 ∷ 301 ∷ []) ++ (7 ∷ []))
+    -- A shifted by -300, with as many readings as A has, and by -255, 0, 1 and 300; distances 1, 5 and 0; B and the empty
+    -- map shifted; B - A
+    × ((shiftBuffer (fileOf A) (negsuc 299) (replicate 45 7) ≡ fileOf (0 ∷ 1 ∷ 1 ∷ 1 ∷ []) ++ (7 ∷ []))
+    × (readings (0 ∷ 1 ∷ 1 ∷ 1 ∷ []) ≡ readings A))
+    × (shiftBuffer (fileOf A) (negsuc 254) (replicate 45 7) ≡ fileOf (0 ∷ 1 ∷ 1 ∷ 45 ∷ []) ++ (7 ∷ []))
+    × (shiftBuffer (fileOf A) (pos 0) (replicate 69 7) ≡ fileOf A ++ (7 ∷ []))
+    × (shiftBuffer (fileOf A) (pos 1) (replicate 81 7) ≡ fileOf (0 ∷ 255 ∷ 256 ∷ 301 ∷ []) ++ (7 ∷ []))
+    × ((shiftOutcome (fileOf A) (pos 300) 80 ≡ done (counts 4 3 0 0 80))
+    × (shiftBuffer (fileOf A) (pos 300) (replicate 81 7) ≡ fileOf (0 ∷ 554 ∷ 555 ∷ 600 ∷ []) ++ (7 ∷ [])))
+    × ((shiftedBy (negsuc 0) 1 ≡ 1) × (shiftedBy (negsuc 4) 5 ≡ 1) × (shiftedBy (negsuc 2147483647) 5 ≡ 1))
+    × ((shiftedBy (pos 2147483647) 0 ≡ 0) × (shiftedBy (negsuc 2147483647) 0 ≡ 0))
     × (shiftOutcome (fileOf B) (pos 1) 99 ≡ refuse 11 0 3)
+    × (shiftOutcome (fileOf []) (pos 300) 40 ≡ done (counts 0 0 0 0 40))
     × (signedDifferenceList (fileOf A) (fileOf B) (pos 7 ∷ pos 7 ∷ pos 7 ∷ pos 7 ∷ pos 7 ∷ [])
     ≡ pos 1 ∷ negsuc 252 ∷ negsuc 253 ∷ pos 4294966995 ∷ pos 7 ∷ [])
 unfolding
@@ -247,7 +260,7 @@ unfolding
     overflowSlots overflowCount overflowEntry overflowPart indexEntry indexPart header file countsOf summary
     wrongEntry badEntry entryOf badSlot valueOf badIndexEntry badCounts checkParts checkHeader checkWith
     listOf primaryPart readings bitAt maskHas word maskOf badMask thresholdOutcome thresholdWords
-    combineOutcome combineWords
+    nearMaskOutcome nearMaskWords combineOutcome combineWords
     complementOutcome complementWords setBits setBitsOutcome mapOfMaskOutcome mapOfMaskBuffer
     keepMaskedOutcome keepMaskedBuffer incrementMaskedOutcome incrementMaskedBuffer
     quotient countAt jaccardOutcome ofBits ofInt div shiftedBy shiftOutcome shiftBuffer
@@ -278,6 +291,11 @@ further = (
   refl,
   refl,
   refl,
+  (refl, refl),
+  refl,
+  refl,
+  refl,
+  (refl, refl),
   refl,
   refl,
   refl,
@@ -290,7 +308,13 @@ further = (
   refl,
   refl,
   refl,
+  (refl, refl),
   refl,
+  refl,
+  refl,
+  (refl, refl),
+  (refl, refl, refl),
+  (refl, refl),
   refl,
   refl,
   refl,

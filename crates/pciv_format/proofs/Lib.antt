@@ -24,6 +24,7 @@ pub mod EntryLaws
 pub mod PatchLaws
 pub mod MapLaws
 pub mod ReadingsLaws
+pub mod ZeroLaws
 pub mod ReadCaseLaws
 pub mod BitLaws
 pub mod MaskLaws

@@ -141,7 +141,7 @@ module _ (xs : List ℕ) (l : Limits xs) where
 
   pub file-nearMask : (t : ℕ)
       → Writes (nearMaskOutcome (fileOf xs) t) (nearMaskWords (fileOf xs) t) (itemsInto (maskLen (length xs)))
-      (maskOf (length xs) (λ i. leb (at xs i) t))
+      (maskOf (length xs) (λ i. isNear t (at xs i)))
   unfolding nearMaskOutcome nearMaskWords
   file-nearMask t = file-select (isNear t)
 

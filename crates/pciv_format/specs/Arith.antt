@@ -7,9 +7,9 @@
 --   shiftOutcome, shiftBuffer     a map shifted, written as a file
 --   signedDifferences xs ys       the exact y - x of each slot ("change")
 --   signedDifferenceOutcome, signedDifferenceList    these of two maps, into a list
--- Axioms: none.
+-- Laws of the shift are in proofs/ZeroLaws.antt. Axioms: none.
 use Prim.Native.Nat.{ℕ, _+_, _-_, min, max}
-use mathlib.Core.Bool.{not}
+use mathlib.Core.Bool.{not, cond}
 use mathlib.Core.List.{List}
 use lib.ListN.{length}
 use lib.Dec.{eqb}
@@ -54,8 +54,9 @@ abbrev pub atLeastZero : ℤ → ℕ
 atLeastZero (pos x) = x
 atLeastZero (negsuc x) = 0
 
+-- a zero distance ("hole") stays; any other one ("reading") is at least 1 afterwards
 unfoldable pub shiftedBy : ℤ → ℕ → ℕ
-shiftedBy d x = atLeastZero (pos x +ℤ d)
+shiftedBy d x = cond (eqb x 0) 0 (max 1 (atLeastZero (pos x +ℤ d)))
 
 unfoldable pub shiftOutcome : List ℕ → ℤ → ℕ → Outcome Summary
 shiftOutcome b d capacity = andThen (checkFile 1 b) (λ s. mapInto (s .n) (λ i. shiftedBy d (at (listOf b) i)) capacity)

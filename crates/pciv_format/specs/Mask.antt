@@ -7,12 +7,12 @@
 --   holds c x t         distance x compares with t as c says
 --   thresholdOutcome c, nearMaskOutcome     masks of a map
 --   combineOutcome op, complementOutcome    masks of masks;  setBitsOutcome  the number of set bits
---   keptIf, plusIf      a distance kept, or one more, where a slot is set;  isNear x t  the near mask's test
+--   keptIf, plusIf      a distance kept, or one more, where a slot is set;  isNear t x  the near mask's test
 --   bitsRow b           the eight bytes of the eight bits of b
 --   maskedOutcome       a map to which a mask is applied
 --   mapOfMaskOutcome, keepMaskedOutcome ("cut"), incrementMaskedOutcome ("tally")   files from masks
 -- Those that write have a -Words or -Buffer beside them: what the caller's list or buffer holds afterwards.
--- Laws are in proofs/BitLaws.antt and MaskLaws.antt. Axioms: none.
+-- Laws are in proofs/BitLaws.antt and MaskLaws.antt, those of the near mask in ZeroLaws.antt. Axioms: none.
 use Prim.Native.Nat.{ℕ, zero, suc, _+_, _-_, _*_, _/_, _%_, _^_, min}
 use mathlib.Core.Bool.{Bool, not, cond, _&&_, _||_, xor}
 use mathlib.Core.List.{List}
@@ -78,9 +78,9 @@ thresholdOutcome c b t capacity = selectOutcome b capacity
 unfoldable pub thresholdWords : Comparison → List ℕ → ℕ → List ℕ → List ℕ
 thresholdWords c b t out = selectWords (λ x. holds c x t) b out
 
--- the near mask at t: the mask for at most t
+-- the near mask at t: the distances from 1 to t, so that zero distances ("holes") are left out
 abbrev pub isNear : ℕ → ℕ → Bool
-isNear t x = holds AtMost x t
+isNear t x = leb 1 x && leb x t
 
 unfoldable pub nearMaskOutcome : List ℕ → ℕ → ℕ → Outcome ℕ
 nearMaskOutcome b t capacity = selectOutcome b capacity

@@ -1,7 +1,8 @@
 -- Laws of the masks of a map: a comparison as a limit, what the primary bytes tell, and what `select` answers, case by
 -- case.
 --   holds-limit         a comparison with t is a test of a limit
---   bytes-selected      for a limit up to 255 the mask of the primary bytes is that of the distances
+--   bytes-limit, -near  where the primary bytes tell, their mask is that of the distances
+--   bytes-start         the mask of the bytes that are not 0
 --   select-refused, -short, -done      the outcome, where the file is refused, and where it is a map with counts s
 --   words-refused, -done, -cong        the caller's words afterwards
 -- Axioms: none.
@@ -9,31 +10,34 @@ use mathlib.Core.Path.{_≡_, refl, sym, ap, ap₂, _∙_}
 use Prim.Native.Nat.{ℕ, _+_, _≤_, _<_}
 use native.Mathlib.Omega.{arith}
 use native.Mathlib.Decide.{decLe}
-use mathlib.Core.Bool.{Bool, not}
+use mathlib.Core.Bool.{Bool, true, not}
 use mathlib.Core.List.{List}
 use lib.ListN.{length}
 use lib.Seq.{sets}
 use lib.Dec.{ltb, leb}
 use borrow.Author.Tests.{lt-ltb, le-ltb, le-leb, lt-leb}
 use Rattle.pciv_bytes.specs.LittleEndian.{Bytes}
+use Rattle.pciv_bytes.specs.ByteAt.{byteAt}
 use Rattle.pciv_bytes.proofs.WriteLaws.{sets-front}
 use Rattle.pciv_format.specs.Layout.{at}
 use Rattle.pciv_format.specs.Refusals.{Outcome, done, refused, refuse, written}
 use Rattle.pciv_format.specs.Parts.{Parts, valueOf, SoundParts}
 use Rattle.pciv_format.specs.Check.{checkFile, fileParts, CheckedMap}
 use Rattle.pciv_format.specs.Read.{listOf}
-use Rattle.pciv_format.specs.Mask.{maskLen, maskOf, holds, selectOutcome, selectWords}
+use Rattle.pciv_format.specs.Mask.{maskLen, maskOf, holds, isNear, selectOutcome, selectWords}
 use Rattle.pciv_format.specs.declared.Summary.{Summary}
 use Rattle.pciv_format.specs.declared.Refusal.{Refusal}
 use Rattle.pciv_format.specs.declared.Comparison.{Comparison}
 use Rattle.pciv_format.specs.declared.Comparison.the-variants.{Below, AtMost, Above, AtLeast}
 use Rattle.pciv_format.proofs.PartsLaws.{slot-cases}
+use Rattle.pciv_format.proofs.ZeroLaws.{near-none}
 use Rattle.pciv_format.proofs.ReadLaws.{length-listOf, at-list, items-fit, items-short}
 use Rattle.pciv_format.proofs.MapLaws.{primaryOf, primary-length, primary-at}
 use Rattle.pciv_format.proofs.ReadCaseLaws.{checked}
 use Rattle.pciv_format.proofs.MaskLaws.{length-maskOf, maskOf-cong}
-use Rattle.pciv_bits.specs.Flags.{flipIf, passes, passesAt}
-use Rattle.pciv_mask_threshold.specs.Select.{limitOf, isNegated, selected}
+use Rattle.pciv_bits.specs.Flags.{flipIf, passes, passesAt, nearAt}
+use Rattle.pciv_mask_threshold.specs.Select.{limitOf, isNegated, askedIn, startIn}
+use Rattle.pciv_mask_threshold.specs.declared.Asked.the-variants.{Limit, Near}
 
 -- ---- comparisons
 
@@ -72,17 +76,35 @@ byte-below P s bytes limit low i inside =
     slot-cases P s bytes i inside (λ small e. ap (λ (x : ℕ). ltb x limit) (sym e))
     (λ j hj at e w overflows. le-ltb (P .byte i) limit (omega arith) ∙ sym (le-ltb (valueOf P i) limit (omega arith)))
 
--- the mask of the primary bytes is that of the distances
-pub bytes-selected : (b : List ℕ) (n k : ℕ) → CheckedMap b n k → Bytes b → (limit : ℕ) (negated : Bool) → limit ≤ 255
-    → maskOf (length (primaryOf b n)) (passesAt (primaryOf b n) limit negated)
-    ≡ maskOf n (selected (fileParts b n k) limit negated)
-bytes-selected b n k m bytes limit negated low =
-    let p : ℕ → Bool = passesAt (primaryOf b n) limit negated in
-    ap (λ (c : ℕ). maskOf c p) (primary-length b n k m)
-    ∙ maskOf-cong n p (selected (fileParts b n k) limit negated)
-    (λ i h.
-    ap (λ (x : ℕ). passes limit negated x) (primary-at b n k m i h)
-    ∙ ap (flipIf negated) (byte-below (fileParts b n k) (m .parts) (λ t. bytes (40 + t)) limit low i h))
+module _ (b : List ℕ) (n k : ℕ) (m : CheckedMap b n k) (bytes : Bytes b) where
+  abbrev P : Parts
+  P = fileParts b n k
+
+  -- a mask of the primary bytes, by a test q of them
+  mask-bytes : (q : ℕ → Bool) (p : ℕ → Bool) → ((i : ℕ) → i < n → q (P .byte i) ≡ p i)
+      → maskOf (length (primaryOf b n)) (λ (i : ℕ). q (byteAt (primaryOf b n) i)) ≡ maskOf n p
+  mask-bytes q p same =
+      ap (λ (c : ℕ). maskOf c (λ (i : ℕ). q (byteAt (primaryOf b n) i))) (primary-length b n k m)
+      ∙ maskOf-cong n (λ (i : ℕ). q (byteAt (primaryOf b n) i)) p (λ i h. ap q (primary-at b n k m i h) ∙ same i h)
+
+  pub bytes-limit : (limit : ℕ) (negated : Bool) → limit ≤ 255
+      → maskOf (length (primaryOf b n)) (passesAt (primaryOf b n) limit negated)
+      ≡ maskOf n (askedIn P (Limit limit negated))
+  bytes-limit limit negated low =
+      mask-bytes (passes limit negated) (askedIn P (Limit limit negated))
+      (λ i h. ap (flipIf negated) (byte-below P (m .parts) (λ t. bytes (40 + t)) limit low i h))
+
+  pub bytes-near : (t : ℕ) → t < 255
+      → maskOf (length (primaryOf b n)) (nearAt (primaryOf b n) t) ≡ maskOf n (askedIn P (Near t))
+  bytes-near t low =
+      mask-bytes (isNear t) (askedIn P (Near t))
+      (λ i h.
+      slot-cases P (m .parts) (λ s. bytes (40 + s)) i h (λ small e. ap (isNear t) (sym e))
+      (λ j hj at e w overflows. near-none t (P .byte i) (omega arith) ∙ sym (near-none t (valueOf P i) (omega arith))))
+
+  pub bytes-start : (t : ℕ)
+      → maskOf (length (primaryOf b n)) (passesAt (primaryOf b n) 1 true) ≡ maskOf n (startIn P (Near t))
+  bytes-start t = mask-bytes (passes 1 true) (startIn P (Near t)) (λ i h. refl)
 
 -- ---- the caller's words, by the outcome
 

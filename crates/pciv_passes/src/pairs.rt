@@ -1,33 +1,66 @@
-// Two lists of bytes, byte by byte: the smaller, the larger, the sum, at most 255, or the difference, at least 0.
-// At a constant operation the compiler works on many bytes at once.
+// Two lists of bytes, byte by byte: the smaller, the larger, the sum, at most 255, the difference, at least 0, or one of
+// the last two that leaves zeros and makes none. At a constant operation the compiler works on many bytes at once.
 ghost use mathlib.Core.Path.{_≡_};
-ghost use Prim.Native.Nat.{_+_, _-_, _≤_};
+ghost use Prim.Native.Nat.{_+_, _-_, _≤_, min, max};
 ghost use lib.ListN.{length};
 ghost use lib.Seq.{sets};
 ghost use Rattle.pciv_bytes.specs.Ranges.{table, sumFrom};
 ghost use Rattle.pciv_passes.specs.Counts.{Part};
 ghost use Rattle.pciv_passes.specs.Pairs.{byteOp, pairAt, oneAt, fullAt};
 
-// What is done with two bytes.
+// What is done with two bytes. Lower and Raise are difference and sum that leave a first byte 0 as it is; another one
+// is at least 1 afterwards.
 pub enum ByteOp {
     Min,
     Max,
     Add,
     Sub,
+    Lower,
+    Raise,
 }
 
 // The bytes that are counted at once: at most 255, so that a byte can hold their count.
 const BLOCK: usize = 192;
+
+// The smaller of two bytes.
+fn smaller_byte(x: u8, y: u8) -> u8
+    ensures { λ r. ⌜ r ≡ min x y ⌝ }
+{
+    if x <= y { x } else { y }
+}
+
+// The larger of two bytes.
+fn larger_byte(x: u8, y: u8) -> u8
+    ensures { λ r. ⌜ r ≡ max x y ⌝ }
+{
+    if x <= y { y } else { x }
+}
+
+// The sum of two bytes, at most 255.
+fn byte_sum(x: u8, y: u8) -> u8
+    ensures { λ r. ⌜ r ≡ min 255 (x + y) ⌝ }
+{
+    if 255 - x <= y { 255 } else { x + y }
+}
+
+// The difference of two bytes, at least 0.
+fn byte_difference(x: u8, y: u8) -> u8
+    ensures { λ r. ⌜ r ≡ x - y ⌝ }
+{
+    if x <= y { 0 } else { x - y }
+}
 
 // The operation on two bytes.
 pub(crate) fn byte_op(op: ByteOp, x: u8, y: u8) -> u8
     ensures { λ r. ⌜ r ≡ byteOp op x y ⌝ }
 {
     match op {
-        ByteOp::Min => if x <= y { x } else { y },
-        ByteOp::Max => if x <= y { y } else { x },
-        ByteOp::Add => if 255 - x <= y { 255 } else { x + y },
-        ByteOp::Sub => if x <= y { 0 } else { x - y },
+        ByteOp::Min => smaller_byte(x, y),
+        ByteOp::Max => larger_byte(x, y),
+        ByteOp::Add => byte_sum(x, y),
+        ByteOp::Sub => byte_difference(x, y),
+        ByteOp::Lower => smaller_byte(larger_byte(byte_difference(x, y), 1), x),
+        ByteOp::Raise => if x == 0 { 0 } else { byte_sum(x, y) },
     }
 }
 

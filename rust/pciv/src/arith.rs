@@ -79,15 +79,17 @@ pub fn difference(a: &[u8], b: &[u8], out: &mut [u8]) -> Result<Summary, Refusal
     answer(|summary, refusal| raw::difference(a, b, out, summary, refusal))
 }
 
-/// Each distance plus `by`, 0 where that would be negative, as a file to the front of `out`.
-/// Answers its summary. Refusals 1 to 8, then 11 with the least slot whose distance would be above
-/// 4,294,967,295 as place, then 12.
+/// Each non-zero distance plus `by`, or 1 where that would be 0 or negative, as a file to the front
+/// of `out`. A zero distance, where nothing was measured, stays 0. Answers the summary. Refusals 1 to
+/// 8, then 11 with the least slot whose distance would be above 4,294,967,295 as place, then 12.
 ///
 /// ```
 /// let file = include_bytes!("../../../examples/map-a.pciv");
 /// let mut out = [0; 44];
 /// pciv::shift(file, -100, &mut out)?;
 /// assert_eq!(pciv::primary(&out), [0, 154, 155, 200]);
+/// pciv::shift(file, -254, &mut out)?;
+/// assert_eq!(pciv::primary(&out), [0, 1, 1, 46]);
 /// # Ok::<(), pciv::Refusal>(())
 /// ```
 pub fn shift(file: &[u8], by: i32, out: &mut [u8]) -> Result<Summary, Refusal> {

@@ -66,13 +66,14 @@ pub fn mask_at_least(file: &[u8], t: u32, out: &mut [u64]) -> Result<usize, Refu
     count(|count, refusal| raw::mask_at_least(file, t, out, count, refusal))
 }
 
-/// The near mask at `t`: the slots whose distance is at most `t`, as [`mask_below`].
+/// The near mask at `t`: the slots whose distance is from 1 to `t`, none for `t` = 0, as
+/// [`mask_below`]. It is [`mask_at_most`] without the zero distances, where nothing was measured.
 ///
 /// ```
 /// let file = include_bytes!("../../../examples/map-a.pciv");
 /// let mut mask = [0, 7];
-/// assert_eq!(pciv::near_mask(file, 200, &mut mask)?, 1);
-/// assert_eq!(mask, [0b0001, 7]);
+/// assert_eq!(pciv::near_mask(file, 254, &mut mask)?, 1);
+/// assert_eq!(mask, [0b0010, 7]);
 /// # Ok::<(), pciv::Refusal>(())
 /// ```
 pub fn near_mask(file: &[u8], t: u32, out: &mut [u64]) -> Result<usize, Refusal> {

@@ -150,9 +150,10 @@ const FAMILIES: [Family; 17] = [
             "mask_above 200",
             "mask_at_least 200",
             "near_mask 200",
+            "near_mask 300",
         ],
         often: Often::Frame,
-        why: "92 packed instructions for 128 slots: no loop is compiled to SSE2's `pmovmskb`. Above 254 the entries decide, one by one.",
+        why: "80 to 88 packed instructions for 128 slots: no loop is compiled to SSE2's `pmovmskb`. Above 254 the entries decide; `near_mask` needs both.",
     },
     Family {
         name: "masks of masks, set_bits",

@@ -275,45 +275,45 @@ fn masks(table: &mut Table, scene: &Scene) {
     let words = reference::mask_len(n);
     let (mut out, mut their_out) = (vec![0; words], vec![0; words]);
     type Ours = fn(&[u8], u32, &mut [u64]) -> Result<usize, pciv::Refusal>;
+    type Theirs = fn(&[u8], u32, &mut [u64]) -> Result<u64, reference::Refusal>;
     type Arrays = fn(&[u32], u32, &mut [u64]);
-    let below: Arrays = |list, t, out| flat::mask(list, out, |x| x < t);
-    let at_most: Arrays = |list, t, out| flat::mask(list, out, |x| x <= t);
-    let above: Arrays = |list, t, out| flat::mask(list, out, |x| x > t);
-    let at_least: Arrays = |list, t, out| flat::mask(list, out, |x| x >= t);
-    let (less, more) = (Comparison::AtMost, Comparison::AtLeast);
-    let routines: [(&str, u32, Ours, Comparison, Arrays); 6] = [
-        (
-            "mask_below",
-            200,
-            pciv::mask_below,
-            Comparison::Below,
-            below,
-        ),
-        (
-            "mask_below",
-            300,
-            pciv::mask_below,
-            Comparison::Below,
-            below,
-        ),
-        ("mask_at_most", 200, pciv::mask_at_most, less, at_most),
-        (
-            "mask_above",
-            200,
-            pciv::mask_above,
-            Comparison::Above,
-            above,
-        ),
-        ("mask_at_least", 200, pciv::mask_at_least, more, at_least),
-        ("near_mask", 200, pciv::near_mask, less, at_most),
+    let below: (Ours, Theirs, Arrays) = (
+        pciv::mask_below,
+        |file, t, out| reference::threshold(file, Comparison::Below, t, out),
+        |list, t, out| flat::mask(list, out, |x| x < t),
+    );
+    let at_most: (Ours, Theirs, Arrays) = (
+        pciv::mask_at_most,
+        |file, t, out| reference::threshold(file, Comparison::AtMost, t, out),
+        |list, t, out| flat::mask(list, out, |x| x <= t),
+    );
+    let above: (Ours, Theirs, Arrays) = (
+        pciv::mask_above,
+        |file, t, out| reference::threshold(file, Comparison::Above, t, out),
+        |list, t, out| flat::mask(list, out, |x| x > t),
+    );
+    let at_least: (Ours, Theirs, Arrays) = (
+        pciv::mask_at_least,
+        |file, t, out| reference::threshold(file, Comparison::AtLeast, t, out),
+        |list, t, out| flat::mask(list, out, |x| x >= t),
+    );
+    let near: (Ours, Theirs, Arrays) = (pciv::near_mask, reference::near_mask, flat::near_mask);
+    let routines = [
+        ("mask_below", 200, below),
+        ("mask_below", 300, below),
+        ("mask_at_most", 200, at_most),
+        ("mask_above", 200, above),
+        ("mask_at_least", 200, at_least),
+        ("near_mask", 200, near),
+        ("near_mask", 300, near),
     ];
-    for (name, t, ours, comparison, arrays) in routines {
+    for (name, t, (ours, theirs, arrays)) in routines {
         table.row(
             &format!("{name} {t}"),
             file.len() + 8 * words,
             &[file],
             || ours(file, t, black_box(&mut out)),
-            || reference::threshold(file, comparison, t, black_box(&mut their_out)),
+            || theirs(file, t, black_box(&mut their_out)),
             Flat::Words(&mut |out| arrays(list, t, out)),
         );
     }

@@ -70,12 +70,13 @@ pub fn signed_difference(a: &[u32], b: &[u32], out: &mut [i64]) {
     }
 }
 
+/// Zero distances stay; others become no less than 1.
 pub fn shift(list: &[u32], by: i32, out: &mut [u32]) {
     let size = by.unsigned_abs();
     if by < 0 {
-        each(list, out, |x| x.saturating_sub(size));
+        each(list, out, |x| x.saturating_sub(size).max(x.min(1)));
     } else {
-        each(list, out, |x| x.wrapping_add(size));
+        each(list, out, |x| if x == 0 { 0 } else { x.wrapping_add(size) });
     }
 }
 
@@ -94,6 +95,11 @@ pub fn mask(list: &[u32], out: &mut [u64], test: impl Fn(u32) -> bool) {
         let bits = rest.iter().rev();
         *last = bits.fold(0, |word, &x| word << 1 | u64::from(test(x)));
     }
+}
+
+/// The mask of the distances from 1 to `t`: 0 less 1 is above any other.
+pub fn near_mask(list: &[u32], t: u32, out: &mut [u64]) {
+    mask(list, out, |x| x.wrapping_sub(1) < t);
 }
 
 pub fn mask_and(a: &[u64], b: &[u64], out: &mut [u64]) {
@@ -357,7 +363,7 @@ mod tests {
                     distances(n, |out| file(&a.file, &b.file, out))
                 );
             }
-            for by in [-300, -50, 0, 10, 255] {
+            for by in [i32::MIN, -300, -50, -1, 0, 10, 255, 300] {
                 assert_eq!(
                     filled(n, |out| shift(&a.list, by, out)),
                     distances(n, |out| pciv::shift(&a.file, by, out))
@@ -376,23 +382,29 @@ mod tests {
     fn masks_of_a_map_are_as_in_the_library() {
         type File = fn(&[u8], u32, &mut [u64]) -> Result<usize, pciv::Refusal>;
         type Test = fn(&u32, &u32) -> bool;
-        let routines: [(File, Test); 5] = [
+        let routines: [(File, Test); 4] = [
             (pciv::mask_below, u32::lt),
             (pciv::mask_at_most, u32::le),
             (pciv::mask_above, u32::gt),
             (pciv::mask_at_least, u32::ge),
-            (pciv::near_mask, u32::le),
         ];
         each_pair(|a, _| {
-            for (file, test) in routines {
-                for t in [0, 1, 200, 254, 255, 300] {
+            let words = |file: File, t| {
+                filled(a.mask.len(), |out| {
+                    file(&a.file, t, out).expect("a sound file");
+                })
+            };
+            for t in [0, 1, 200, 254, 255, 300, u32::MAX] {
+                for (file, test) in routines {
                     assert_eq!(
                         filled(a.mask.len(), |out| mask(&a.list, out, |x| test(&x, &t))),
-                        filled(a.mask.len(), |out| {
-                            file(&a.file, t, out).expect("a sound file");
-                        })
+                        words(file, t)
                     );
                 }
+                assert_eq!(
+                    filled(a.mask.len(), |out| near_mask(&a.list, t, out)),
+                    words(pciv::near_mask, t)
+                );
             }
         });
     }

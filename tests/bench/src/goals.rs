@@ -128,7 +128,12 @@ enum Of {
     Memcpy,
     /// The library's time by that of SSE2 instructions written by hand; at most the goal.
     Sse2,
+    /// The library's time by its time of [`AT_MOST`] on the same maps; at most the goal.
+    AtMost,
 }
+
+/// The mask that near masks are measured by.
+const AT_MOST: &str = "mask_at_most 200";
 
 impl Of {
     fn named(self) -> &'static str {
@@ -137,6 +142,7 @@ impl Of {
             Of::Flat => "best flat / library",
             Of::Memcpy => "library / memcpy",
             Of::Sse2 => "library / SSE2 by hand",
+            Of::AtMost => "library / library's mask_at_most 200",
         }
     }
 
@@ -193,7 +199,7 @@ const fn noted(note: &'static str, maps: Maps, goal: Goal) -> Goal {
 
 const WITH_CHECKS: &str = ", checks included";
 
-const GOALS: [Goal; 66] = [
+const GOALS: [Goal; 68] = [
     goal("check", Checks::Kept, Of::Independent, 12.0),
     goal("check", Checks::Kept, Of::Memcpy, 1.1),
     noted(
@@ -208,6 +214,16 @@ const GOALS: [Goal; 66] = [
     goal("mask_below 200", Checks::Off, Of::Independent, 60.0),
     goal("mask_below 200", Checks::Off, Of::Flat, 2.5),
     goal("mask_below 300", Checks::Off, Of::Independent, 80.0),
+    noted(
+        WITH_CHECKS,
+        USUAL,
+        goal("near_mask 200", Checks::Kept, Of::AtMost, 1.1),
+    ),
+    noted(
+        WITH_CHECKS,
+        USUAL,
+        goal("near_mask 300", Checks::Kept, Of::AtMost, 1.15),
+    ),
     goal("minimum", Checks::Off, Of::Independent, 9.0),
     goal("minimum", Checks::Off, Of::Flat, 2.5),
     goal("minimum", Checks::Off, Of::Memcpy, 1.5),
@@ -325,20 +341,24 @@ impl Goal {
     fn ratio(&self, tables: &[&Table]) -> Option<Ratio> {
         let table = tables.iter().find(|table| is_of(table, self.maps))?;
         let row = table.find(self.call)?;
-        let time = |who| row.time(who).map(Measured::from);
-        let without = |who, checks| match self.checks {
-            Checks::Kept => time(who),
-            Checks::Off => Some(time(who)?.minus(time(checks)?)),
+        let time = |row: &Row, who| row.time(who).map(Measured::from);
+        let without = |row: &Row, who, checks| match self.checks {
+            Checks::Kept => time(row, who),
+            Checks::Off => Some(time(row, who)?.minus(time(row, checks)?)),
         };
-        let library = without(Who::Library, Who::Checks)?;
+        let library = without(row, Who::Library, Who::Checks)?;
         Some(match self.of {
             Of::Independent => {
-                let independent = without(Who::Independent, Who::IndependentChecks)?;
+                let independent = without(row, Who::Independent, Who::IndependentChecks)?;
                 Ratio::new(independent, library)
             }
             Of::Flat => Ratio::new(best_flat(row)?.1, library),
-            Of::Memcpy => Ratio::new(library, time(Who::Memcpy)?),
-            Of::Sse2 => Ratio::new(library, time(Who::Sse2)?),
+            Of::Memcpy => Ratio::new(library, time(row, Who::Memcpy)?),
+            Of::Sse2 => Ratio::new(library, time(row, Who::Sse2)?),
+            Of::AtMost => {
+                let at_most = without(table.find(AT_MOST)?, Who::Library, Who::Checks)?;
+                Ratio::new(library, at_most)
+            }
         })
     }
 }
@@ -382,6 +402,7 @@ impl Standing {
         let goal = self.goal.goal;
         let name = match self.goal.of {
             Of::Sse2 => "of SSE2 ",
+            Of::AtMost => "of mask_at_most 200 ",
             _ => "",
         };
         match (self.ratio, self.verdict) {
@@ -447,7 +468,7 @@ pub fn section(standings: &[Standing], own: &[Table], before: &Recorded) -> Stri
             times.map_or(String::from(" | | "), |times| times.cells()),
             cell(|of| of == Of::Independent),
             cell(|of| of == Of::Flat),
-            cell(|of| matches!(of, Of::Memcpy | Of::Sse2)),
+            cell(|of| matches!(of, Of::Memcpy | Of::Sse2 | Of::AtMost)),
         );
     }
     text
@@ -518,6 +539,24 @@ mod tests {
         assert!(line.contains("\t4.500\t4.500\t4.500\tmet"), "{line}");
         let line = found(20.0, 0.0, "minimum", "\toff\tlibrary / memcpy");
         assert!(line.contains("\t1.333\t"), "{line}");
+    }
+
+    #[test]
+    fn near_masks_are_measured_by_the_mask_for_at_most() {
+        let row = |call, library| samples::row(call, library, 100.0, 100.0);
+        let tables = |near| samples::of_rows([row(AT_MOST, 50.0), row("near_mask 200", near)]);
+        let told = |near| tsv(&standings(&[&tables(near)]));
+        let goal = "included\tlibrary / library's mask_at_most 200\t<=\t1.1\t";
+        let met = told(55.0);
+        assert!(
+            met.contains(&format!("{goal}1.100\t1.100\t1.100\tmet")),
+            "{met}"
+        );
+        let short = told(60.0);
+        assert!(
+            short.contains(&format!("{goal}1.200\t1.200\t1.200\tshort")),
+            "{short}"
+        );
     }
 
     #[test]

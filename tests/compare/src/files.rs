@@ -12,6 +12,7 @@ use compare::rng::{case_seed, Rng};
 pub fn run_all(run: &mut Run) {
     worked_examples(run);
     small_lists(run);
+    zeros_and_ones(run);
     overflow_counts(run);
     largest_maps(run);
     report_limit(run);
@@ -74,6 +75,15 @@ fn small_lists(run: &mut Run) {
         run.case("small list", number, |rng| {
             let n = lists::size(rng);
             Case::of_list("list of".into(), lists::mixed(rng, n))
+        });
+    }
+}
+
+fn zeros_and_ones(run: &mut Run) {
+    for number in 0..400 {
+        run.case("zeros and ones", number, |rng| {
+            let n = lists::size(rng);
+            Case::of_list("list of".into(), lists::zeros_and_ones(rng, n))
         });
     }
 }

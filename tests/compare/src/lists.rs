@@ -160,16 +160,55 @@ pub fn about_shift(rng: &mut Rng, n: usize, by: i32) -> Vec<u32> {
         .collect()
 }
 
-/// Distances of which exactly `k`, shifted, are in overflow, and `others` that are not, if there can
-/// be such.
+/// Zero distances, which a shift keeps, among distances which, shifted, are at 0, 1, the border of
+/// overflow or the largest distance; some lists have one above that.
+pub fn zeros_beside_shifted(rng: &mut Rng, n: usize, by: i32) -> Vec<u32> {
+    let largest = i64::from(u32::MAX);
+    let above = rng.below(3) == 0;
+    let shifted = [0, 1, 254, 255, 256, largest, largest + 1];
+    let mut distances: Vec<u32> = shifted
+        .into_iter()
+        .filter(|&result| above || result <= largest)
+        .filter_map(|result| u32::try_from(result - i64::from(by)).ok())
+        .collect();
+    distances.push(1);
+    (0..n)
+        .map(|_| match rng.below(2) {
+            0 => 0,
+            _ => rng.pick(&distances),
+        })
+        .collect()
+}
+
+/// Distances of which exactly `k`, shifted, are in overflow, and `others` that are not: about half of
+/// these are zero distances, or all where no others can be.
 pub fn shifted_to(rng: &mut Rng, by: i32, k: usize, others: usize, spread: Spread) -> Vec<u32> {
     /// The results differ from the border of overflow by less than this.
     const REACH: usize = 600;
     let border = 255 - i64::from(by);
-    let others = if border > 0 { others } else { 0 };
-    let overflow = |rng: &mut Rng| (border.max(0) as usize + rng.below(REACH)) as u32;
-    let inline = |rng: &mut Rng| (border - 1 - rng.below(REACH) as i64).max(0) as u32;
+    let overflow = |rng: &mut Rng| (border.max(1) as usize + rng.below(REACH)) as u32;
+    let inline = |rng: &mut Rng| match rng.below(2) {
+        0 => 0,
+        _ => (border - 1 - rng.below(REACH) as i64).max(0) as u32,
+    };
     placed(rng, k + others, k, spread, overflow, inline)
+}
+
+/// A list of `n` distances of 0 and 1: both, or one of them but for a slot, or at every slot.
+pub fn zeros_and_ones(rng: &mut Rng, n: usize) -> Vec<u32> {
+    zeros_and(rng, n, |_| 1)
+}
+
+/// A list of `n` zero distances and others, made by `other`: of each kind some, one, or none.
+pub fn zeros_and(rng: &mut Rng, n: usize, other: impl Fn(&mut Rng) -> u32) -> Vec<u32> {
+    let k = match rng.below(6) {
+        0 => 0,
+        1 => n,
+        2 => n.min(1),
+        3 => n.saturating_sub(1),
+        _ => rng.below(n + 1),
+    };
+    placed(rng, n, k, Spread::Scattered, other, |_| 0)
 }
 
 fn corner(rng: &mut Rng) -> u32 {
@@ -192,5 +231,24 @@ fn mostly_inline(rng: &mut Rng) -> u32 {
     match rng.below(50) {
         0 => overflow(rng),
         _ => inline(rng),
+    }
+}
+
+#[cfg(test)]
+mod tests {
+    use super::*;
+
+    #[test]
+    fn zero_distances_do_not_count_among_the_shifted_in_overflow() {
+        for by in [i32::MIN, -300, -1, 0, 1, 254, 255, 300, i32::MAX] {
+            for spread in SPREADS {
+                let list = shifted_to(&mut Rng::new(7), by, 2_048, 100, spread);
+                let results = list.iter().filter(|&&x| x > 0);
+                let results = results.map(|&x| i64::from(x) + i64::from(by));
+                assert_eq!(results.filter(|&result| result >= 255).count(), 2_048);
+                assert!(list.contains(&0));
+                assert_eq!(list.len(), 2_148);
+            }
+        }
     }
 }

@@ -17,6 +17,7 @@ pub const THRESHOLDS: [u32; 8] = [0, 1, 200, 254, 255, 256, 300, u32::MAX];
 /// All groups of such cases.
 pub fn run_all(run: &mut Run) {
     thresholds(run);
+    zero_distances(run);
     sound_masks(run);
     bits_past_n(run);
     wrong_lengths(run);
@@ -244,6 +245,29 @@ fn thresholds(run: &mut Run) {
                 let file = encode(&list);
                 Selected { file, t }
             });
+        }
+    }
+}
+
+/// Zero distances beside others at and next to a threshold, and beside ones, on sizes next to a
+/// word's and to two words'.
+fn zero_distances(run: &mut Run) {
+    const SIZES: [usize; 6] = [63, 64, 65, 127, 128, 129];
+    let mut number = 0;
+    for n in SIZES {
+        for t in THRESHOLDS {
+            for _ in 0..12 {
+                run.case("masks of zero distances", number, |rng| {
+                    let beside = [1, t.saturating_sub(1), t, t.saturating_add(1)];
+                    let file = encode(&lists::zeros_and(rng, n, |rng| rng.pick(&beside)));
+                    Selected { file, t }
+                });
+                run.case("masks of zeros and ones", number, |rng| {
+                    let file = encode(&lists::zeros_and_ones(rng, n));
+                    Selected { file, t }
+                });
+                number += 1;
+            }
         }
     }
 }

@@ -29,6 +29,7 @@ pub const SHIFTS: [i32; 15] = [
 /// All groups of such cases.
 pub fn run_all(run: &mut Run) {
     border_distances(run);
+    zero_distances(run);
     overflow_counts(run);
 }
 
@@ -61,7 +62,28 @@ fn border_distances(run: &mut Run) {
     }
 }
 
-/// Results with as many overflow entries as change the step, from fewer and from more.
+/// Zero distances among distances whose shift is at a rule's border, and among ones.
+fn zero_distances(run: &mut Run) {
+    for (number, by) in SHIFTS.into_iter().enumerate() {
+        for inner in 0..100 {
+            run.case("shift of zero distances", 100 * number + inner, |rng| {
+                let n = lists::size(rng);
+                let file = encode(&lists::zeros_beside_shifted(rng, n, by));
+                Shifted { file, by }
+            });
+        }
+        for inner in 0..20 {
+            run.case("shift of zeros and ones", 20 * number + inner, |rng| {
+                let n = lists::size(rng);
+                let file = encode(&lists::zeros_and_ones(rng, n));
+                Shifted { file, by }
+            });
+        }
+    }
+}
+
+/// Results with as many overflow entries as change the step, from fewer and from more, with zero
+/// distances, which have none.
 fn overflow_counts(run: &mut Run) {
     let mut number = 0;
     for by in SHIFTS {

@@ -80,6 +80,30 @@ const B_LESS_A: &str = "
     00 00 00 00 00 00 00 00   01 00 00 FF
     03 00 00 00 00 00 00 00   D3 FE FF FF";
 
+/// 0, 1, 1, 1.
+const A_BY_LESS_300: &str = "
+    50 43 49 56 00 00 00 00   04 00 00 00 00 00 00 00
+    00 00 00 00 00 00 00 00   00 00 00 00 00 00 00 00
+    00 00 00 00 00 00 00 00   00 01 01 01";
+
+/// 0, 255, 256, 301.
+const A_BY_1: &str = "
+    50 43 49 56 00 00 00 00   04 00 00 00 00 00 00 00
+    03 00 00 00 00 00 00 00   00 00 00 00 00 00 00 00
+    00 00 00 00 00 00 00 00   00 FF FF FF
+    01 00 00 00 00 00 00 00   FF 00 00 00
+    02 00 00 00 00 00 00 00   00 01 00 00
+    03 00 00 00 00 00 00 00   2D 01 00 00";
+
+/// 0, 554, 555, 600.
+const A_BY_300: &str = "
+    50 43 49 56 00 00 00 00   04 00 00 00 00 00 00 00
+    03 00 00 00 00 00 00 00   00 00 00 00 00 00 00 00
+    00 00 00 00 00 00 00 00   00 FF FF FF
+    01 00 00 00 00 00 00 00   2A 02 00 00
+    02 00 00 00 00 00 00 00   2B 02 00 00
+    03 00 00 00 00 00 00 00   58 02 00 00";
+
 /// 0, 254, 254, 300, then the twelve zeros that the edit leaves.
 const A_SLOT_2_AT_254: &str = "
     50 43 49 56 00 00 00 00   04 00 00 00 00 00 00 00
@@ -115,7 +139,7 @@ const fn row(case: &'static str, calls: fn(&mut Judge)) -> Row {
     Row { case, calls }
 }
 
-const ROWS: [Row; 17] = [
+const ROWS: [Row; 21] = [
     row("empty map", empty_map),
     row("primary array of A", primary_of_a),
     row("overflow entries of A", entries_of_a),
@@ -201,6 +225,20 @@ const ROWS: [Row; 17] = [
     }),
     row("report on no bytes at all", |judge| {
         reports(judge, &[], b"refused 1 map 1 place 0\n")
+    }),
+    row("shift of A by -300", |judge| {
+        shifts_a(judge, -300, of_four(0, 44), A_BY_LESS_300)
+    }),
+    row("shift of A by 1", |judge| {
+        shifts_a(judge, 1, of_four(3, 80), A_BY_1)
+    }),
+    row("shift of A by 300", |judge| {
+        shifts_a(judge, 300, of_four(3, 80), A_BY_300)
+    }),
+    row("near mask of A at 0 / 254 / 255", |judge| {
+        for (t, mask) in [(0, 0), (254, 2), (255, 6)] {
+            selects(judge, "near_mask", raw::near_mask, (&bytes(A), t), &[mask])
+        }
     }),
 ];
 
@@ -374,6 +412,13 @@ fn combines(
     let (a, b) = (bytes(a), bytes(b));
     writes(judge, routine, summary, file, |out, summary, refusal| {
         library(&a, &b, out, summary, refusal)
+    });
+}
+
+fn shifts_a(judge: &mut Judge, by: i32, summary: Summary, file: &str) {
+    let a = bytes(A);
+    writes(judge, "shift", summary, file, |out, summary, refusal| {
+        raw::shift(&a, by, out, summary, refusal)
     });
 }
 

@@ -23,6 +23,15 @@ const MINIMUM: Kernel = Kernel::new("smaller bytes", "pminub load16 store16 !byt
 const MAXIMUM: Kernel = Kernel::new("larger bytes", "pmaxub load16 store16 !byte");
 const ADD: Kernel = Kernel::new("bytes added", "paddusb load16 store16 !byte");
 const SUBTRACT: Kernel = Kernel::new("bytes subtracted", "psubusb load16 store16 !byte");
+// A shift keeps bytes of 0, and lowers the others to 1 at the least.
+const RAISE: Kernel = Kernel::new(
+    "bytes raised but for 0",
+    "paddusb pcmpeqb pand|pandn load16 store16 !byte",
+);
+const LOWER: Kernel = Kernel::new(
+    "bytes lowered but for 0",
+    "psubusb pminub|pcmpeqb pmaxub load16 store16 !byte",
+);
 // Also for the maximum: slots in overflow in both maps, which the entries of both count twice.
 const COUNT_MINIMUM: Kernel = Kernel::blocks(
     "count of smaller bytes in overflow",
@@ -43,6 +52,8 @@ const WIDEN_DIFFERENCES: Kernel = Kernel::new(
     "punpckldq|punpckhdq|punpcklwd|punpckhwd|pshufd psubq|paddq store16",
 );
 
+// The test of the near mask, which takes 1 off each byte first, is in the same loop beside the other
+// one, behind a branch.
 const FLAGS: Kernel = Kernel::new(
     "bytes to mask words",
     "pcmpeqb|pcmpgtb|pminub|pmaxub por|pmovmskb load16 !byte",
@@ -93,7 +104,7 @@ pub const ROUTINES: &[Routine] = &[
     ("pciv_maximum", &[COUNT, COUNT_MINIMUM, MAXIMUM]),
     ("pciv_sum_maps", &[COUNT, COUNT_SUMS, ADD, SLOTS]),
     ("pciv_difference", &[COUNT, SUBTRACT]),
-    ("pciv_shift", &[COUNT, ADD, SUBTRACT, SLOTS]),
+    ("pciv_shift", &[COUNT, RAISE, LOWER, SLOTS]),
     (
         "pciv_signed_difference",
         &[COUNT, DIFFERENCES, WIDEN_DIFFERENCES],

@@ -25,15 +25,20 @@ pub fn difference(a: &[u8], b: &[u8], out: &mut [u8]) -> Result<Summary, Refusal
     combine(a, b, out, |x, y| Some(x.saturating_sub(y)))
 }
 
-/// Each distance plus `by`, 0 where that would be negative, as a file to the front of `out`.
-/// Refusals 1 to 8, then 11, 12. Answers the summary of the result.
+/// Each non-zero distance plus `by`, or 1 where that would be 0 or negative, as a file to the front of
+/// `out`; a zero distance stays 0. Refusals 1 to 8, then 11, 12. Answers the summary of the result.
 pub fn shift(file: &[u8], by: i32, out: &mut [u8]) -> Result<Summary, Refusal> {
     let map = Map::open(file)?;
-    let shifted = |distance| {
-        let sum = i64::from(distance) + i64::from(by);
-        u32::try_from(sum.max(0)).ok()
-    };
-    write_distances(map.distances().map(shifted), out)
+    write_distances(map.distances().map(|distance| shifted(distance, by)), out)
+}
+
+/// A distance plus `by` by the rule of [`shift`]; `None` above 4,294,967,295.
+fn shifted(distance: u32, by: i32) -> Option<u32> {
+    if distance == 0 {
+        return Some(0);
+    }
+    let sum = i64::from(distance) + i64::from(by);
+    u32::try_from(sum.max(1)).ok()
 }
 
 /// The second file's distance less the first's at each slot, to the front of `out`. Refusals 1 to 8

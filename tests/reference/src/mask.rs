@@ -46,9 +46,10 @@ pub fn threshold(
     select(file, |distance| comparison.holds(distance, threshold), out)
 }
 
-/// The mask of the slots at most at `threshold`, as [`threshold`](fn@threshold).
+/// The mask of the slots whose distance is from 1 to `threshold`, as [`threshold`](fn@threshold).
 pub fn near_mask(file: &[u8], threshold: u32, out: &mut [u64]) -> Result<u64, Refusal> {
-    select(file, |distance| distance <= threshold, out)
+    let near = 1..=threshold;
+    select(file, |distance| near.contains(&distance), out)
 }
 
 fn select(file: &[u8], test: impl Fn(u32) -> bool, out: &mut [u64]) -> Result<u64, Refusal> {
@@ -190,6 +191,30 @@ mod tests {
         let mask = [0b1011, 1 << 63];
         let set: Vec<usize> = (0..128).filter(|&slot| is_set(&mask, slot)).collect();
         assert_eq!(set, [0, 1, 3, 127]);
+    }
+
+    #[test]
+    fn zero_distances_are_in_the_mask_for_at_most_and_not_near() {
+        let file = crate::encode(&[0, 1, 254, 255, 256, u32::MAX]).unwrap();
+        let word = |call: &dyn Fn(&mut [u64]) -> Result<u64, Refusal>| {
+            let mut out = [7];
+            assert_eq!(call(&mut out), Ok(1));
+            out[0]
+        };
+        let cases = [
+            (0, 0b000000),
+            (1, 0b000010),
+            (253, 0b000010),
+            (254, 0b000110),
+            (255, 0b001110),
+            (256, 0b011110),
+            (u32::MAX, 0b111110),
+        ];
+        for (t, near) in cases {
+            assert_eq!(word(&|out| near_mask(&file, t, out)), near);
+            let at_most = word(&|out| threshold(&file, Comparison::AtMost, t, out));
+            assert_eq!(at_most, near | 1);
+        }
     }
 
     #[test]

@@ -116,14 +116,41 @@ fn sums_agree_with_plain_arithmetic() {
 fn shifts_agree_with_plain_arithmetic() {
     let shifts = [0, 1, 127, 254, 255, 300, i32::MAX];
     for by in shifts.into_iter().flat_map(|by| [by, -by, -by - 1]) {
-        let shifted = CORNERS.map(|distance| i64::from(distance) + i64::from(by));
+        let shifted = CORNERS.map(|distance| match distance {
+            0 => 0,
+            _ => (i64::from(distance) + i64::from(by)).max(1),
+        });
         let expected = match shifted.iter().position(|&sum| sum > u32::MAX.into()) {
             Some(slot) => Err(refused(11, 0, slot as u64)),
-            None => Ok(shifted.map(|sum| sum.max(0) as u32).to_vec()),
+            None => Ok(shifted.map(|sum| sum as u32).to_vec()),
         };
         let file = encode(&CORNERS).unwrap();
         assert_eq!(list_of(|out| shift(&file, by, out)), expected);
     }
+}
+
+#[test]
+fn shifts_keep_zero_distances() {
+    let a = encode(&A).unwrap();
+    let shifted = |by| list_of(|out| shift(&a, by, out));
+    assert_eq!(shifted(-300), Ok(vec![0, 1, 1, 1]));
+    assert_eq!(shifted(0), Ok(A.to_vec()));
+    assert_eq!(shifted(1), Ok(vec![0, 255, 256, 301]));
+    assert_eq!(shifted(300), Ok(vec![0, 554, 555, 600]));
+    let zeros = encode(&[0; 5]).unwrap();
+    for by in [i32::MIN, -1, 0, 300, i32::MAX] {
+        assert_eq!(
+            shift(&zeros, by, &mut [7; 45]).map(|result| result.k),
+            Ok(0)
+        );
+        assert_eq!(list_of(|out| shift(&zeros, by, out)), Ok(vec![0; 5]));
+    }
+    for (distance, by) in [(1, -1), (5, -5), (5, i32::MIN)] {
+        let file = encode(&[distance, 0]).unwrap();
+        assert_eq!(list_of(|out| shift(&file, by, out)), Ok(vec![1, 0]));
+    }
+    let above = encode(&[0, 0, u32::MAX, u32::MAX]).unwrap();
+    assert_eq!(shift(&above, 1, &mut []), Err(refused(11, 0, 2)));
 }
 
 #[test]

@@ -1,14 +1,15 @@
 -- Proves pciv_arith_lower::count_lowered. Invariant: count is that of the slots below the least that entry j may
 -- have. Falls: k - j.
 use mathlib.Core.Path.{_≡_, sym, ap, _∙_}
-use Prim.Native.Nat.{ℕ, _+_, _-_, _≤_}
+use Prim.Native.Nat.{_+_, _-_, _≤_}
 use native.Mathlib.Omega.{arith}
 use Rattle.pciv_format.specs.Parts.{Parts, lowestSlot}
 use Rattle.pciv_format.specs.Check.{fileParts}
 use Rattle.pciv_build.proofs.EntriesLaws.{Counted, counted-start}
 use Rattle.pciv_build.proofs.AlongLaws.{Along, counted-entry, counted-pass, counted-last}
+use Rattle.pciv_format.proofs.PartsLaws.{entry-good}
 use Rattle.pciv_format.proofs.MapLaws.{entry-inside}
-use Rattle.pciv_arith_lower.specs.Lowered.{loweredAt}
+use Rattle.pciv_arith_lower.specs.Lowered.{lowered, loweredAt}
 use Rattle.pciv_arith_lower.proofs.LoweredLaws.{lowered-along, lowered-slot}
 use borrow.Author.Needs.{needs}
 use Rattle.pciv_arith_lower.proofs.count_lowered.Statement.{statement}
@@ -35,15 +36,15 @@ along l =
     lowered-along (parts s) (s .pre .parts) (λ i. l .before .shared-slice-known .given (40 + i) .fits) (s .args .m)
 
 -- its distance at entry j
-distance : (c : tie.After-truncated-difference Inv-loop μ-loop)
+distance : (c : tie.After-lower Inv-loop μ-loop)
     → (let l = c .before .before .before in
     let s = start l in
-    c .truncated-difference .result ≡ loweredAt (parts s) (s .args .m) (parts s .slot (l .loop .j)))
+    c .lower .result ≡ loweredAt (parts s) (s .args .m) (parts s .slot (l .loop .j)))
 distance c =
     let d = c .before .before in
     let s = start (d .before) in
-    c .truncated-difference .ensures
-    ∙ ap (λ (x : ℕ). x - s .args .m) (c .before .entry-distance .ensures)
+    c .lower .ensures
+    ∙ ap (lowered (s .args .m)) (c .before .entry-distance .ensures)
     ∙ sym (lowered-slot (parts s) (s .pre .parts) (s .args .m) (d .before .loop .j) (d .loop-test .taken))
 
 loop-holds : tie.Need-loop-holds Inv-loop μ-loop
@@ -55,8 +56,15 @@ entry-distance-requires c κs =
     let s = c .before .before .before in
     entry-inside (s .args .file .now) (s .args .n) (s .args .k) (s .pre) (c .before .loop .j) (omega arith)
 
-truncated-difference-requires : tie.Need-truncated-difference-requires Inv-loop μ-loop
-truncated-difference-requires c κs = search needs
+lower-requires : tie.Need-lower-requires Inv-loop μ-loop
+lower-requires c κs =
+    let d = c .before in
+    let s = start (d .before) in
+    omega (
+      arith,
+      c .entry-distance .ensures,
+      entry-good (parts s) (s .pre .parts) (d .before .loop .j) (d .loop-test .taken) .overflows,
+    )
 
 add-j : tie.Need-add-j Inv-loop μ-loop
 add-j c = search needs
@@ -105,7 +113,7 @@ count-lowered-spec =
     μ-loop
     loop-holds
     entry-distance-requires
-    truncated-difference-requires
+    lower-requires
     add-j
     add-count
     loop-less

@@ -1,14 +1,15 @@
 -- Proves pciv_arith_lower::put_entries. Invariant: the entries of slots from the least that entry j may have on
 -- are left. Falls: k - j.
 use mathlib.Core.Path.{_≡_, sym, ap, _∙_}
-use Prim.Native.Nat.{ℕ, _+_, _-_, _≤_}
+use Prim.Native.Nat.{_+_, _-_, _≤_}
 use native.Mathlib.Omega.{arith}
 use Rattle.pciv_format.specs.Parts.{Parts, lowestSlot}
 use Rattle.pciv_format.specs.Check.{fileParts}
 use Rattle.pciv_build.proofs.EntriesLaws.{EntriesLeft, entries-start}
 use Rattle.pciv_build.proofs.AlongLaws.{Along, entries-fit, entries-entry, entries-pass, entries-last}
+use Rattle.pciv_format.proofs.PartsLaws.{entry-good}
 use Rattle.pciv_format.proofs.MapLaws.{entry-inside}
-use Rattle.pciv_arith_lower.specs.Lowered.{loweredAt}
+use Rattle.pciv_arith_lower.specs.Lowered.{lowered, loweredAt}
 use Rattle.pciv_arith_lower.proofs.LoweredLaws.{lowered-along, lowered-slot}
 use borrow.Author.Needs.{needs}
 use Rattle.pciv_arith_lower.proofs.put_entries.Statement.{statement}
@@ -35,15 +36,15 @@ along l =
     lowered-along (parts s) (s .pre .0 .parts) (λ i. l .before .shared-slice-known .given (40 + i) .fits) (s .args .m)
 
 -- its distance at entry j
-distance : (c : tie.After-truncated-difference Inv-loop μ-loop)
+distance : (c : tie.After-lower Inv-loop μ-loop)
     → (let l = c .before .before .before .before in
     let s = start l in
-    c .truncated-difference .result ≡ loweredAt (parts s) (s .args .m) (parts s .slot (l .loop .j)))
+    c .lower .result ≡ loweredAt (parts s) (s .args .m) (parts s .slot (l .loop .j)))
 distance c =
     let d = c .before .before .before in
     let s = start (d .before) in
-    c .truncated-difference .ensures
-    ∙ ap (λ (x : ℕ). x - s .args .m) (c .before .entry-distance .ensures)
+    c .lower .ensures
+    ∙ ap (lowered (s .args .m)) (c .before .entry-distance .ensures)
     ∙ sym (lowered-slot (parts s) (s .pre .0 .parts) (s .args .m) (d .before .loop .j) (d .loop-test .taken))
 
 add-at : tie.Need-add-at Inv-loop μ-loop
@@ -65,8 +66,15 @@ entry-slot-requires c κs =
 entry-distance-requires : tie.Need-entry-distance-requires Inv-loop μ-loop
 entry-distance-requires c κs = entry-slot-requires (c .before) κs
 
-truncated-difference-requires : tie.Need-truncated-difference-requires Inv-loop μ-loop
-truncated-difference-requires c κs = search needs
+lower-requires : tie.Need-lower-requires Inv-loop μ-loop
+lower-requires c κs =
+    let d = c .before .before in
+    let s = start (d .before) in
+    omega (
+      arith,
+      c .entry-distance .ensures,
+      entry-good (parts s) (s .pre .0 .parts) (d .before .loop .j) (d .loop-test .taken) .overflows,
+    )
 
 add-j : tie.Need-add-j Inv-loop μ-loop
 add-j c = search needs
@@ -125,7 +133,7 @@ put-entries-spec =
     loop-holds
     entry-slot-requires
     entry-distance-requires
-    truncated-difference-requires
+    lower-requires
     add-j
     put-entry-requires
     loop-less

@@ -96,8 +96,8 @@ entry-slot-requires c κs =
 entry-distance-requires : tie.Need-entry-distance-requires Inv-loop μ-loop
 entry-distance-requires c κs = entry-slot-requires (c .before) κs
 
-truncated-difference-requires : tie.Need-truncated-difference-requires Inv-loop μ-loop
-truncated-difference-requires c κs = search needs
+lower-requires : tie.Need-lower-requires Inv-loop μ-loop
+lower-requires c κs = omega (arith, c .entry-distance .ensures, good (c .before .before) .overflows)
 
 primary-byte-requires-2 : tie.Need-primary-byte-requires-2 Inv-loop μ-loop
 primary-byte-requires-2 c κs = search needs
@@ -149,7 +149,7 @@ loop-again c =
         l .inv .2,
         e .entry-slot .ensures,
         c .primary-byte2 .ensures,
-        c .before .truncated-difference .ensures,
+        c .before .lower .ensures,
         c .before .before .entry-distance .ensures,
       ) more,
     )
@@ -185,7 +185,7 @@ put-primary-spec =
     loop-holds
     entry-slot-requires
     entry-distance-requires
-    truncated-difference-requires
+    lower-requires
     primary-byte-requires-2
     add-out
     slice-write-out

@@ -8,7 +8,7 @@ use Rattle.pciv_format.specs.Check.{checkFile}
 use Rattle.pciv_format.specs.Mask.{maskLen}
 use Rattle.pciv_format.proofs.RefusalsLaws.{fileAnswer-done, fileAnswer-refused}
 use Rattle.pciv_format.proofs.ReadCaseLaws.{checked}
-use Rattle.pciv_bits.specs.Flags.{passes}
+use Rattle.pciv_mask_threshold.specs.Select.{askedOf}
 use Rattle.pciv_mask_threshold.proofs.SelectLaws.{select-refused, select-short, select-done}
 use Rattle.pciv_mask_threshold.proofs.SelectLaws.{words-refused, words-done}
 use borrow.Author.Needs.{needs}
@@ -48,11 +48,11 @@ returns c =
     omega (arith, c .before .if1 .taken, m .mask-len .ensures) in
     let e = select-short (a .file .now) _ (is-map k) (length (a .out .now)) few in (
       c .refuse-number .ensures ∙ ap numberAnswer (sym e),
-      sym (words-refused (passes (a .limit) (a .negated)) (a .file .now) (a .out .now) _ e),
+      sym (words-refused (askedOf (a .asked)) (a .file .now) (a .out .now) _ e),
     )
 
-select-into-requires : tie.Need-select-into-requires
-select-into-requires c κs =
+asked-into-requires : tie.Need-asked-into-requires
+asked-into-requires c κs =
     let m = c .before .before in
     let k = m .before .before in
     (checked _ _ (is-map k), omega (arith, c .before .if1 .left, m .mask-len .ensures))
@@ -62,7 +62,7 @@ returns-2 c =
     let k = c .before in
     let a = k .before .before .before .before .before .args in
     let e = select-refused (a .file .now) _ (is-refused k) (length (a .out .now)) in
-    (ap numberAnswer (sym e), sym (words-refused (passes (a .limit) (a .negated)) (a .file .now) (a .out .now) _ e))
+    (ap numberAnswer (sym e), sym (words-refused (askedOf (a .asked)) (a .file .now) (a .out .now) _ e))
 
 same-length : tie.Need-same-length
 same-length c = search needs
@@ -77,8 +77,8 @@ returns-3 c =
     omega (arith, x .before .before .if1 .left, m .mask-len .ensures) in
     let e = select-done (a .file .now) _ (is-map k) (length (a .out .now)) fits in (
       ap numberAnswer (ap done (m .mask-len .ensures) ∙ sym e),
-      x .select-into .ensures
-          ∙ words-done (a .file .now) _ (is-map k) (passes (a .limit) (a .negated)) (a .out .now) fits,
+      x .asked-into .ensures
+          ∙ words-done (a .file .now) _ (is-map k) (askedOf (a .asked)) (a .out .now) fits,
     )
 
 pub select-spec : {M : Type 1} → statement M
@@ -91,7 +91,7 @@ select-spec =
     mask-len-requires
     refuse-number-requires
     returns
-    select-into-requires
+    asked-into-requires
     returns-2
     same-length
     returns-3)

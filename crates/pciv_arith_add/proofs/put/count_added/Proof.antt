@@ -73,11 +73,8 @@ part-count-from-end c =
     let s = c .before .before .before .before .before in
     primary-inside (s .args .a .now) (s .args .n) (s .args .ka) (s .pre .first)
 
-primary-byte-requires : tie.Need-primary-byte-requires
-primary-byte-requires c κs = search needs
-
-sub-count-from-2 : tie.Need-sub-count-from-2
-sub-count-from-2 c = search needs
+first-full-requires : tie.Need-first-full-requires
+first-full-requires c κs = search needs
 
 count-from-requires : tie.Need-count-from-requires
 count-from-requires c κs = search needs
@@ -95,7 +92,7 @@ returns-2 c =
     let d = y .before .before .before in
     let k = d .before .before in
     rw (d .of .given .1)
-    ((rw (add-sub-cancel-left 40 (k .before .before .args .n), y .primary-byte .ensures) at (c .count-from .ensures))
+    ((rw (add-sub-cancel-left 40 (k .before .before .args .n), y .first-full .ensures) at (c .count-from .ensures))
     ∙ count-number (maps k) (d .of .given .0 .0))
 
 pub count-added-spec : {M : Type 1} → statement M
@@ -115,8 +112,7 @@ count-added-spec =
     sub-count-from
     part-count-from-start
     part-count-from-end
-    primary-byte-requires
-    sub-count-from-2
+    first-full-requires
     count-from-requires
     returns
     returns-2)

@@ -113,6 +113,7 @@ add-put-entry c =
     omega (
       arith,
       entry (known (d .before)) .pre .1 .0 _ (here .next .inside),
+      here .sum,
       x .take-at .ensures .is,
       y .take-addend .ensures .is,
     )

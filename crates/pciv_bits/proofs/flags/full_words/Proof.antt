@@ -3,7 +3,7 @@ use mathlib.Core.Path.{_≡_, _∙_}
 use Prim.Native.Nat.{ℕ, _+_}
 use mathlib.Core.Bool.{Bool}
 use Rattle.pciv_format.specs.Mask.{word}
-use Rattle.pciv_bits.specs.Flags.{isBelow}
+use Rattle.pciv_bits.specs.Flags.{isMet}
 use Rattle.pciv_bits.proofs.GatherLaws.{gathered-word}
 use Rattle.pciv_bits.proofs.WordLaws.{word-flip}
 use borrow.Author.Needs.{needs}
@@ -32,7 +32,7 @@ returns c =
     let t₁ = f₁ .before in
     let g = t₁ .before in
     let a = g .before .before .args in
-    let p : ℕ → Bool = isBelow (a .a .now) (a .limit) in
+    let p : ℕ → Bool = isMet (a .a .now) (a .test) in
     let e₁ : t₁ .transpose .result ≡ word p (a .i) 64 =
     gathered-word p (a .i) (g .gather .result .first) (t₁ .transpose .result)
     (g .gather .ensures .0) (search needs) (t₁ .transpose .ensures) in

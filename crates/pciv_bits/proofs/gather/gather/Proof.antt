@@ -5,18 +5,18 @@ use native.Mathlib.Omega.{arith}
 use mathlib.Core.Bool.{Bool}
 use mathlib.Core.List.{List}
 use lib.ListN.{length, set, length-set}
-use Rattle.pciv_bits.specs.Flags.{isBelow}
+use Rattle.pciv_bits.specs.Flags.{isMet}
 use Rattle.pciv_bits.proofs.GatherLaws.{Lanes, lanes-kept, lanes-more, lanes-gathered}
 use borrow.Author.Needs.{needs}
 use Rattle.pciv_bits.proofs.gather.gather.Statement.{statement}
 use Rattle.pciv_bits.proofs.gather.gather.Tie as tie
 
 abbrev Inv-loop : tie.InvT-loop
-Inv-loop a i limit lanes₀ j₀ lanes j =
-    (j ≤ 16) × (length lanes ≡ 32) × Lanes (isBelow a limit) i lanes 0 j × Lanes (isBelow a limit) (i + 64) lanes 16 j
+Inv-loop a i test lanes₀ j₀ lanes j =
+    (j ≤ 16) × (length lanes ≡ 32) × Lanes (isMet a test) i lanes 0 j × Lanes (isMet a test) (i + 64) lanes 16 j
 
 abbrev μ-loop : tie.MeasureT-loop
-μ-loop a i limit lanes₀ j₀ lanes j = 16 - j
+μ-loop a i test lanes₀ j₀ lanes j = 16 - j
 
 loop-holds : tie.Need-loop-holds Inv-loop μ-loop
 loop-holds c = (search needs, refl, λ k h. absurd (omega arith), λ k h. absurd (omega arith))
@@ -55,7 +55,7 @@ loop-again : tie.Need-loop-again Inv-loop μ-loop
 loop-again c =
     let d = c .before .before .before in
     let a = d .before .before .args in
-    let p : ℕ → Bool = isBelow (a .a .now) (a .limit) in
+    let p : ℕ → Bool = isMet (a .a .now) (a .test) in
     let f : List ℕ = d .loop .lanes in
     let j : ℕ = d .loop .j in
     let x = c .before .lane in
@@ -103,7 +103,7 @@ returns c =
     let g₁ = g₂ .before .before in
     let d = g₁ .before .before .before in
     let a = d .before .before .args in
-    let p : ℕ → Bool = isBelow (a .a .now) (a .limit) in
+    let p : ℕ → Bool = isMet (a .a .now) (a .test) in
     let f : List ℕ = d .loop .lanes in
     let all : d .loop .j ≡ 16 = omega arith in (
       rw (g₁ .get64 .ensures, g₂ .get642 .ensures)

@@ -1,4 +1,4 @@
--- Proves pciv_bits::flags::flags_into. Invariant of both loops: the words from w on are left to write. Fall: full - w,
+-- Proves pciv_bits::flags::words_into. Invariant of both loops: the words from w on are left to write. Fall: full - w,
 -- and how many are left.
 use mathlib.Core.Path.{_≡_, refl, _∙_}
 use Prim.Native.Nat.{ℕ, _+_, _-_, _*_, _/_, _≤_}
@@ -9,35 +9,35 @@ use lib.ListN.{length, length-set}
 use Rattle.pciv_format.specs.Mask.{maskLen}
 use Rattle.pciv_format.proofs.MaskLaws.{maskWord}
 use Rattle.pciv_bytes.proofs.WriteLaws.{Left, left-start, left-more}
-use Rattle.pciv_bits.specs.Flags.{passesAt}
+use Rattle.pciv_bits.specs.Flags.{flagAt}
 use Rattle.pciv_bits.proofs.WordLaws.{maskWord-is, left-two, left-mask}
 use borrow.Author.Needs.{needs}
-use Rattle.pciv_bits.proofs.flags.flags_into.Statement.{statement}
-use Rattle.pciv_bits.proofs.flags.flags_into.Tie as tie
+use Rattle.pciv_bits.proofs.flags.words_into.Statement.{statement}
+use Rattle.pciv_bits.proofs.flags.words_into.Tie as tie
 
 abbrev Inv-loop : tie.InvT-loop
-Inv-loop a limit negated out₀ n full w₀ out w =
+Inv-loop a test negated out₀ n full w₀ out w =
     (w ≤ full) × (n ≡ length a) × (full ≡ length a / 64)
-    × Left (maskWord (length a) (passesAt a limit negated)) (maskLen (length a)) out₀ out w
+    × Left (maskWord (length a) (flagAt a test negated)) (maskLen (length a)) out₀ out w
 
 abbrev μ-loop : tie.MeasureT-loop
-μ-loop a limit negated out₀ n full w₀ out w = full - w
+μ-loop a test negated out₀ n full w₀ out w = full - w
 
 abbrev Inv-loop2 : tie.InvT-loop2
-Inv-loop2 a limit negated out₀ n full w₀ out w =
+Inv-loop2 a test negated out₀ n full w₀ out w =
     (w ≤ maskLen (length a)) × (n ≡ length a) × (length out ≡ length out₀)
     × ((start : List ℕ)
-    → Left (maskWord (length a) (passesAt a limit negated)) (maskLen (length a)) start out₀ w₀
-    → Left (maskWord (length a) (passesAt a limit negated)) (maskLen (length a)) start out w)
+    → Left (maskWord (length a) (flagAt a test negated)) (maskLen (length a)) start out₀ w₀
+    → Left (maskWord (length a) (flagAt a test negated)) (maskLen (length a)) start out w)
 
 abbrev μ-loop2 : tie.MeasureT-loop2
-μ-loop2 a limit negated out₀ n full w₀ out w = maskLen (length a) - w
+μ-loop2 a test negated out₀ n full w₀ out w = maskLen (length a) - w
 
 loop-holds : tie.Need-loop-holds Inv-loop μ-loop Inv-loop2 μ-loop2
 loop-holds c =
     let a = c .before .before .args in
     let n : ℕ = length (a .a .now) in
-    let p : ℕ → Bool = passesAt (a .a .now) (a .limit) (a .negated) in
+    let p : ℕ → Bool = flagAt (a .a .now) (a .test) (a .negated) in
     (search needs, search needs, search needs, left-start (maskWord n p) (maskLen n) (a .out .now))
 
 sub-loop : tie.Need-sub-loop Inv-loop μ-loop Inv-loop2 μ-loop2
@@ -75,7 +75,7 @@ loop-again c =
     let d = c .before .before in
     let a = d .before .before .before .args in
     let n : ℕ = length (a .a .now) in
-    let p : ℕ → Bool = passesAt (a .a .now) (a .limit) (a .negated) in
+    let p : ℕ → Bool = flagAt (a .a .now) (a .test) (a .negated) in
     let w : ℕ = d .loop .w in
     let pair = c .full-words in
     let e = pair .ensures .0 ∙ maskWord-is n p w (64 * w) 64 refl (omega arith) in
@@ -124,7 +124,7 @@ loop2-again c =
     let d = c .before .before .before in
     let a = d .before .before .before .before .before .args in
     let n : ℕ = length (a .a .now) in
-    let p : ℕ → Bool = passesAt (a .a .now) (a .limit) (a .negated) in
+    let p : ℕ → Bool = flagAt (a .a .now) (a .test) (a .negated) in
     let w : ℕ = d .loop2 .w in
     let to = c .before .smaller in
     let x = c .part-word in
@@ -143,12 +143,12 @@ returns c =
     let d = c .before in
     let l = d .before .before in
     let a = l .before .before .before .args in
-    let p : ℕ → Bool = passesAt (a .a .now) (a .limit) (a .negated) in
+    let p : ℕ → Bool = flagAt (a .a .now) (a .test) (a .negated) in
     let last = d .loop2 .inv .3 (a .out .now) (l .loop .inv .3) in
     left-mask (length (a .a .now)) p (a .out .now) (d .loop2 .out) (d .loop2 .w) last (omega arith)
 
-pub flags-into-spec : {M : Type 1} → statement M
-flags-into-spec =
+pub words-into-spec : {M : Type 1} → statement M
+words-into-spec =
     tie.close
     (tie.spec
     Inv-loop
