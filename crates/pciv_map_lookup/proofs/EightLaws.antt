@@ -1,7 +1,7 @@
 -- Laws of a search for the entry of a slot that keeps the part where it may stand, and of places that are filled.
 --   flag-leb                      a test that is computed without a branch
 --   holds-halve                   the search goes on
---   overflow-some, holds-value    there is an entry, and the search ends with the slot's distance
+--   overflow-some, holds-value    there is an entry, and the search ends with it and the slot's distance
 --   eight-start                   eight searches begin
 --   Halving, halving-more         a turn of them, which the first q have had
 --   setsAt-none, -more, -end      no place; the next place is filled; none is left
@@ -20,8 +20,8 @@ use lib.Dec.{leb}
 use borrow.Author.Tests.{le-leb, lt-leb}
 use Rattle.pciv_bytes.specs.Ranges.{flag}
 use Rattle.pciv_bytes.proofs.WriteLaws.{set-before-sets}
-use Rattle.pciv_format.specs.Parts.{Parts, valueOf, SoundParts}
-use Rattle.pciv_format.proofs.PartsLaws.{slots-rise, slot-entry, valueOf-slot}
+use Rattle.pciv_format.specs.Parts.{Parts, entryOf, valueOf, SoundParts}
+use Rattle.pciv_format.proofs.PartsLaws.{slots-rise, entryOf-slot, slot-entry, valueOf-slot}
 use Rattle.pciv_map_lookup.specs.Eight.{OverflowPlace, Holds, Eight, setsAt}
 use Rattle.pciv_format.proofs.EntryLaws.{slots-sorted}
 
@@ -89,12 +89,15 @@ module _ (P : Parts) (sound : SoundParts P) where
 
   -- and where one entry is left, that is it
   pub holds-value : (xs : List ℕ) (b p lo : ℕ) → OverflowPlace P xs b p → Holds P (getD xs p 0) lo 1
-      → (lo < P .k) × (valueOf P (getD xs p 0) ≡ P .distance lo)
+      → (lo < P .k) × (valueOf P (getD xs p 0) ≡ P .distance lo) × (entryOf P (getD xs p 0) ≡ lo)
   holds-value xs b p lo f w =
       let q = slot-entry P sound (getD xs p 0) (f .inside) (f .overflows) in
       let at = w .entry (q .0) (q .1) (q .2) in
-      let e : q .0 ≡ lo = omega arith in
-      (omega (arith, w .within), ap (valueOf P) (sym (q .2)) ∙ valueOf-slot P sound (q .0) (q .1) ∙ ap (P .distance) e)
+      let e : q .0 ≡ lo = omega arith in (
+        omega (arith, w .within),
+        ap (valueOf P) (sym (q .2)) ∙ valueOf-slot P sound (q .0) (q .1) ∙ ap (P .distance) e,
+        ap (entryOf P) (sym (q .2)) ∙ entryOf-slot P sound (q .0) (q .1) ∙ e,
+      )
 
 -- ---- eight searches
 

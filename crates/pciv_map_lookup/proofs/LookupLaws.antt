@@ -1,6 +1,6 @@
 -- Laws of the overflow entries below a slot, and of the two tables of a checked map that a lookup searches.
 --   entriesBelow-past               past the last slot they are all entries
---   valueOf-entry                   a slot in overflow has its distance at entry `entriesBelow`
+--   valueOf-entry                   a slot in overflow has its entry, and its distance, at `entriesBelow`
 --   entriesBelow-count              as many slots below are in overflow
 --   entries-table, index-table      the overflow entries and the index are sorted by their slots
 --   entriesBelow-part, index-block  the index names a part of the entries, and a search there finds the entry
@@ -18,10 +18,10 @@ use Rattle.pciv_bytes.specs.LittleEndian.{get}
 use Rattle.pciv_bytes.proofs.RangesLaws.{length-table, getD-table}
 use Rattle.pciv_bytes.proofs.PositionsLaws.{positions-at, positions-append}
 use Rattle.pciv_format.specs.Layout.{indexStep, indexLen, inOverflow, overflowSlots, overflowCount}
-use Rattle.pciv_format.specs.Parts.{Parts, valueOf, SoundParts}
+use Rattle.pciv_format.specs.Parts.{Parts, entryOf, valueOf, SoundParts}
 use Rattle.pciv_format.specs.Check.{mField, stepField, fileParts, badIndexEntry, CheckedMap}
 use Rattle.pciv_format.proofs.PartsLaws.{or-false, not-eqb, entry-good, slots-rise, slot-entry}
-use Rattle.pciv_format.proofs.PartsLaws.{valueOf-slot, overflowSlots-are}
+use Rattle.pciv_format.proofs.PartsLaws.{entryOf-slot, valueOf-slot, overflowSlots-are}
 use Rattle.pciv_format.proofs.LayoutLaws.{index-inside}
 use Rattle.pciv_format.proofs.CheckLaws.{checked-length}
 use Rattle.pciv_map_lookup.specs.Lookup.{lowerBound, entriesBelow, blockStart, blockEnd, keyAt, Sorted}
@@ -47,11 +47,14 @@ module _ (P : Parts) (sound : SoundParts P) where
 
   -- a slot with byte 255 has its entry there
   pub valueOf-entry : (i : ℕ) → i < P .n → P .byte i ≡ 255
-      → (entriesBelow P i < P .k) × (valueOf P i ≡ P .distance (entriesBelow P i))
+      → (entriesBelow P i < P .k) × (valueOf P i ≡ P .distance (entriesBelow P i)) × (entryOf P i ≡ entriesBelow P i)
   valueOf-entry i h e =
       let q = slot-entry P sound i h e in
-      let at : entriesBelow P i ≡ q .0 = ap (entriesBelow P) (sym (q .2)) ∙ entriesBelow-slot (q .0) (q .1) in
-      (omega (arith, q .1), rw at (ap (valueOf P) (sym (q .2)) ∙ valueOf-slot P sound (q .0) (q .1)))
+      let at : entriesBelow P i ≡ q .0 = ap (entriesBelow P) (sym (q .2)) ∙ entriesBelow-slot (q .0) (q .1) in (
+        omega (arith, q .1),
+        rw at (ap (valueOf P) (sym (q .2)) ∙ valueOf-slot P sound (q .0) (q .1)),
+        rw at (ap (entryOf P) (sym (q .2)) ∙ entryOf-slot P sound (q .0) (q .1)),
+      )
 
   -- they are the slots in overflow below i
   pub entriesBelow-count : ((i : ℕ) → P .byte i < 256) → (i : ℕ) → i ≤ P .n

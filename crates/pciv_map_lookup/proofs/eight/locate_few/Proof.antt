@@ -1,4 +1,4 @@
--- Proves pciv_map_lookup::eight::distances_few. Invariant: filling all places is filling those from q on.
+-- Proves pciv_map_lookup::eight::locate_few. Invariant: filling all places is filling those from q on.
 -- Falls: count - q.
 use mathlib.Core.Path.{_≡_, refl, sym, _∙_}
 use mathlib.Core.List.{List}
@@ -10,8 +10,8 @@ use Rattle.pciv_format.specs.Parts.{valueOf}
 use Rattle.pciv_format.specs.Check.{fileParts}
 use Rattle.pciv_map_lookup.specs.Eight.{OverflowPlace, setsAt}
 use Rattle.pciv_map_lookup.proofs.EightLaws.{setsAt-more, setsAt-end}
-use Rattle.pciv_map_lookup.proofs.eight.distances_few.Statement.{statement}
-use Rattle.pciv_map_lookup.proofs.eight.distances_few.Tie as tie
+use Rattle.pciv_map_lookup.proofs.eight.locate_few.Statement.{statement}
+use Rattle.pciv_map_lookup.proofs.eight.locate_few.Tie as tie
 
 -- the distance at a place of the list
 abbrev distance : List ℕ → ℕ → ℕ → List ℕ → ℕ → ℕ
@@ -87,8 +87,8 @@ returns c =
     let end = setsAt-end _ (start .args .places .now) (l .out) _ _ (start .pre .1 .0 .1 .long) (c .loop-test .left) in
     sym (l .inv .2 ∙ end)
 
-pub distances-few-spec : {M : Type 1} → statement M
-distances-few-spec =
+pub locate-few-spec : {M : Type 1} → statement M
+locate-few-spec =
     tie.close
     (tie.spec
     Inv-loop

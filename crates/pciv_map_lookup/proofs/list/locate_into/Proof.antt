@@ -1,4 +1,4 @@
--- Proves pciv_map_lookup::list::distances_into. Invariant: i bytes are written, and fewer than eight places wait
+-- Proves pciv_map_lookup::list::locate_into. Invariant: i bytes are written, and fewer than eight places wait
 -- for the distances in overflow. Falls: length slots - i. The reasoning is in WaitLaws.antt.
 use mathlib.Core.Path.{refl}
 use Prim.Native.Nat.{ℕ, _+_, _-_, _≤_, _<_}
@@ -12,8 +12,8 @@ use Rattle.pciv_format.specs.Check.{fileParts}
 use Rattle.pciv_format.proofs.MapLaws.{primary-inside}
 use Rattle.pciv_map_lookup.proofs.WaitLaws.{Waits, waits-start, waits-more, waits-places}
 use Rattle.pciv_map_lookup.proofs.WaitLaws.{waits-filled, waits-end}
-use Rattle.pciv_map_lookup.proofs.list.distances_into.Statement.{statement}
-use Rattle.pciv_map_lookup.proofs.list.distances_into.Tie as tie
+use Rattle.pciv_map_lookup.proofs.list.locate_into.Statement.{statement}
+use Rattle.pciv_map_lookup.proofs.list.locate_into.Tie as tie
 
 abbrev Inv-loop : tie.InvT-loop
 Inv-loop file n k slots out₀ places₀ waiting₀ i₀ out places waiting i =
@@ -105,8 +105,8 @@ add-waiting c = omega (arith, walked c .overflows .long, walked c .eight)
 add-i : tie.Need-add-i Inv-loop μ-loop
 add-i c = search needs
 
-distances8-requires : tie.Need-distances8-requires Inv-loop μ-loop
-distances8-requires c κs =
+locate8-requires : tie.Need-locate8-requires Inv-loop μ-loop
+locate8-requires c κs =
     let then = c .before .before in
     let pre = entered (then .before .before .before .before) .pre in
     (pre .0, (waits-places _ (pre .0 .parts) _ _ (pre .1 .0) _ _ _ _ (full then), omega (arith, full then .same)))
@@ -119,7 +119,7 @@ loop-again c =
     let call = c .before .before in
     let then = call .before .before .before in
     let pre = entered (then .before .before .before .before) .pre in
-    let filled = call .distances8 in (
+    let filled = call .locate8 in (
       omega arith,
       waits-filled _ (pre .0 .parts) _ _ (pre .1 .0) _ _ _ _ (full then) _ (filled .kept .0) (filled .ensures),
     )
@@ -132,8 +132,8 @@ loop-again-2 c =
     let w = walked (c .before) in
     (omega (arith, w .overflows .long, w .eight, c .if1 .left), w)
 
-distances-few-requires : tie.Need-distances-few-requires Inv-loop μ-loop
-distances-few-requires c κs =
+locate-few-requires : tie.Need-locate-few-requires Inv-loop μ-loop
+locate-few-requires c κs =
     let at-loop = c .before .before .before in
     let pre = entered at-loop .pre in
     let w = at-loop .loop .inv .1 in
@@ -148,10 +148,10 @@ returns c =
     let end = call .before .before .before in
     let pre = entered (end .before) .pre in
     waits-end _ (pre .0 .parts) _ _ (pre .1 .0) _ _ _ _ (end .before .loop .inv .1) _ (end .loop-test .left)
-    (call .distances-few .ensures)
+    (call .locate-few .ensures)
 
-pub distances-into-spec : {M : Type 1} → statement M
-distances-into-spec =
+pub locate-into-spec : {M : Type 1} → statement M
+locate-into-spec =
     tie.close
     (tie.spec
     Inv-loop
@@ -169,11 +169,11 @@ distances-into-spec =
     cast-waiting
     add-waiting
     add-i
-    distances8-requires
+    locate8-requires
     loop-less
     loop-again
     loop-less-2
     loop-again-2
-    distances-few-requires
+    locate-few-requires
     same-length
     returns)

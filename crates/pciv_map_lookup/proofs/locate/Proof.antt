@@ -1,4 +1,4 @@
--- Proves pciv_map_lookup::distance_at: a byte below 255 is the distance, and else the slot's entry has it.
+-- Proves pciv_map_lookup::locate: a byte below 255 is the distance, and else the slot's entry has it.
 use mathlib.Core.Path.{_≡_, sym, _∙_}
 use Prim.Native.Nat.{_+_, _<_}
 use native.Mathlib.Omega.{arith}
@@ -9,8 +9,8 @@ use Rattle.pciv_format.proofs.PartsLaws.{valueOf-inline}
 use Rattle.pciv_map_lookup.specs.Lookup.{entriesBelow}
 use Rattle.pciv_map_lookup.proofs.LookupLaws.{valueOf-entry}
 use Rattle.pciv_format.proofs.MapLaws.{primary-inside, entry-inside}
-use Rattle.pciv_map_lookup.proofs.distance_at.Statement.{statement}
-use Rattle.pciv_map_lookup.proofs.distance_at.Tie as tie
+use Rattle.pciv_map_lookup.proofs.locate.Statement.{statement}
+use Rattle.pciv_map_lookup.proofs.locate.Tie as tie
 
 -- the slot is in overflow
 entry : (c : tie.Else1) → (let a = c .before .before .before .args in
@@ -48,8 +48,8 @@ returns-2 : tie.Need-returns-2
 returns-2 c =
     c .entry-distance .ensures ∙ rw (c .before .entry-of .ensures) (sym (entry (c .before .before) .1))
 
-pub distance-at-spec : {M : Type 1} → statement M
-distance-at-spec =
+pub locate-spec : {M : Type 1} → statement M
+locate-spec =
     tie.close
     (tie.spec
     add-byte

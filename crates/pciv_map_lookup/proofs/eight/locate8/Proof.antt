@@ -1,4 +1,4 @@
--- Proves pciv_map_lookup::eight::distances8. Invariant: filling all places is filling those from q on. Falls: 8 - q.
+-- Proves pciv_map_lookup::eight::locate8. Invariant: filling all places is filling those from q on. Falls: 8 - q.
 use mathlib.Core.Path.{_≡_, refl, sym, _∙_}
 use mathlib.Core.List.{List}
 use Prim.Native.Nat.{ℕ, _-_, _≤_, _<_}
@@ -10,8 +10,8 @@ use Rattle.pciv_format.specs.Check.{fileParts}
 use Rattle.pciv_map_lookup.specs.Eight.{OverflowPlace, setsAt}
 use Rattle.pciv_map_lookup.proofs.EightLaws.{holds-value, setsAt-more, setsAt-end}
 use Rattle.pciv_format.proofs.MapLaws.{entry-inside}
-use Rattle.pciv_map_lookup.proofs.eight.distances8.Statement.{statement}
-use Rattle.pciv_map_lookup.proofs.eight.distances8.Tie as tie
+use Rattle.pciv_map_lookup.proofs.eight.locate8.Statement.{statement}
+use Rattle.pciv_map_lookup.proofs.eight.locate8.Tie as tie
 
 -- the distance at a place of the list
 abbrev distance : List ℕ → ℕ → ℕ → List ℕ → ℕ → ℕ
@@ -99,8 +99,8 @@ returns c =
     let l = c .before .loop in
     sym (l .inv .2 ∙ setsAt-end _ (start .args .places .now) (l .out) _ _ (start .pre .1 .0 .long) (c .loop-test .left))
 
-pub distances8-spec : {M : Type 1} → statement M
-distances8-spec =
+pub locate8-spec : {M : Type 1} → statement M
+locate8-spec =
     tie.close
     (tie.spec
     Inv-loop
