@@ -1,4 +1,5 @@
 -- Laws of the origin of a distance: inline, or an overflow entry by its number (docs/FORMAT.md, "Reading").
+--   originOf-entry, -none      the origin that a number tells: an entry below k, and inline
 --   originNumber-originOf     the number that tells an origin is the one that it was made of
 --   entryNumber-le            no number is above k
 --   entryIn xs i, originIn xs i    the number and the origin at slot i of a list, from the list alone
@@ -48,10 +49,10 @@ partsOf b = fileParts b (nField b) (kField b)
 
 -- ---- numbers that tell origins
 
-originOf-entry : (k j : ℕ) → j < k → originOf k j ≡ Overflow j
+pub originOf-entry : (k j : ℕ) → j < k → originOf k j ≡ Overflow j
 originOf-entry k j h = rw (lt-ltb j k h)
 
-originOf-none : (k j : ℕ) → k ≤ j → originOf k j ≡ Inline
+pub originOf-none : (k j : ℕ) → k ≤ j → originOf k j ≡ Inline
 originOf-none k j h = rw (le-ltb j k h)
 
 pub originNumber-originOf : (k j : ℕ) → j ≤ k → originNumber k (originOf k j) ≡ j

@@ -1,10 +1,11 @@
 -- Laws of a walk over a list of slots that writes what is stored inline, while the places of slots in overflow wait.
 --   Waits P xs ps c i             i slots are passed, and the first c places of ps wait: their slots are in overflow
---   waits-start, -more, -places, -filled    the walk begins, and goes on with the next slot; the places that wait; they
---                                 are filled
---   Filled g xs d₀ d ps c i       the same of a list d: filling the places that wait with g of their slots, and writing g of
---                                 the slots from i on, gives g of all slots, written over d₀
---   filled-start, -more, -again, -end    the walk begins, and goes on; its places are filled; the last places are
+--   waits-places                  so it is up to the end of the list
+--   Filled g xs d₀ d ps c i       filling these places of d with g of their slots, and writing g of the slots from i on,
+--                                 gives g of all slots, written over d₀
+--   Walk P xs d₀ e₀ d e ps c i    this of two lists, one for distances and one for the numbers of entries
+--   walk-start, walk-more         the walk begins, and goes on with the next slot
+--   walk-filled, walk-end         the eight places are filled; the last places are
 -- Axioms: none.
 use mathlib.Core.Path.{_≡_, refl, sym, ap, _∙_}
 use mathlib.Core.Bool.{Bool, true, false}
@@ -18,8 +19,10 @@ use lib.Seq.{sets, length-take-le, getD-take, getD-set-same, getD-set-other, set
 use lib.Dec.{eqb}
 use borrow.Author.Tests.{eq-eqb, ne-eqb}
 use Rattle.pciv_bytes.specs.Ranges.{flag}
+use Rattle.pciv_bytes.proofs.RangesLaws.{true-false}
 use Rattle.pciv_bytes.proofs.WriteLaws.{sets-copy-more, sets-copy-end, set-before-sets}
-use Rattle.pciv_format.specs.Parts.{Parts}
+use Rattle.pciv_format.specs.Parts.{Parts, entryOf, valueOf, SoundParts}
+use Rattle.pciv_format.proofs.PartsLaws.{entryOf-inline, valueOf-inline}
 use Rattle.pciv_map_lookup.specs.Eight.{atPlace, OverflowPlace, OverflowPlaces, setsAt}
 use Rattle.pciv_map_lookup.proofs.EightLaws.{setsAt-last, setsAt-sets, setsAt-none}
 
@@ -36,7 +39,7 @@ overflow-later e h f =
     rw e (record { before = omega (arith, f .before); inside = f .inside; overflows = f .overflows })
 
 module _ (P : Parts) (xs : List ℕ) where
-  pub waits-start : Waits P xs (replicate 8 0) 0 0
+  waits-start : Waits P xs (replicate 8 0) 0 0
   waits-start =
       record {
         reached = omega arith;
@@ -78,7 +81,7 @@ module _ (P : Parts) (xs : List ℕ) where
           }
 
       -- x is the byte of the next slot
-      pub waits-more : getD xs i 0 < P .n → (x : ℕ) → x ≡ P .byte (getD xs i 0)
+      waits-more : getD xs i 0 < P .n → (x : ℕ) → x ≡ P .byte (getD xs i 0)
           → Waits P xs (set ps c i) (c + flag (eqb x 255)) (i + 1)
       waits-more inside x is =
           elim (ℕ-discrete x 255) [
@@ -93,7 +96,7 @@ module _ (P : Parts) (xs : List ℕ) where
           each = λ q h. overflow-later refl (w .reached) (w .overflows .each q h);
         }
 
-    pub waits-filled : Waits P xs ps 0 i
+    waits-filled : Waits P xs ps 0 i
     waits-filled =
         record {
           reached = w .reached;
@@ -108,7 +111,7 @@ pub record Filled (g : ℕ → ℕ) (xs d₀ d ps : List ℕ) (c i : ℕ) : Type
   pub rest : sets d₀ 0 (map g xs) ≡ setsAt (atPlace g xs) (take c ps) (sets d i (drop i (map g xs)))
 
 module _ (g : ℕ → ℕ) (xs d₀ : List ℕ) where
-  pub filled-start : Filled g xs d₀ d₀ (replicate 8 0) 0 0
+  filled-start : Filled g xs d₀ d₀ (replicate 8 0) 0 0
   filled-start = record { same = refl; rest = sym (setsAt-none (atPlace g xs) _) }
 
   module _ (P : Parts) (d ps : List ℕ) (c i : ℕ) (w : Waits P xs ps c i) (f : Filled g xs d₀ d ps c i) where
@@ -124,7 +127,7 @@ module _ (g : ℕ → ℕ) (xs d₀ : List ℕ) where
           ∙ ap (λ (x : ℕ). sets (set d i x) (i + 1) (drop (i + 1) l)) (List·getD-map g xs i 0))
 
       -- x is written there; it may be wrong where the place waits
-      pub filled-more : (wait : Bool) (x : ℕ) → (wait ≡ false → atPlace g xs i ≡ x)
+      filled-more : (wait : Bool) (x : ℕ) → (wait ≡ false → atPlace g xs i ≡ x)
           → Filled g xs d₀ (set d i x) (set ps c i) (c + flag wait) (i + 1)
       filled-more true x right =
           let h : ℕ → ℕ = atPlace g xs in
@@ -154,11 +157,65 @@ module _ (g : ℕ → ℕ) (xs d₀ : List ℕ) where
         rw (getD-take c ps q 0 hc) (w .overflows .each q hc .before)))
         ∙ ap (λ (m : List ℕ). sets m i (drop i (map g xs))) (sym e)
 
-    pub filled-again : (d' : List ℕ) → length d' ≡ length d → d' ≡ setsAt (atPlace g xs) (take c ps) d
+    filled-again : (d' : List ℕ) → length d' ≡ length d → d' ≡ setsAt (atPlace g xs) (take c ps) d
         → Filled g xs d₀ d' ps 0 i
     filled-again d' same e =
         record { same = same ∙ f .same; rest = rest-filled d' e ∙ sym (setsAt-none (atPlace g xs) _) }
 
-    pub filled-end : (d' : List ℕ) → length xs ≤ i → d' ≡ setsAt (atPlace g xs) (take c ps) d
+    filled-end : (d' : List ℕ) → length xs ≤ i → d' ≡ setsAt (atPlace g xs) (take c ps) d
         → d' ≡ sets d₀ 0 (map g xs)
     filled-end d' done e = sym (rest-filled d' e ∙ sets-copy-end (map g xs) d' i i (rw length-map done))
+
+-- ---- both lists
+
+pub record Walk (P : Parts) (xs d₀ e₀ d e ps : List ℕ) (c i : ℕ) : Type 0 where
+  pub places : Waits P xs ps c i
+  pub distances : Filled (valueOf P) xs d₀ d ps c i
+  pub entries : Filled (entryOf P) xs e₀ e ps c i
+
+module _ (P : Parts) (sound : SoundParts P) (xs d₀ e₀ : List ℕ) where
+  pub walk-start : Walk P xs d₀ e₀ d₀ e₀ (replicate 8 0) 0 0
+  walk-start =
+      record {
+        places = waits-start P xs;
+        distances = filled-start (valueOf P) xs d₀;
+        entries = filled-start (entryOf P) xs e₀;
+      }
+
+  module _ (d e ps : List ℕ) (c i : ℕ) (w : Walk P xs d₀ e₀ d e ps c i) where
+    -- x is the byte of the next slot
+    pub walk-more : c < 8 → i < length xs → getD xs i 0 < P .n → (x : ℕ) → x ≡ P .byte (getD xs i 0) → x < 256
+        → Walk P xs d₀ e₀ (set d i x) (set e i (P .k)) (set ps c i) (c + flag (eqb x 255)) (i + 1)
+    walk-more few more inside x is byte =
+        let inline : eqb x 255 ≡ false → P .byte (getD xs i 0) < 255 =
+        λ q.
+        elim (decLe 255 x) [
+          | yes h ↦ absurd (true-false (sym (eq-eqb x 255 (omega arith)) ∙ q))
+          | no h ↦ omega arith
+        ] in
+        record {
+          places = waits-more P xs ps c i (w .places) few more inside x is;
+          distances =
+              filled-more (valueOf P) xs d₀ P d ps c i (w .places) (w .distances) few more (eqb x 255) x
+              (λ q. valueOf-inline P sound (getD xs i 0) (inline q) ∙ sym is);
+          entries =
+              filled-more (entryOf P) xs e₀ P e ps c i (w .places) (w .entries) few more (eqb x 255) (P .k)
+              (λ q. entryOf-inline P sound (getD xs i 0) (inline q));
+        }
+
+    -- the places are filled in both
+    module _ (d' e' : List ℕ) (dIs : d' ≡ setsAt (atPlace (valueOf P) xs) (take c ps) d)
+        (eIs : e' ≡ setsAt (atPlace (entryOf P) xs) (take c ps) e) where
+      pub walk-filled : length d' ≡ length d → length e' ≡ length e → Walk P xs d₀ e₀ d' e' ps 0 i
+      walk-filled dSame eSame =
+          record {
+            places = waits-filled P xs ps c i (w .places);
+            distances = filled-again (valueOf P) xs d₀ P d ps c i (w .places) (w .distances) d' dSame dIs;
+            entries = filled-again (entryOf P) xs e₀ P e ps c i (w .places) (w .entries) e' eSame eIs;
+          }
+
+      pub walk-end : length xs ≤ i → (d' ≡ sets d₀ 0 (map (valueOf P) xs)) × (e' ≡ sets e₀ 0 (map (entryOf P) xs))
+      walk-end end = (
+        filled-end (valueOf P) xs d₀ P d ps c i (w .places) (w .distances) d' end dIs,
+        filled-end (entryOf P) xs e₀ P e ps c i (w .places) (w .entries) e' end eIs,
+      )

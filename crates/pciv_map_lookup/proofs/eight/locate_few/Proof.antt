@@ -1,33 +1,30 @@
--- Proves pciv_map_lookup::eight::locate_few. Invariant: filling all places is filling those from q on.
--- Falls: count - q.
-use mathlib.Core.Path.{_≡_, refl, sym, _∙_}
-use mathlib.Core.List.{List}
-use Prim.Native.Nat.{ℕ, _-_, _≤_}
+-- Proves pciv_map_lookup::eight::locate_few. Invariant: in both lists the places from q on are left. Falls: count - q.
+use mathlib.Core.Path.{_≡_, sym, _∙_}
+use Prim.Native.Nat.{ℕ, _-_, _≤_, _<_}
 use native.Mathlib.Omega.{arith}
-use lib.ListN.{length, getD, take, drop, length-set}
+use lib.ListN.{length, getD}
 use borrow.Author.Needs.{needs}
-use Rattle.pciv_format.specs.Parts.{valueOf}
+use Rattle.pciv_format.specs.Parts.{entryOf, valueOf}
 use Rattle.pciv_format.specs.Check.{fileParts}
-use Rattle.pciv_map_lookup.specs.Eight.{OverflowPlace, setsAt}
-use Rattle.pciv_map_lookup.proofs.EightLaws.{setsAt-more, setsAt-end}
+use Rattle.pciv_map_lookup.specs.Eight.{OverflowPlace, atPlace}
+use Rattle.pciv_map_lookup.specs.Lookup.{entriesBelow}
+use Rattle.pciv_map_lookup.proofs.LookupLaws.{valueOf-entry}
+use Rattle.pciv_map_lookup.proofs.EightLaws.{Filling, filling-start, filling-more, filling-end}
+use Rattle.pciv_format.proofs.MapLaws.{entry-inside}
 use Rattle.pciv_map_lookup.proofs.eight.locate_few.Statement.{statement}
 use Rattle.pciv_map_lookup.proofs.eight.locate_few.Tie as tie
 
--- the distance at a place of the list
-abbrev distance : List ℕ → ℕ → ℕ → List ℕ → ℕ → ℕ
-distance file n k slots p = valueOf (fileParts file n k) (getD slots p 0)
-
 abbrev Inv-loop : tie.InvT-loop
-Inv-loop out₀ file n k slots places count q₀ out q =
-    (q ≤ count) × (length out ≡ length out₀)
-    × (setsAt (distance file n k slots) (take count places) out₀
-    ≡ setsAt (distance file n k slots) (drop q (take count places)) out)
+Inv-loop distances₀ entries₀ file n k slots places count q₀ distances entries q =
+    (q ≤ count)
+    × Filling (atPlace (valueOf (fileParts file n k)) slots) places distances₀ distances count q
+    × Filling (atPlace (entryOf (fileParts file n k)) slots) places entries₀ entries count q
 
 abbrev μ-loop : tie.MeasureT-loop
-μ-loop out₀ file n k slots places count q₀ out q = count - q
+μ-loop distances₀ entries₀ file n k slots places count q₀ distances entries q = count - q
 
 abbrev entered : tie.In-loop Inv-loop μ-loop → tie.Start Inv-loop μ-loop
-entered c = c .before .before .before .before .before
+entered c = c .before .before .before .before .before .before
 
 -- the place that is filled
 overflows : (c : tie.In-loop Inv-loop μ-loop) → (let a = entered c .args in
@@ -35,8 +32,17 @@ overflows : (c : tie.In-loop Inv-loop μ-loop) → (let a = entered c .args in
     (getD (a .places .now) (c .before .loop .q) 0))
 overflows c = entered c .pre .1 .0 .1 .each (c .before .loop .q) (c .loop-test .taken)
 
+-- its entry
+entry : (c : tie.In-loop Inv-loop μ-loop) → (let a = entered c .args in
+    let P = fileParts (a .file .now) (a .n) (a .k) in
+    let slot = getD (a .slots .now) (getD (a .places .now) (c .before .loop .q) 0) 0 in
+    let j = entriesBelow P slot in
+    (j < a .k) × (valueOf P slot ≡ P .distance j) × (entryOf P slot ≡ j))
+entry c =
+    valueOf-entry _ (entered c .pre .0 .parts) _ (overflows c .inside) (overflows c .overflows)
+
 loop-holds : tie.Need-loop-holds Inv-loop μ-loop
-loop-holds c = (omega arith, refl, refl)
+loop-holds c = (omega arith, filling-start _ _ _ _, filling-start _ _ _ _)
 
 mul-place : tie.Need-mul-place Inv-loop μ-loop
 mul-place c = search needs
@@ -44,22 +50,35 @@ mul-place c = search needs
 element-copy-out-place : tie.Need-element-copy-out-place Inv-loop μ-loop
 element-copy-out-place c = search needs
 
-mul-distance-at : tie.Need-mul-distance-at Inv-loop μ-loop
-mul-distance-at c = omega (arith, overflows (c .before) .before)
+mul-entry-of : tie.Need-mul-entry-of Inv-loop μ-loop
+mul-entry-of c = omega (arith, overflows (c .before) .before)
 
-shared-slice-read-distance-at : tie.Need-shared-slice-read-distance-at Inv-loop μ-loop
-shared-slice-read-distance-at c = overflows (c .before .before) .before
+shared-slice-read-entry-of : tie.Need-shared-slice-read-entry-of Inv-loop μ-loop
+shared-slice-read-entry-of c = overflows (c .before .before) .before
 
-distance-at-requires : tie.Need-distance-at-requires Inv-loop μ-loop
-distance-at-requires c κs =
-    let in-loop = c .before .before in
-    (entered in-loop .pre .0, overflows in-loop .inside)
+entry-of-requires : tie.Need-entry-of-requires Inv-loop μ-loop
+entry-of-requires c κs = entered (c .before .before) .pre .0
 
-mul-out : tie.Need-mul-out Inv-loop μ-loop
-mul-out c = omega (arith, overflows (c .before .before .before) .before)
+entry-distance-requires : tie.Need-entry-distance-requires Inv-loop μ-loop
+entry-distance-requires c κs =
+    let in-loop = c .before .before .before in
+    entry-inside _ _ _ (entered in-loop .pre .0) _ (omega (arith, entry in-loop .0, c .entry-of .ensures))
 
-slice-write-out : tie.Need-slice-write-out Inv-loop μ-loop
-slice-write-out c = omega (arith, overflows (c .before .before .before) .before)
+mul-distances : tie.Need-mul-distances Inv-loop μ-loop
+mul-distances c = omega (arith, overflows (c .before .before .before .before) .before)
+
+slice-write-distances : tie.Need-slice-write-distances Inv-loop μ-loop
+slice-write-distances c =
+    let in-loop = c .before .before .before .before in
+    omega (arith, overflows in-loop .before, in-loop .before .loop .inv .1 .same)
+
+mul-entries : tie.Need-mul-entries Inv-loop μ-loop
+mul-entries c = omega (arith, overflows (c .before .before .before .before) .before)
+
+slice-write-entries : tie.Need-slice-write-entries Inv-loop μ-loop
+slice-write-entries c =
+    let in-loop = c .before .before .before .before in
+    omega (arith, overflows in-loop .before, in-loop .before .loop .inv .2 .same)
 
 add-q : tie.Need-add-q Inv-loop μ-loop
 add-q c = search needs
@@ -69,23 +88,26 @@ loop-less c = search needs
 
 loop-again : tie.Need-loop-again Inv-loop μ-loop
 loop-again c =
-    let in-loop = c .before .before .before in
-    let l = in-loop .before .loop in
-    let s = entered in-loop in
-    let turn =
-    setsAt-more _ (s .args .places .now) (l .out) _ _ _ (s .pre .1 .0 .1 .long) (in-loop .loop-test .taken)
-    (c .distance-at .ensures) in
-    (omega arith, simp length-set (l .inv .1), l .inv .2 ∙ turn)
+    let in-loop = c .before .before .before .before in
+    let inv = in-loop .before .loop .inv in
+    let long = entered in-loop .pre .1 .0 .1 .long in
+    let taken = in-loop .loop-test .taken in (
+      omega arith,
+      filling-more long (inv .1) _ taken (c .entry-distance .ensures ∙ rw (c .before .entry-of .ensures) (sym (entry in-loop .1))),
+      filling-more long (inv .2) _ taken (c .before .entry-of .ensures ∙ sym (entry in-loop .2)),
+    )
 
 same-length : tie.Need-same-length Inv-loop μ-loop
 same-length c = search needs
 
+same-length-2 : tie.Need-same-length-2 Inv-loop μ-loop
+same-length-2 c = search needs
+
 returns : tie.Need-returns Inv-loop μ-loop
 returns c =
-    let start = c .before .before .before .before .before in
-    let l = c .before .loop in
-    let end = setsAt-end _ (start .args .places .now) (l .out) _ _ (start .pre .1 .0 .1 .long) (c .loop-test .left) in
-    sym (l .inv .2 ∙ end)
+    let inv = c .before .loop .inv in
+    let long = c .before .before .before .before .before .before .pre .1 .0 .1 .long in
+    (filling-end long (inv .1) (c .loop-test .left), filling-end long (inv .2) (c .loop-test .left))
 
 pub locate-few-spec : {M : Type 1} → statement M
 locate-few-spec =
@@ -96,13 +118,17 @@ locate-few-spec =
     loop-holds
     mul-place
     element-copy-out-place
-    mul-distance-at
-    shared-slice-read-distance-at
-    distance-at-requires
-    mul-out
-    slice-write-out
+    mul-entry-of
+    shared-slice-read-entry-of
+    entry-of-requires
+    entry-distance-requires
+    mul-distances
+    slice-write-distances
+    mul-entries
+    slice-write-entries
     add-q
     loop-less
     loop-again
     same-length
+    same-length-2
     returns)
