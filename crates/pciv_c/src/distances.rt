@@ -16,7 +16,7 @@ use pciv_read::scan;
 
 // The k of a file's header; 0 where the file has no whole header.
 fn header_k(file: &[u8]) -> usize
-    ensures { λ r. ⌜ 40 ≤ length (now (file .entry)) → r ≡ kField (now (file .entry)) ⌝ }
+    ensures { λ r. ⌜ (40 ≤ length (now (file .entry)) → r ≡ kField (now (file .entry))) ⌝ }
 {
     if file.len() < HEADER_LEN {
         return 0;

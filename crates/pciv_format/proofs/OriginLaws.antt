@@ -4,7 +4,8 @@
 --   entryNumber-le            no number is above k
 --   entryIn xs i, originIn xs i    the number and the origin at slot i of a list, from the list alone
 --   file-entryNumber, originOf-entryIn    they are those of its file
---   Found b slot a            what a lookup that is done says: the file is sound, the slot is in it, and a is found there
+--   Found b slot a            what a lookup that is done says: b has a header and sound parts, the slot is inside, and a is
+--                             what is there
 --   lookup-found              so it is
 --   lookup-distance-stays     a lookup is done and refused as one that answers the distance alone, with that distance
 --   lookup-list-stays         and so is a list of lookups where the second list holds the numbers
@@ -40,6 +41,7 @@ use Rattle.pciv_format.proofs.PartsLaws.{primaryByte-inline, entry-good
 use Rattle.pciv_format.proofs.PartsLaws.{entryOf-past, valueOf-slot, slot-cases}
 use Rattle.pciv_format.proofs.RefusalsLaws.{refuseIf-done, refuseFirst-done, andThen-done}
 use Rattle.pciv_format.proofs.LayoutLaws.{overflowSlots-at}
+use Rattle.pciv_format.proofs.CheckLaws.{checked-length}
 use Rattle.pciv_format.proofs.FileLaws.{file-byte, file-slot, file-checked}
 use Rattle.pciv_format.proofs.ReadLaws.{at-listOf, items-fit, items-short}
 use Rattle.pciv_format.proofs.ReadCaseLaws.{checked, lookup-inside}
@@ -121,6 +123,7 @@ module _ (xs : List ℕ) (l : Limits xs) where
 -- ---- what a lookup that is done says
 
 pub record Found (b : List ℕ) (slot : ℕ) (a : Located) : Type 0 where
+  pub long : 40 ≤ length b
   pub sound : SoundParts (partsOf b)
   pub inside : slot < nField b
   pub is : a ≡ located (valueOf (partsOf b) slot) (kField b) (entryNumber b slot)
@@ -137,6 +140,7 @@ lookup-found b slot a e =
     let t = refuseIf-done (leb (c .0 .n) slot) _ _ a (c .2) in
     let inside : slot < nField b = omega (arith, leb-false (c .0 .n) slot (t .0), map .header .nIs) in
     record {
+      long = omega (arith, checked-length b _ _ map);
       sound = sound-parts b _ _ (map .header .nIs) (map .header .kIs) (map .parts);
       inside = inside;
       is = sym (same-done (t .1))
