@@ -37,7 +37,13 @@ pub extern "C" fn pciv_lookup(
         r (now (distance .entry)) (now (distance .exit)) (now (number .entry)) (now (number .exit))
         (now (refusal .exit)) ⌝ }
 {
-    tell_located(lookup(file, slot), header_k(file), distance, number, refusal)
+    tell_located(
+        lookup(file, slot),
+        header_k(file),
+        distance,
+        number,
+        refusal,
+    )
 }
 
 #[no_mangle]

@@ -2,9 +2,9 @@
 // Every routine checks the file first and refuses as the check does, with map 1; then come 9 and 12.
 // A refused call changes no byte, and what follows a result in the caller's list stays as it was.
 ghost use mathlib.Core.Path.{_≡_};
-ghost use Prim.Native.Nat.{ℕ, _+_, _≤_, _<_};
+ghost use Prim.Native.Nat.{ℕ, _+_, _≤_, _<_, min};
 ghost use lib.ListN.{length, getD, take, drop};
-ghost use lib.Dec.{leb};
+ghost use lib.Dec.{ltb, leb};
 ghost use denote.Ref.{ptr};
 ghost use Rattle.pciv_bytes.specs.Ranges.{firstBelow};
 ghost use Rattle.pciv_format.specs.Refusals.{numberAnswer, lookupAnswer};
@@ -12,7 +12,6 @@ ghost use Rattle.pciv_format.specs.Read.{primaryPart, behind, primaryPlace, loo
 ghost use Rattle.pciv_format.specs.Read.{lookupListOutcome, lookupListBuffer, lookupListEntries};
 ghost use Rattle.pciv_format.specs.Read.{scanOutcome, scanBuffer};
 ghost use Rattle.pciv_format.specs.Read.{sumOutcome, readingsOutcome};
-use pciv_bytes::numbers::smaller;
 use pciv_check::check;
 use pciv_format::BUFFER_TOO_SMALL;
 use pciv_format::FileAnswer;
@@ -91,6 +90,16 @@ fn first_outside(slots: &[usize], n: usize) -> usize
     i
 }
 
+// One of two lists of these lengths holds fewer than `count` items.
+fn either_short(first: usize, second: usize, count: usize) -> bool
+    ensures { λ r. ⌜ r ≡ ltb (min first second) count ⌝ }
+{
+    if first < count {
+        return true;
+    }
+    second < count
+}
+
 // The distances at a list of slots, to the front of one list of the caller, and the numbers of their overflow entries, or
 // k for inline, to the front of another; answers how many.
 // Refusals: 1 to 8, then 9 with the least position in the list, then 12 where either list is too short.
@@ -117,10 +126,11 @@ pub fn lookup_list(
             let n = s.n;
             let k = s.k;
             let outside = first_outside(slots, n);
+            let short = either_short(distances.len(), entries.len(), slots.len());
             if outside < slots.len() {
                 return refuse_number(SLOT_OUT_OF_RANGE, 0, outside);
             }
-            if smaller(distances.len(), entries.len()) < slots.len() {
+            if short {
                 return refuse_number(BUFFER_TOO_SMALL, 0, 0);
             }
             locate_into(file, n, k, slots, distances, entries);

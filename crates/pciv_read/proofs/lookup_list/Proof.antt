@@ -1,6 +1,6 @@
 -- Proves pciv_read::lookup_list.
 use mathlib.Core.Path.{_≡_, sym, ap, _∙_}
-use Prim.Native.Nat.{ℕ, _≤_, _<_, min}
+use Prim.Native.Nat.{ℕ, _≤_, min}
 use native.Mathlib.Omega.{arith}
 use Rattle.pciv_format.specs.Refusals.{done, refused, numberAnswer}
 use Rattle.pciv_format.specs.Check.{checkFile}
@@ -12,6 +12,7 @@ use Rattle.pciv_format.specs.Read.{lookupListBuffer, lookupListEntries}
 use Rattle.pciv_format.proofs.ReadCaseLaws.{checked, list-refused, list-outside, list-inside, list-short}
 use Rattle.pciv_format.proofs.ReadCaseLaws.{list-done, list-buffer, list-entries}
 use borrow.Author.Needs.{needs}
+use borrow.Author.Tests.{ltb-true, ltb-false}
 use Rattle.pciv_read.proofs.lookup_list.Statement.{statement}
 use Rattle.pciv_read.proofs.lookup_list.Tie as tie
 
@@ -28,10 +29,11 @@ is-map c = fileAnswer-done _ _ (sym (c .checked2 .given .1) ∙ c .before .befor
 
 -- every slot of the list is below n
 all-inside : (c : tie.Else1)
-    → (let xs = c .before .before .before .before .before .before .before .before .before .before .args .slots .now in
-    let n = c .before .before .before .checked2 .given .0 .0 .n in
+    → (let k = c .before .before .before .before in
+    let xs = k .before .before .before .before .before .before .before .args .slots .now in
+    let n = k .checked2 .given .0 .0 .n in
     length xs ≤ firstBelow (λ (i : ℕ). leb n (getD xs i 0)) (length xs))
-all-inside c = omega (arith, c .before .first-outside .ensures, c .if1 .left)
+all-inside c = omega (arith, c .before .before .first-outside .ensures, c .if1 .left)
 
 check-requires : tie.Need-check-requires
 check-requires c κs = search needs
@@ -45,22 +47,22 @@ enum-known-checked-2 c = search needs
 first-outside-requires : tie.Need-first-outside-requires
 first-outside-requires c κs = search needs
 
+either-short-requires : tie.Need-either-short-requires
+either-short-requires c κs = search needs
+
 refuse-number-requires : tie.Need-refuse-number-requires
 refuse-number-requires c κs = search needs
 
 returns : tie.Need-returns
 unfolding lookupListBuffer lookupListEntries
 returns c =
-    let g = c .before .before in
+    let g = c .before .before .before in
     let k = g .before .before in
     let a = k .before .before .before .before .before .before .before .args in
     let o =
-    list-outside (a .file .now) _ (is-map k) (a .slots .now) (length (a .distances .now)) (length (a .entries .now)) _ (g .first-outside .ensures)
-    (c .before .if1 .taken) in
+    list-outside (a .file .now) _ (is-map k) (a .slots .now) (length (a .distances .now)) (length (a .entries .now)) _
+    (g .first-outside .ensures) (c .before .if1 .taken) in
     (c .refuse-number .ensures ∙ ap numberAnswer (sym o), (rw o, rw o))
-
-smaller-requires : tie.Need-smaller-requires
-smaller-requires c κs = search needs
 
 refuse-number-requires-2 : tie.Need-refuse-number-requires-2
 refuse-number-requires-2 c κs = search needs
@@ -68,27 +70,25 @@ refuse-number-requires-2 c κs = search needs
 returns-2 : tie.Need-returns-2
 unfolding lookupListBuffer lookupListEntries
 returns-2 c =
-    let t = c .before .before .before in
-    let k = t .before .before .before in
+    let t = c .before .before in
+    let k = t .before .before .before .before in
     let a = k .before .before .before .before .before .before .before .args in
-    let short : min (length (a .distances .now)) (length (a .entries .now)) < length (a .slots .now) =
-    omega (arith, c .before .before .smaller .ensures, c .before .if2 .taken) in
     let o =
     list-short (a .file .now) _ (is-map k) (a .slots .now) (all-inside t) (length (a .distances .now))
-    (length (a .entries .now)) short in
+    (length (a .entries .now)) (ltb-true _ _ (sym (t .before .either-short .ensures) ∙ c .before .if2 .taken)) in
     (c .refuse-number2 .ensures ∙ ap numberAnswer (sym o), (rw o, rw o))
 
 -- both lists are long enough
 fits : (c : tie.Else2)
     → (let a = c .before .before .before .before .before .before .before .before .before .before .before .before .args in
     length (a .slots .now) ≤ min (length (a .distances .now)) (length (a .entries .now)))
-fits c = omega (arith, c .before .smaller .ensures, c .if2 .left)
+fits c = ltb-false _ _ (sym (c .before .before .either-short .ensures) ∙ c .if2 .left)
 
 locate-into-requires : tie.Need-locate-into-requires
 locate-into-requires c κs =
     let x = c .before .before in
-    let t = x .before .before in
-    let k = t .before .before .before in
+    let t = x .before in
+    let k = t .before .before .before .before in
     let a = k .before .before .before .before .before .before .before .args in
     let inside = list-inside (a .file .now) _ (is-map k) (a .slots .now) (all-inside t) in
     (checked _ _ (is-map k), (inside, omega (arith, fits x)))
@@ -111,8 +111,8 @@ returns-4 : tie.Need-returns-4
 returns-4 c =
     let call = c .before .before .before .before in
     let x = call .before .before .before in
-    let t = x .before .before in
-    let k = t .before .before .before in
+    let t = x .before in
+    let k = t .before .before .before .before in
     let a = k .before .before .before .before .before .before .before .args in
     let file = a .file .now in
     let slots = a .slots .now in
@@ -129,9 +129,9 @@ lookup-list-spec =
     enum-known-checked
     enum-known-checked-2
     first-outside-requires
+    either-short-requires
     refuse-number-requires
     returns
-    smaller-requires
     refuse-number-requires-2
     returns-2
     locate-into-requires
