@@ -1,5 +1,5 @@
 -- Laws of the origin of a distance: inline, or an overflow entry by its number (docs/FORMAT.md, "Reading").
---   originOf-entry, -none      the origin that a number tells: an entry below k, and inline
+--   originOf-entry, -none     the origin that a number tells: an entry below k, and inline
 --   originNumber-originOf     the number that tells an origin is the one that it was made of
 --   entryNumber-le            no number is above k
 --   entryIn xs i, originIn xs i    the number and the origin at slot i of a list, from the list alone
@@ -8,7 +8,9 @@
 --                             what is there
 --   lookup-found              so it is
 --   lookup-distance-stays     a lookup is done and refused as one that answers the distance alone, with that distance
---   lookup-list-stays         and so is a list of lookups where the second list holds the numbers
+--   distancesOutcome, lookup-list-stays    and so is a list of lookups, with the same list of distances, where the second
+--                             list is long enough
+--   lookup-list-short         where either is too short, both stay as they were
 --   EntryHas b slot x j, origin-entry    an origin in overflow names an entry of the file, which alone has the slot, and has
 --                             the distance
 --   origin-inline             the origin is inline exactly where the distance is below 255
@@ -20,11 +22,10 @@ use Prim.Native.Nat.{ℕ, _+_, _*_, _≤_, _<_, min}
 use native.Mathlib.Omega.{arith}
 use native.Mathlib.Decide.{decLe}
 use mathlib.Core.Bool.{Bool, true, false, cond}
-use mathlib.Core.List.{List, _++_, map}
+use mathlib.Core.List.{List, map}
 use lib.ListN.{length, getD, drop, length-map, List·getD-map, List·getD-append, List·getD-eq-default}
-use lib.Dec.{leb, ltb, eqb}
+use lib.Dec.{leb, eqb}
 use borrow.Author.Tests.{lt-ltb, le-ltb, le-leb, lt-leb, leb-false, eqb-true}
-use Rattle.pciv_bytes.specs.Ranges.{firstBelow}
 use Rattle.pciv_bytes.specs.LittleEndian.{get, Bytes}
 use Rattle.pciv_bytes.proofs.RangesLaws.{getD-inside, firstBelow-le, firstBelow-has}
 use Rattle.pciv_format.specs.Layout.{inOverflow, overflowCount, at, fileOf, Limits}
@@ -37,14 +38,14 @@ use Rattle.pciv_format.specs.declared.Summary.{Summary}
 use Rattle.pciv_format.specs.declared.Origin.{Origin}
 use Rattle.pciv_format.specs.declared.Origin.the-variants.{Inline, Overflow}
 use Rattle.pciv_format.specs.declared.Located.{Located}
-use Rattle.pciv_format.proofs.PartsLaws.{primaryByte-inline, entry-good, slots-rise, entryOf-slot, entryOf-inline}
-use Rattle.pciv_format.proofs.PartsLaws.{entryOf-past, valueOf-slot, slot-cases}
+use Rattle.pciv_format.proofs.PartsLaws.{primaryByte-inline, entryOf-slot, entryOf-inline, entryOf-past}
+use Rattle.pciv_format.proofs.PartsLaws.{valueOf-slot, slot-cases}
 use Rattle.pciv_format.proofs.RefusalsLaws.{refuseIf-done, refuseFirst-done, andThen-done}
 use Rattle.pciv_format.proofs.LayoutLaws.{overflowSlots-at}
 use Rattle.pciv_format.proofs.CheckLaws.{checked-length}
 use Rattle.pciv_format.proofs.FileLaws.{file-byte, file-slot, file-checked}
 use Rattle.pciv_format.proofs.ReadLaws.{at-listOf, items-fit, items-short}
-use Rattle.pciv_format.proofs.ReadCaseLaws.{checked, lookup-inside}
+use Rattle.pciv_format.proofs.ReadCaseLaws.{checked}
 
 abbrev partsOf : List ℕ → Parts
 partsOf b = fileParts b (nField b) (kField b)
@@ -172,18 +173,54 @@ lookup-distance-stays b slot = file (checkFile 1 b)
     file (done s) = inside (leb (s .n) slot)
     file (refused r) = refl
 
-pub lookup-list-stays : (b slots : List ℕ) (c₁ c₂ : ℕ) → length slots ≤ c₂
-    → lookupListOutcome b slots c₁ c₂
-    ≡ andThen (checkFile 1 b)
-    (λ s. refuseFirst 9 0 (λ (i : ℕ). leb (s .n) (at slots i)) (length slots) (itemsInto (length slots) c₁))
-unfolding lookupListOutcome
-lookup-list-stays b slots c₁ c₂ h =
-    ap (λ (o : Outcome ℕ). andThen (checkFile 1 b)
-    (λ s. refuseFirst 9 0 (λ (i : ℕ). leb (s .n) (at slots i)) (length slots) o))
-    (elim (decLe (length slots) c₁) [
-      | yes d ↦ items-fit (length slots) (min c₁ c₂) (omega arith) ∙ sym (items-fit (length slots) c₁ d)
-      | no d ↦ items-short (length slots) (min c₁ c₂) (omega arith) ∙ sym (items-short (length slots) c₁ (omega arith))
-    ])
+module _ (b slots : List ℕ) where
+  -- the outcome of a list of lookups that answer the distance alone, into a list of c elements
+  abbrev pub distancesOutcome : ℕ → Outcome ℕ
+  distancesOutcome c =
+      andThen (checkFile 1 b)
+      (λ s. refuseFirst 9 0 (λ (i : ℕ). leb (s .n) (at slots i)) (length slots) (itemsInto (length slots) c))
+
+  outcome-stays : (c₁ c₂ : ℕ) → length slots ≤ c₂ → lookupListOutcome b slots c₁ c₂ ≡ distancesOutcome c₁
+  unfolding lookupListOutcome
+  outcome-stays c₁ c₂ h =
+      ap (λ (o : Outcome ℕ). andThen (checkFile 1 b)
+      (λ s. refuseFirst 9 0 (λ (i : ℕ). leb (s .n) (at slots i)) (length slots) o))
+      (elim (decLe (length slots) c₁) [
+        | yes d ↦ items-fit (length slots) (min c₁ c₂) (omega arith) ∙ sym (items-fit (length slots) c₁ d)
+        | no d ↦ items-short (length slots) (min c₁ c₂) (omega arith) ∙ sym (items-short (length slots) c₁ (omega arith))
+      ])
+
+  pub lookup-list-stays : (c₂ : ℕ) (out : List ℕ) → length slots ≤ c₂
+      → (lookupListOutcome b slots (length out) c₂ ≡ distancesOutcome (length out))
+      × (lookupListBuffer b slots c₂ out ≡ written (distancesOutcome (length out)) (map (at (listOf b)) slots) out)
+  unfolding lookupListBuffer
+  lookup-list-stays c₂ out h =
+      let e = outcome-stays (length out) c₂ h in
+      (e, ap (λ (o : Outcome ℕ). written o (map (at (listOf b)) slots) out) e)
+
+  short-refused : (c₁ c₂ : ℕ) → min c₁ c₂ < length slots → (c : ℕ) → lookupListOutcome b slots c₁ c₂ ≡ done c → ⊥
+  unfolding lookupListOutcome
+  short-refused c₁ c₂ h c e =
+      let s = andThen-done (checkFile 1 b) _ c e in
+      let items = refuseFirst-done 9 0 (λ (i : ℕ). leb (s .0 .n) (at slots i)) (length slots) _ c (s .2) .1 in
+      other (sym (items-short (length slots) (min c₁ c₂) h) ∙ items)
+    where
+      other : refuse 12 0 0 ≡ done c → ⊥
+      other q = let z : _≡_ {A = ℕ} 0 1 = cc in omega arith
+
+  pub lookup-list-short : (distances entries : List ℕ) → min (length distances) (length entries) < length slots
+      → (lookupListBuffer b slots (length entries) distances ≡ distances)
+      × (lookupListEntries b slots (length distances) entries ≡ entries)
+  unfolding lookupListBuffer lookupListEntries
+  lookup-list-short distances entries h =
+      go (lookupListOutcome b slots (length distances) (length entries))
+      (short-refused (length distances) (length entries) h)
+    where
+      go : (o : Outcome ℕ) → ((c : ℕ) → o ≡ done c → ⊥)
+          → (written o (map (at (listOf b)) slots) distances ≡ distances)
+          × (written o (map (entryNumber b) slots) entries ≡ entries)
+      go (done c) never = absurd (never c refl)
+      go (refused r) never = (refl, refl)
 
 -- ---- the entry that an origin names
 
