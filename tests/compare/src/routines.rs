@@ -60,8 +60,8 @@ fn refused_file(trial: &mut Trial, rng: &mut Rng) {
     trial.scan(trial.original().len());
     trial.lookup(0);
     trial.lookup(u64::MAX);
-    let (slots, capacity) = ([0, u64::MAX, rng.word()], rng.below(5));
-    trial.lookup_list(rng, &slots, capacity);
+    let (slots, capacities) = ([0, u64::MAX, rng.word()], (rng.below(5), rng.below(5)));
+    trial.lookup_list_in(rng, &slots, capacities);
     let by = rng.pick(&SHIFTS);
     trial.shift(rng, by);
     let t = rng.pick(&THRESHOLDS);
@@ -91,8 +91,8 @@ fn telling_slots(rng: &mut Rng, file: &[u8], summary: &Summary) -> Vec<u64> {
     slots
 }
 
-/// Overflow entries at both ends, a random one, and those about the second and the last index
-/// entry.
+/// Overflow entries at both ends, a random one, and those about the second, the last and a random
+/// index entry.
 fn telling_entries(rng: &mut Rng, summary: &Summary) -> Vec<usize> {
     let k = summary.k as usize;
     if k == 0 {
@@ -101,7 +101,8 @@ fn telling_entries(rng: &mut Rng, summary: &Summary) -> Vec<usize> {
     let step = summary.step as usize;
     let last_indexed = (k - 1) / step.max(1) * step;
     let mut entries = vec![0, k - 1, rng.below(k)];
-    for indexed in [step, last_indexed] {
+    let any_indexed = rng.below(k) / step.max(1) * step;
+    for indexed in [step, any_indexed, last_indexed] {
         entries.extend([indexed.wrapping_sub(1), indexed, indexed + 1]);
     }
     entries.retain(|&entry| entry < k);
@@ -119,17 +120,13 @@ fn overflow_slot(file: &[u8], n: usize, entry: usize) -> u64 {
 fn lookup_lists(trial: &mut Trial, rng: &mut Rng, inside: &[u64], beyond: &[u64]) {
     let mut list = inside.to_vec();
     list.extend((0..inside.len()).map(|_| rng.pick(inside)));
-    for capacity in capacities(rng, list.len()) {
-        trial.lookup_list(rng, &list, capacity);
-        trial.lookup_list(rng, &[], capacity);
-    }
+    trial.lookup_list(rng, &list);
+    trial.lookup_list(rng, &[]);
     for position in [0, list.len() / 2, list.len()] {
         let mut refused = list.clone();
         refused.insert(position, rng.pick(beyond));
-        trial.lookup_list(rng, &refused, refused.len());
+        trial.lookup_list_in(rng, &refused, (refused.len(), refused.len()));
         refused.push(rng.pick(beyond));
-        for capacity in capacities(rng, refused.len()) {
-            trial.lookup_list(rng, &refused, capacity);
-        }
+        trial.lookup_list(rng, &refused);
     }
 }
