@@ -75,7 +75,7 @@ const FAMILIES: [Family; 17] = [
             "edit_list, 1,000 in overflow",
         ],
         often: Often::Stroke,
-        why: "the check, and a search for each slot in overflow; a flat array has one access to memory.",
+        why: "the check, and a search for each slot in overflow; a flat array has one access to memory and no entry to name.",
     },
     Family {
         name: "sum_maps, shift up",
