@@ -4,6 +4,7 @@
 use crate::call::Call;
 use crate::files::encode;
 use crate::judge::Judge;
+use crate::routines::and_beside;
 use crate::run::{Run, Subject};
 use crate::trial::Trial;
 use compare::lists::{self, Spread, SPREADS, STEP_BORDERS};
@@ -52,7 +53,7 @@ pub fn all_stored() -> impl Iterator<Item = (&'static str, Stored)> {
 impl Judge {
     /// Holds what a lookup has found at a slot of a sound file, a distance and the number of its
     /// entry, to the bytes of the file.
-    pub fn stored(&mut self, call: &Call, file: &[u8], slot: u64, (distance, entry): (u32, u64)) {
+    pub fn found(&mut self, call: &Call, file: &[u8], slot: u64, (distance, entry): (u32, u64)) {
         let [n, k] = [8, 16].map(|at| number(&file[at..at + 8]));
         let there = match entry.cmp(&k) {
             Ordering::Less => {
@@ -118,13 +119,10 @@ impl Origins {
             0 => k.max(1),
             step => step as usize,
         };
-        let mut ends = vec![0, self.list.len() as u64 - 1];
-        for block in self.overflow.chunks(step) {
-            ends.extend([block[0], block[block.len() - 1]]);
-        }
-        let beside = |slot: u64| [slot.wrapping_sub(1), slot, slot + 1];
-        let mut slots: Vec<u64> = ends.into_iter().flat_map(beside).collect();
-        slots.retain(|&slot| slot < self.list.len() as u64);
+        let n = self.list.len() as u64;
+        let blocks = self.overflow.chunks(step);
+        let ends = blocks.flat_map(|block| [block[0], block[block.len() - 1]]);
+        let mut slots: Vec<u64> = and_beside(ends.chain([0, n - 1]), n).collect();
         slots.sort_unstable();
         slots.dedup();
         slots

@@ -83,12 +83,16 @@ fn telling_slots(rng: &mut Rng, file: &[u8], summary: &Summary) -> Vec<u64> {
     }
     let mut slots = vec![0, summary.n - 1];
     slots.extend((0..6).map(|_| rng.below(n) as u64));
-    for entry in telling_entries(rng, summary) {
-        let slot = overflow_slot(file, n, entry);
-        slots.extend([slot.wrapping_sub(1), slot, slot + 1]);
-    }
-    slots.retain(|&slot| slot < summary.n);
+    let entries = telling_entries(rng, summary).into_iter();
+    let in_overflow = entries.map(|entry| overflow_slot(file, n, entry));
+    slots.extend(and_beside(in_overflow, summary.n));
     slots
+}
+
+/// Some slots, each between the two beside it, as far as they are below n.
+pub fn and_beside(slots: impl Iterator<Item = u64>, n: u64) -> impl Iterator<Item = u64> {
+    let three = slots.flat_map(|slot| [slot.wrapping_sub(1), slot, slot + 1]);
+    three.filter(move |&slot| slot < n)
 }
 
 /// Overflow entries at both ends, a random one, and those about the second, the last and a random

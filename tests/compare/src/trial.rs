@@ -63,7 +63,7 @@ impl<'a> Trial<'a> {
                 raw::lookup(self.file.contents(), slot, distance, entry, refusal)
             });
         if let Some(found) = found {
-            self.judge.stored(&call, self.file.original(), slot, found);
+            self.judge.found(&call, self.file.original(), slot, found);
         }
         self.settle(&call);
         let call = Call::new("lookup", format!(" of slot {slot} from Rust"));
@@ -103,7 +103,7 @@ impl<'a> Trial<'a> {
             let found = distances.contents().iter().zip(entries.contents());
             for (&slot, (&distance, &entry)) in slots.original().iter().zip(found) {
                 let file = self.file.original();
-                self.judge.stored(&call, file, slot, (distance, entry));
+                self.judge.found(&call, file, slot, (distance, entry));
             }
         }
         slots.settle(self.judge, &call, "the list of slots");
