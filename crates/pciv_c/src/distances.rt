@@ -24,26 +24,19 @@ fn header_k(file: &[u8]) -> usize
     get64(file, 16)
 }
 
-// `number` is the cell of the overflow entry's number.
 #[no_mangle]
 pub extern "C" fn pciv_lookup(
     file: &[u8],
     slot: usize,
     distance: &mut u32,
-    number: &mut usize,
+    entry: &mut usize,
     refusal: &mut [usize; 3],
 ) -> usize
     ensures told { λ r. ⌜ ToldLocated (kField (now (file .entry))) (lookupOutcome (now (file .entry)) slot)
-        r (now (distance .entry)) (now (distance .exit)) (now (number .entry)) (now (number .exit))
+        r (now (distance .entry)) (now (distance .exit)) (now (entry .entry)) (now (entry .exit))
         (now (refusal .exit)) ⌝ }
 {
-    tell_located(
-        lookup(file, slot),
-        header_k(file),
-        distance,
-        number,
-        refusal,
-    )
+    tell_located(lookup(file, slot), header_k(file), distance, entry, refusal)
 }
 
 #[no_mangle]

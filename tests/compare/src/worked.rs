@@ -139,7 +139,7 @@ const fn row(case: &'static str, calls: fn(&mut Judge)) -> Row {
     Row { case, calls }
 }
 
-const ROWS: [Row; 21] = [
+const ROWS: [Row; 22] = [
     row("empty map", empty_map),
     row("primary array of A", primary_of_a),
     row("overflow entries of A", entries_of_a),
@@ -240,6 +240,7 @@ const ROWS: [Row; 21] = [
             selects(judge, "near_mask", raw::near_mask, (&bytes(A), t), &[mask])
         }
     }),
+    row("lookup of A at slots 3, 0, 3, 2", lookups_of_a),
 ];
 
 fn worked_examples(run: &mut Run) {
@@ -302,14 +303,8 @@ fn primary_of_a(judge: &mut Judge) {
     judge.same_buffer(&"primary", primary, pciv::primary(&file));
 }
 
-fn entries_of_a(judge: &mut Judge) {
+fn lookups_of_a(judge: &mut Judge) {
     let file = bytes(A);
-    for (slot, found) in [(0, (0, 2)), (1, (254, 2)), (2, (255, 0)), (3, (300, 1))] {
-        let call = Call::new("lookup", format!(" of slot {slot}"));
-        judge.value(&call, Ok(found), |(distance, entry), refusal| {
-            raw::lookup(&file, slot, distance, entry, refusal)
-        });
-    }
     judge.buffers(
         &Call::new("lookup_list", " of slots 3, 0, 3, 2"),
         (5, 6),
@@ -322,6 +317,16 @@ fn entries_of_a(judge: &mut Judge) {
             raw::lookup_list(&file, &[3, 0, 3, 2], distances, entries, count, refusal)
         },
     );
+}
+
+fn entries_of_a(judge: &mut Judge) {
+    let file = bytes(A);
+    for (slot, found) in [(0, (0, 2)), (1, (254, 2)), (2, (255, 0)), (3, (300, 1))] {
+        let call = Call::new("lookup", format!(" of slot {slot}"));
+        judge.value(&call, Ok(found), |(distance, entry), refusal| {
+            raw::lookup(&file, slot, distance, entry, refusal)
+        });
+    }
     let (primary, slots, distances) = ([0x00, 0xFE, 0xFF, 0xFF], [2, 3], [255, 300]);
     writes(
         judge,
