@@ -1,7 +1,8 @@
 -- The outcome that an answer stands for is the one that it was made of, so a call tells the outcome that its routine's
 -- contract names.
 --   file-outcome                  the outcome of such an answer
---   told-file, told-number, told-located, told-figure    what a call tells; a lookup that is refused tells no k
+--   told-file, told-number, told-located, told-figure    what a call tells; told-located asks for the file's k only where
+--                                 the lookup is done
 -- Axioms: none.
 use mathlib.Core.Path.{_≡_, refl, ap, _∙_}
 use mathlib.Core.List.{List}

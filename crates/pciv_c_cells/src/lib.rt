@@ -70,18 +70,18 @@ pub fn tell_located(
     a: LookupAnswer,
     k: usize,
     distance: &mut u32,
-    number: &mut usize,
+    entry: &mut usize,
     refusal: &mut [usize; 3],
 ) -> usize
     ensures told { λ r. ⌜ ToldLocated k (locatedOutcome a)
-        r (now (distance .entry)) (now (distance .exit)) (now (number .entry)) (now (number .exit))
+        r (now (distance .entry)) (now (distance .exit)) (now (entry .entry)) (now (entry .exit))
         (now (refusal .exit)) ⌝ }
 {
     match a {
         LookupAnswer::Found(found) => {
             let origin = found.origin;
             *distance = found.distance;
-            *number = origin_number(origin, k);
+            *entry = origin_number(origin, k);
             tell_done(refusal)
         }
         LookupAnswer::Refused(r) => tell_refused(r, refusal),

@@ -1,11 +1,11 @@
 -- The worked examples of docs/FORMAT.md, proved for the definitions by computing them.
 --   A, B        the two maps of "Worked examples";  M  64 slots at 1 and one at 300;  ones  a word of set bits
---   primaryOfA  the primary array of A
---   counts, setTo, Gives, LengthRow    short forms of what the statements repeat
+--   primaryOfA, lookedUp    the primary array of A; slots of A that are looked up
+--   counts, found, setTo, Gives, LengthRow    short forms of what the statements repeat
 --   cases       the cases that "Worked examples" marks as proved, under one statement: a component for each
 --   lengths     the table of "Derived counts"
---   further     the near masks and shifts of "Worked examples", cases of the routines that these leave out, the readings
---               of a primary array, edits before other bytes, and masks of more than a word
+--   further     the near masks, shifts and lookups of "Worked examples", cases of the routines that these leave out, the
+--               readings of a primary array, edits before other bytes, and masks of more than a word
 --   examples    the other cases of "Worked examples", and texts of "The report program"
 -- A caller's buffer or list holds 7 in each place, so that what is left unchanged shows. Axioms: none.
 use mathlib.Core.Path.{_≡_, refl}
@@ -197,8 +197,8 @@ abbrev pub lookedUp : List ℕ
 lookedUp = 3 ∷ 0 ∷ 3 ∷ 2 ∷ []
 
 pub further :
-    -- lookups of slots 1 and 4 of A; of slots 3, 0, 3, 2, the numbers with k = 2 for slot 0; with a slot outside; with either
-    -- list too short; of no slots; of a map without overflow entries
+    -- lookups of slots 1 and 4 of A; of slots 3, 0, 3, 2, the numbers with k = 2 for slot 0; with a slot outside; with
+    -- either list too short; of no slots; of a map without overflow entries
     ((lookupOutcome (fileOf A) 1 ≡ done (found 254 Inline)) × (lookupOutcome (fileOf A) 4 ≡ refuse 9 0 0))
     × ((lookupListOutcome (fileOf A) lookedUp 5 4 ≡ done 4)
     × (lookupListBuffer (fileOf A) lookedUp 4 (7 ∷ 7 ∷ 7 ∷ 7 ∷ 7 ∷ []) ≡ 300 ∷ 0 ∷ 300 ∷ 255 ∷ 7 ∷ [])
@@ -286,7 +286,8 @@ unfolding
     keepMaskedOutcome keepMaskedBuffer incrementMaskedOutcome incrementMaskedBuffer
     quotient countAt jaccardOutcome ofBits ofInt div shiftedBy shiftOutcome shiftBuffer
     signedDifferences signedDifferenceOutcome signedDifferenceList xor
-    lookupOutcome lookupListOutcome lookupListBuffer lookupListEntries scanOutcome scanBuffer writeOutcome writeBuffer closeOutcome closeBuffer
+    lookupOutcome lookupListOutcome lookupListBuffer lookupListEntries scanOutcome scanBuffer
+    writeOutcome writeBuffer closeOutcome closeBuffer
     plainOutcome editedFile editOutcome replaced editBuffer
     plainStart plainStep plainRun plainOutcomes bufferOf answerCells allCells editsOf
     editListOutcome editListBuffer editListAnswers

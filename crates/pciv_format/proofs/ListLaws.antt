@@ -43,7 +43,8 @@ use Rattle.pciv_format.specs.Parts.{Parts, badEntry, badSlot, valueOf, S
 use Rattle.pciv_format.specs.Check.{fileParts, checkFile}
 use Rattle.pciv_format.specs.Read.{listOf, primaryPart, behind, primaryPlace, lookupOutcome}
 use Rattle.pciv_format.specs.Read.{entryNumber, itemsInto, lookupListOutcome, lookupListBuffer}
-use Rattle.pciv_format.specs.Read.{lookupListEntries, scanOutcome, scanBuffer, total, readings, sumOutcome, readingsOutcome}
+use Rattle.pciv_format.specs.Read.{lookupListEntries, scanOutcome, scanBuffer, total, readings}
+use Rattle.pciv_format.specs.Read.{sumOutcome, readingsOutcome}
 use Rattle.pciv_format.specs.Write.{fileInto, mapInto, writeOutcome, writeBuffer, closeParts}
 use Rattle.pciv_format.specs.Write.{closeOutcome, closeBuffer}
 use Rattle.pciv_format.specs.Mask.{maskLen, maskHas, maskOf, badMask, holds, isNear, selectOutcome}
@@ -109,7 +110,8 @@ module _ (xs : List ℕ) (l : Limits xs) where
 
   pub file-lookup : (slot : ℕ)
       → lookupOutcome (fileOf xs) slot
-      ≡ refuseIf (leb (length xs) slot) (refuse 9 0 0) (done (record { distance = at xs slot; origin = originIn xs slot }))
+      ≡ refuseIf (leb (length xs) slot) (refuse 9 0 0)
+      (done (record { distance = at xs slot; origin = originIn xs slot }))
   unfolding lookupOutcome summary countsOf
   file-lookup slot =
       rw (

@@ -4,15 +4,15 @@
 --   entryNumber-le            no number is above k
 --   entryIn xs i, originIn xs i    the number and the origin at slot i of a list, from the list alone
 --   file-entryNumber, originOf-entryIn    they are those of its file
---   Found b slot a            what a lookup that is done says: b has a header and sound parts, the slot is inside, and a is
---                             what is there
+--   Found b slot a            what a lookup that is done says: b has a header and sound parts, the slot is inside, and a
+--                             is what is there
 --   lookup-found              so it is
 --   lookup-distance-stays     a lookup is done and refused as one that answers the distance alone, with that distance
---   distancesOutcome, lookup-list-stays    and so is a list of lookups, with the same list of distances, where the second
---                             list is long enough
+--   distancesOutcome, lookup-list-stays    and so is a list of lookups, with the same list of distances, where the
+--                             second list is long enough
 --   lookup-list-short         where either is too short, both stay as they were
---   EntryHas b slot x j, origin-entry    an origin in overflow names an entry of the file, which alone has the slot, and has
---                             the distance
+--   EntryHas b slot x j, origin-entry    an origin in overflow names an entry of the file, which alone has the slot, and
+--                             has the distance
 --   origin-inline             the origin is inline exactly where the distance is below 255
 --   lookup-list-each          each element of both lists is what a lookup of its slot answers
 -- Axioms: none.
@@ -86,7 +86,8 @@ overflow-inside xs i h =
       | no inside ↦ omega arith
     ]
 
-pub originOf-entryIn : (xs : List ℕ) (i : ℕ) → originOf (overflowCount (length xs) (at xs)) (entryIn xs i) ≡ originIn xs i
+pub originOf-entryIn : (xs : List ℕ) (i : ℕ)
+    → originOf (overflowCount (length xs) (at xs)) (entryIn xs i) ≡ originIn xs i
 originOf-entryIn xs i =
     elim (decLe 255 (at xs i)) [
       | yes d ↦ rw (le-leb 255 (at xs i) d)
@@ -151,7 +152,7 @@ lookup-found b slot a e =
     same-done : {x y : Located} → _≡_ {A = Outcome Located} (done x) (done y) → x ≡ y
     same-done q = cc
 
--- ---- no distance moves
+-- ---- the distance alone
 
 pub lookup-distance-stays : (b : List ℕ) (slot : ℕ)
     → andThen (lookupOutcome b slot) (λ a. done (a .distance))
@@ -271,10 +272,12 @@ origin-inline b slot a bytes e =
     slot-cases P (f .sound) (λ i. bytes (40 + i)) slot (f .inside)
     (λ small value. (
       λ q. omega arith,
-      λ q. originIs ∙ originOf-none (kField b) (entryNumber b slot) (omega (arith, entryOf-inline P (f .sound) slot small)),
+      λ q. originIs ∙ originOf-none (kField b) _ (omega (arith, entryOf-inline P (f .sound) slot small)),
     ))
     (λ j h is full value overflows. (
-      λ q. absurd (other j (sym (originIs ∙ ap (originOf (kField b)) (number j h is) ∙ originOf-entry (kField b) j h) ∙ q)),
+      λ q.
+          absurd (other j
+          (sym (originIs ∙ ap (originOf (kField b)) (number j h is) ∙ originOf-entry (kField b) j h) ∙ q)),
       λ q. absurd (omega arith),
     ))
   where
@@ -298,7 +301,8 @@ module _ (b slots distances entries : List ℕ) (c : ℕ)
       ∙ List·getD-map f slots i 0
 
   found : (i : ℕ) → i < length slots
-      → lookupOutcome b (at slots i) ≡ done (located (at (listOf b) (at slots i)) (kField b) (entryNumber b (at slots i)))
+      → (let slot = at slots i in
+      lookupOutcome b slot ≡ done (located (at (listOf b) slot) (kField b) (entryNumber b slot)))
   unfolding lookupListOutcome lookupOutcome
   found i h =
       let s = andThen-done (checkFile 1 b) _ c e in
@@ -314,5 +318,6 @@ module _ (b slots distances entries : List ℕ) (c : ℕ)
     _,
     found i h,
     rw e (element (at (listOf b)) distances i h),
-    rw e (element (entryNumber b) entries i h) ∙ sym (originNumber-originOf (kField b) (entryNumber b (at slots i)) (entryNumber-le b (at slots i))),
+    rw e (element (entryNumber b) entries i h)
+        ∙ sym (originNumber-originOf (kField b) (entryNumber b (at slots i)) (entryNumber-le b (at slots i))),
   )

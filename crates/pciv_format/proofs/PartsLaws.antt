@@ -6,7 +6,7 @@
 --   entry-at, entries-rise      where every entry is right: each of them, and that the slots rise
 --   entry-good, slots-rise      the same of sound parts
 --   entryOf-slot, valueOf-slot  the entry and the distance at an entry's slot
---   entryOf-none, -inline, -past    a slot has no entry: none that is its own, a byte below 255, past the last slot
+--   entryOf-none, -inline, -past    k for a slot that no entry has, with a byte below 255, past the last slot
 --   slot-entry                  a slot with byte 255 has an entry
 --   valueOf-inline, slot-cases  the distance of a slot that is stored inline; what is known of any slot
 --   primaryByte-valueOf, valueOf-le    the primary byte of the distance, and the largest distance
@@ -127,6 +127,13 @@ module _ (P : Parts) (right : EntriesRight P) where
   pub entries-rise : (j t : ℕ) → j < t → t < P .k → P .slot j < P .slot t
   entries-rise = rises (P .slot) (P .k) (λ j h. omega (arith, entry-at (suc j) h .above))
 
+-- ---- a slot that no entry has
+
+pub entryOf-none : (P : Parts) (i : ℕ) → ((j : ℕ) → j < P .k → P .slot j ≡ i → ⊥) → entryOf P i ≡ P .k
+unfolding entryOf
+entryOf-none P i none =
+    firstBelow-none (λ (j : ℕ). eqb (P .slot j) i) (P .k) (λ j h. ne-eqb (P .slot j) i (none j h))
+
 -- ---- what sound parts satisfy
 
 module _ (P : Parts) (s : SoundParts P) where
@@ -149,17 +156,11 @@ module _ (P : Parts) (s : SoundParts P) where
   unfolding valueOf
   valueOf-slot j h = rw (entry-good j h .marked, entryOf-slot j h)
 
-  -- a slot that no entry has
-  pub entryOf-none : (i : ℕ) → ((j : ℕ) → j < P .k → P .slot j ≡ i → ⊥) → entryOf P i ≡ P .k
-  unfolding entryOf
-  entryOf-none i none =
-      firstBelow-none (λ (j : ℕ). eqb (P .slot j) i) (P .k) (λ j h. ne-eqb (P .slot j) i (none j h))
-
   pub entryOf-inline : (i : ℕ) → P .byte i < 255 → entryOf P i ≡ P .k
-  entryOf-inline i small = entryOf-none i (λ j h e. omega (arith, entry-good j h .marked, ap (P .byte) e))
+  entryOf-inline i small = entryOf-none P i (λ j h e. omega (arith, entry-good j h .marked, ap (P .byte) e))
 
   pub entryOf-past : (i : ℕ) → P .n ≤ i → entryOf P i ≡ P .k
-  entryOf-past i past = entryOf-none i (λ j h e. omega (arith, entry-good j h .inside))
+  entryOf-past i past = entryOf-none P i (λ j h e. omega (arith, entry-good j h .inside))
 
   -- a slot with byte 255 has an entry
   pub slot-entry : (i : ℕ) → i < P .n → P .byte i ≡ 255 → (j : ℕ) × (j < P .k) × (P .slot j ≡ i)

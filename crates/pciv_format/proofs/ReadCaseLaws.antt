@@ -135,7 +135,8 @@ module _ (b : List ℕ) (s : Summary) (e : checkFile 1 b ≡ done s) where
           → sets out 0 (map (valueOf (fileParts b (s .n) (s .k))) slots) ≡ lookupListBuffer b slots c₂ out
       unfolding lookupListBuffer
       list-buffer c₂ out h =
-          rw (list-done (length out) c₂ h) (front (at (listOf b)) (valueOf (fileParts b (s .n) (s .k))) at-slot out (omega arith))
+          rw (list-done (length out) c₂ h)
+          (front (at (listOf b)) (valueOf (fileParts b (s .n) (s .k))) at-slot out (omega arith))
 
       pub list-entries : (c₁ : ℕ) (out : List ℕ) → length slots ≤ min c₁ (length out)
           → sets out 0 (map (entryOf (fileParts b (s .n) (s .k))) slots) ≡ lookupListEntries b slots c₁ out

@@ -1,13 +1,13 @@
 -- What the reading routines answer (docs/FORMAT.md, "Reading").
 --   valueAt b i      the distance that a file b has at slot i
 --   listOf b         the list that a file b is read as
---   entryNumber b i  the number of the overflow entry of slot i in a file b, or k
---   originOf k j, originNumber k o    the origin that the number j tells, of k entries; the number that tells the origin o
---   located x k j    distance x with that origin
 --   primaryPart b    the primary bytes of b, a part of b; empty where b is refused
 --   onlyDone o l, bytesBefore o    l, or nothing where o is a refusal; the bytes before the primary part
 --   behind i p       the place i bytes behind the place p
 --   primaryPlace b p    where the primary part of b starts, if b starts at p
+--   entryNumber b i  the number of the overflow entry of slot i in a file b, or k
+--   originOf k j, originNumber k o    the origin that the number j tells, of k entries; the number that tells the origin o
+--   located x k j    distance x with the origin that j tells
 --   itemsInto c capacity     c items into a list that holds `capacity` of them: how many, or refusal 12
 --   lookupOutcome            one slot
 --   lookupListOutcome        a list of slots, into lists of c₁ and c₂ elements
@@ -15,8 +15,8 @@
 --   scanOutcome, scanBuffer  all slots, into a list
 --   total xs, readings xs    the sum of all distances, and how many are not 0; of bytes likewise
 --   sumOutcome, readingsOutcome    these of a file
--- Laws are in proofs/ReadLaws.antt, of readings in proofs/ReadingsLaws.antt, of the outcomes case by case in
--- proofs/ReadCaseLaws.antt. Axioms: none.
+-- Laws are in proofs/ReadLaws.antt, of readings in proofs/ReadingsLaws.antt, of origins in proofs/OriginLaws.antt, of the
+-- outcomes case by case in proofs/ReadCaseLaws.antt. Axioms: none.
 use Prim.Native.Nat.{ℕ, _+_, min}
 use mathlib.Core.Bool.{not, cond}
 use mathlib.Core.List.{List, [], map}

@@ -73,7 +73,7 @@ pub enum NumberAnswer {
     Refused(Refusal),
 }
 
-// Where a distance is stored: inline, in the primary array, or in the overflow entry with this number.
+// Where a distance is stored: `Inline` in the primary array, `Overflow` in the overflow entry with this number, from 0.
 pub enum Origin {
     Inline,
     Overflow(usize),

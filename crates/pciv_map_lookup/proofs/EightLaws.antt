@@ -198,9 +198,15 @@ pub filling-start : (g : ℕ → ℕ) (ps d : List ℕ) (c : ℕ) → Filling g 
 filling-start g ps d c = record { same = refl; left = refl }
 
 module _ {g : ℕ → ℕ} {ps d₀ d : List ℕ} {c q : ℕ} (long : c ≤ length ps) (f : Filling g ps d₀ d c q) where
-  pub filling-more : (x : ℕ) → q < c → x ≡ g (getD ps q 0) → Filling g ps d₀ (set d (getD ps q 0) x) c (q + 1)
-  filling-more x h e =
-      record { same = simp length-set (f .same); left = f .left ∙ setsAt-more g ps d c q x long h e }
+  pub filling-more : (d' : List ℕ) (x : ℕ) → d' ≡ set d (getD ps q 0) x → q < c → x ≡ g (getD ps q 0)
+      → Filling g ps d₀ d' c (q + 1)
+  filling-more d' x is h e =
+      record {
+        same = ap length is ∙ simp length-set (f .same);
+        left = f .left
+            ∙ setsAt-more g ps d c q x long h e
+            ∙ ap (setsAt g (drop (q + 1) (take c ps))) (sym is);
+      }
 
   pub filling-end : c ≤ q → d ≡ setsAt g (take c ps) d₀
   filling-end h = sym (f .left ∙ setsAt-end g ps d c q long h)

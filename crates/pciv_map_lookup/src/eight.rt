@@ -2,10 +2,11 @@
 // a turn of a search leaves as many entries whatever the slot, and the loads of a turn do not wait for each other.
 // Searches and places are defined in specs/Eight.antt.
 ghost use mathlib.Core.Path.{_≡_};
-ghost use Prim.Native.Nat.{_-_, _/_, _^_, _≤_, _<_};
+ghost use Prim.Native.Nat.{_+_, _-_, _*_, _/_, _^_, _≤_, _<_};
 ghost use lib.Dec.{leb};
-ghost use lib.ListN.{length, take};
+ghost use lib.ListN.{length, set, take};
 ghost use Rattle.pciv_bytes.specs.Ranges.{flag};
+ghost use Rattle.pciv_bytes.specs.LittleEndian.{get};
 ghost use Rattle.pciv_format.specs.Parts.{entryOf, valueOf};
 ghost use Rattle.pciv_format.specs.Check.{fileParts, CheckedMap};
 ghost use Rattle.pciv_map_lookup.specs.Eight.{Eight, OverflowPlaces, atPlace, setsAt};
@@ -63,6 +64,25 @@ fn entries8(file: &[u8], n: usize, k: usize, slots: &[usize], places: &[usize; 8
     first
 }
 
+// Overflow entry j, to a place of the caller's lists: its distance, and its number.
+fn put_entry(
+    distances: &mut [u32],
+    entries: &mut [usize],
+    place: usize,
+    file: &[u8],
+    n: usize,
+    j: usize,
+)
+    requires { ⌜ (place < length (now distances)) × (place < length (now entries)) ⌝ }
+    requires { ⌜ 40 + n + 12 * j + 12 ≤ length (now file) ⌝ }
+    ensures { λ _. ⌜ now (distances .exit)
+        ≡ set (now (distances .entry)) place (get 4 (now (file .entry)) (40 + n + 12 * j + 8)) ⌝ }
+    ensures { λ _. ⌜ now (entries .exit) ≡ set (now (entries .entry)) place j ⌝ }
+{
+    distances[place] = entry_distance(file, n, j);
+    entries[place] = j;
+}
+
 // The distances and entries of eight slots in overflow, to their places in the caller's lists.
 pub(crate) fn locate8(
     distances: &mut [u32],
@@ -87,9 +107,7 @@ pub(crate) fn locate8(
     let mut q = 0;
     while q < 8 {
         let place = places[q];
-        let j = found[q];
-        distances[place] = entry_distance(file, n, j);
-        entries[place] = j;
+        put_entry(distances, entries, place, file, n, found[q]);
         q += 1;
     }
 }
@@ -120,8 +138,7 @@ pub(crate) fn locate_few(
     while q < count {
         let place = places[q];
         let j = entry_of(file, n, k, slots[place]);
-        distances[place] = entry_distance(file, n, j);
-        entries[place] = j;
+        put_entry(distances, entries, place, file, n, j);
         q += 1;
     }
 }

@@ -1,6 +1,6 @@
 // The distance at a slot of a checked map and where it is stored, through the sparse index where there is one; of a
-// list of slots in `list`. What is counted is defined in specs/Lookup.antt, and a slot's distance and entry in
-// pciv_format, specs/Parts.antt.
+// list of slots in `list`. What is counted is defined in specs/Lookup.antt; in pciv_format, a slot's distance and entry
+// in specs/Parts.antt, and its origin in specs/Read.antt.
 mod eight;
 pub mod list;
 

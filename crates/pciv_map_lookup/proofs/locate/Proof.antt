@@ -5,7 +5,6 @@ use native.Mathlib.Omega.{arith}
 use borrow.Author.Needs.{needs}
 use Rattle.pciv_format.specs.Check.{fileParts}
 use Rattle.pciv_format.specs.declared.Origin.the-variants.{Overflow}
-use Rattle.pciv_format.specs.declared.Located.{Located}
 use Rattle.pciv_map_lookup.proofs.LookupLaws.{valueOf-entry, located-inline, located-entry}
 use Rattle.pciv_format.proofs.MapLaws.{primary-inside, entry-inside}
 use Rattle.pciv_map_lookup.proofs.locate.Statement.{statement}

@@ -1,6 +1,6 @@
 -- Proves pciv_map_lookup::eight::locate8. Invariant: in both lists the places from q on are left. Falls: 8 - q.
 use mathlib.Core.Path.{_≡_, sym, _∙_}
-use Prim.Native.Nat.{ℕ, _-_, _≤_, _<_}
+use Prim.Native.Nat.{_-_, _≤_, _<_}
 use native.Mathlib.Omega.{arith}
 use lib.ListN.{length, getD}
 use borrow.Author.Needs.{needs}
@@ -54,30 +54,20 @@ mul-place c = search needs
 element-copy-out-place : tie.Need-element-copy-out-place Inv-loop μ-loop
 element-copy-out-place c = search needs
 
-mul-j : tie.Need-mul-j Inv-loop μ-loop
-mul-j c = search needs
+mul-put-entry : tie.Need-mul-put-entry Inv-loop μ-loop
+mul-put-entry c = search needs
 
-array-read-j : tie.Need-array-read-j Inv-loop μ-loop
-array-read-j c = search needs
+array-read-put-entry : tie.Need-array-read-put-entry Inv-loop μ-loop
+array-read-put-entry c = search needs
 
-entry-distance-requires : tie.Need-entry-distance-requires Inv-loop μ-loop
-entry-distance-requires c κs = entry-inside _ _ _ (entered (c .before) .pre .0) _ (entry (c .before) .0)
-
-mul-distances : tie.Need-mul-distances Inv-loop μ-loop
-mul-distances c = omega (arith, overflows (c .before .before) .before)
-
-slice-write-distances : tie.Need-slice-write-distances Inv-loop μ-loop
-slice-write-distances c =
-    let in-loop = c .before .before in
-    omega (arith, overflows in-loop .before, in-loop .before .loop .inv .1 .same)
-
-mul-entries : tie.Need-mul-entries Inv-loop μ-loop
-mul-entries c = omega (arith, overflows (c .before .before) .before)
-
-slice-write-entries : tie.Need-slice-write-entries Inv-loop μ-loop
-slice-write-entries c =
-    let in-loop = c .before .before in
-    omega (arith, overflows in-loop .before, in-loop .before .loop .inv .2 .same)
+put-entry-requires : tie.Need-put-entry-requires Inv-loop μ-loop
+put-entry-requires c κs =
+    let in-loop = c .before .before .before in
+    let inv = in-loop .before .loop .inv in
+    let place = overflows in-loop .before in (
+      (omega (arith, place, inv .1 .same), omega (arith, place, inv .2 .same)),
+      entry-inside _ _ _ (entered in-loop .pre .0) _ (entry in-loop .0),
+    )
 
 add-q : tie.Need-add-q Inv-loop μ-loop
 add-q c = search needs
@@ -87,13 +77,15 @@ loop-less c = search needs
 
 loop-again : tie.Need-loop-again Inv-loop μ-loop
 loop-again c =
-    let in-loop = c .before .before in
+    let call = c .before .before .before .before in
+    let in-loop = call .before .before .before .before in
     let inv = in-loop .before .loop .inv in
     let long = entered in-loop .pre .1 .0 .long in
-    let taken = in-loop .loop-test .taken in (
+    let taken = in-loop .loop-test .taken in
+    let put = call .put-entry .ensures in (
       omega arith,
-      filling-more long (inv .1) _ taken (c .entry-distance .ensures ∙ sym (entry in-loop .1)),
-      filling-more long (inv .2) _ taken (sym (entry in-loop .2)),
+      filling-more long (inv .1) _ _ (put .0) taken (sym (entry in-loop .1)),
+      filling-more long (inv .2) _ _ (put .1) taken (sym (entry in-loop .2)),
     )
 
 same-length : tie.Need-same-length Inv-loop μ-loop
@@ -118,13 +110,9 @@ locate8-spec =
     loop-holds
     mul-place
     element-copy-out-place
-    mul-j
-    array-read-j
-    entry-distance-requires
-    mul-distances
-    slice-write-distances
-    mul-entries
-    slice-write-entries
+    mul-put-entry
+    array-read-put-entry
+    put-entry-requires
     add-q
     loop-less
     loop-again

@@ -1,6 +1,6 @@
 -- Proves pciv_map_lookup::eight::locate_few. Invariant: in both lists the places from q on are left. Falls: count - q.
 use mathlib.Core.Path.{_≡_, sym, _∙_}
-use Prim.Native.Nat.{ℕ, _-_, _≤_, _<_}
+use Prim.Native.Nat.{_-_, _≤_, _<_}
 use native.Mathlib.Omega.{arith}
 use lib.ListN.{length, getD}
 use borrow.Author.Needs.{needs}
@@ -59,26 +59,15 @@ shared-slice-read-entry-of c = overflows (c .before .before) .before
 entry-of-requires : tie.Need-entry-of-requires Inv-loop μ-loop
 entry-of-requires c κs = entered (c .before .before) .pre .0
 
-entry-distance-requires : tie.Need-entry-distance-requires Inv-loop μ-loop
-entry-distance-requires c κs =
-    let in-loop = c .before .before .before in
-    entry-inside _ _ _ (entered in-loop .pre .0) _ (omega (arith, entry in-loop .0, c .entry-of .ensures))
-
-mul-distances : tie.Need-mul-distances Inv-loop μ-loop
-mul-distances c = omega (arith, overflows (c .before .before .before .before) .before)
-
-slice-write-distances : tie.Need-slice-write-distances Inv-loop μ-loop
-slice-write-distances c =
-    let in-loop = c .before .before .before .before in
-    omega (arith, overflows in-loop .before, in-loop .before .loop .inv .1 .same)
-
-mul-entries : tie.Need-mul-entries Inv-loop μ-loop
-mul-entries c = omega (arith, overflows (c .before .before .before .before) .before)
-
-slice-write-entries : tie.Need-slice-write-entries Inv-loop μ-loop
-slice-write-entries c =
-    let in-loop = c .before .before .before .before in
-    omega (arith, overflows in-loop .before, in-loop .before .loop .inv .2 .same)
+put-entry-requires : tie.Need-put-entry-requires Inv-loop μ-loop
+put-entry-requires c κs =
+    let in-loop = c .before .before .before .before .before in
+    let inv = in-loop .before .loop .inv in
+    let place = overflows in-loop .before in (
+      (omega (arith, place, inv .1 .same), omega (arith, place, inv .2 .same)),
+      entry-inside _ _ _ (entered in-loop .pre .0) _
+          (omega (arith, entry in-loop .0, c .before .before .entry-of .ensures)),
+    )
 
 add-q : tie.Need-add-q Inv-loop μ-loop
 add-q c = search needs
@@ -88,13 +77,17 @@ loop-less c = search needs
 
 loop-again : tie.Need-loop-again Inv-loop μ-loop
 loop-again c =
-    let in-loop = c .before .before .before .before in
+    let call = c .before .before .before .before in
+    let searched = call .before .before .before in
+    let in-loop = searched .before .before .before in
     let inv = in-loop .before .loop .inv in
     let long = entered in-loop .pre .1 .0 .1 .long in
-    let taken = in-loop .loop-test .taken in (
+    let taken = in-loop .loop-test .taken in
+    let j = searched .entry-of .ensures in
+    let put = call .put-entry .ensures in (
       omega arith,
-      filling-more long (inv .1) _ taken (c .entry-distance .ensures ∙ rw (c .before .entry-of .ensures) (sym (entry in-loop .1))),
-      filling-more long (inv .2) _ taken (c .before .entry-of .ensures ∙ sym (entry in-loop .2)),
+      filling-more long (inv .1) _ _ (put .0) taken (rw j (sym (entry in-loop .1))),
+      filling-more long (inv .2) _ _ (put .1) taken (j ∙ sym (entry in-loop .2)),
     )
 
 same-length : tie.Need-same-length Inv-loop μ-loop
@@ -121,11 +114,7 @@ locate-few-spec =
     mul-entry-of
     shared-slice-read-entry-of
     entry-of-requires
-    entry-distance-requires
-    mul-distances
-    slice-write-distances
-    mul-entries
-    slice-write-entries
+    put-entry-requires
     add-q
     loop-less
     loop-again
