@@ -127,8 +127,7 @@ uint64_t pciv_scan(const uint8_t *file, size_t file_len, uint32_t *distances, si
 
 #elif FAULT == lookup_list_writes_behind || FAULT == lookup_list_inline_zero || \
     FAULT == lookup_list_one_length
-/* The element behind an exact list of distances is written as it was. The number of an inline distance
-   is 0. The list of entries is judged by the length of the other list. */
+/* Three faults of one function, each at its place. */
 uint64_t exact_pciv_lookup_list(const uint8_t *, size_t, const uint64_t *, size_t, uint32_t *,
                                 size_t, uint64_t *, size_t, uint64_t *, pciv_refusal *);
 
@@ -137,13 +136,16 @@ uint64_t pciv_lookup_list(const uint8_t *file, size_t file_len, const uint64_t *
                           uint64_t *entries, size_t entries_len, uint64_t *count,
                           pciv_refusal *refusal)
 {
+    /* The list of entries is judged by the length of the other list. */
     size_t len = FAULT == lookup_list_one_length ? distances_len : entries_len;
     uint64_t number = exact_pciv_lookup_list(file, file_len, slots, slots_len, distances,
                                              distances_len, entries, len, count, refusal);
+    /* The element behind the list of distances is written as it was. */
     if (number == PCIV_OK && FAULT == lookup_list_writes_behind) {
         volatile uint32_t *behind = distances + distances_len;
         *behind = *behind;
     }
+    /* The number of an inline distance is 0. */
     if (number == PCIV_OK && FAULT == lookup_list_inline_zero)
         for (size_t i = 0; i < slots_len; i++)
             entries[i] = distances[i] < 255 ? 0 : entries[i];

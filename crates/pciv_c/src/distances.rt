@@ -1,28 +1,16 @@
 // The header's section "Distances".
 ghost use mathlib.Core.Path.{_≡_};
 ghost use lib.ListN.{length};
-ghost use Prim.Native.Nat.{_≤_};
 ghost use Rattle.pciv_format.specs.Check.{kField};
 ghost use Rattle.pciv_format.specs.Read.{lookupOutcome, lookupListOutcome, lookupListBuffer, lookupListEntries};
 ghost use Rattle.pciv_format.specs.Read.{scanOutcome, scanBuffer};
 ghost use Rattle.pciv_c_cells.specs.Cells.{ToldNumber, ToldLocated};
-use pciv_bytes::little_endian::get64;
+use pciv_c_cells::header_k;
 use pciv_c_cells::tell_located;
 use pciv_c_cells::tell_number;
-use pciv_format::HEADER_LEN;
 use pciv_read::lookup;
 use pciv_read::lookup_list;
 use pciv_read::scan;
-
-// The k of a file's header; 0 where the file has no whole header.
-fn header_k(file: &[u8]) -> usize
-    ensures { λ r. ⌜ (40 ≤ length (now (file .entry)) → r ≡ kField (now (file .entry))) ⌝ }
-{
-    if file.len() < HEADER_LEN {
-        return 0;
-    }
-    get64(file, 16)
-}
 
 #[no_mangle]
 pub extern "C" fn pciv_lookup(

@@ -2,11 +2,16 @@
 // refusal's number, 0 when done, and always writes the refusal; a result is written only when the call is done
 // (specs/Cells.antt).
 ghost use mathlib.Core.Path.{_≡_};
+ghost use Prim.Native.Nat.{_≤_};
+ghost use lib.ListN.{length};
 ghost use Rattle.pciv_c_cells.specs.Cells.{ToldNumber, ToldFile, ToldLocated, noCells, cellsOf};
 ghost use Rattle.pciv_c_cells.specs.Cells.{fileOutcome, numberOutcome, locatedOutcome, figureOutcome};
+ghost use Rattle.pciv_format.specs.Check.{kField};
 ghost use Rattle.pciv_format.specs.Read.{originNumber};
+use pciv_bytes::little_endian::get64;
 use pciv_format::FigureAnswer;
 use pciv_format::FileAnswer;
+use pciv_format::HEADER_LEN;
 use pciv_format::LookupAnswer;
 use pciv_format::NumberAnswer;
 use pciv_format::Origin;
@@ -54,6 +59,16 @@ pub fn tell_number(a: NumberAnswer, cell: &mut usize, refusal: &mut [usize; 3]) 
         }
         NumberAnswer::Refused(r) => tell_refused(r, refusal),
     }
+}
+
+// The k of a file's header, by which C is told that a distance is inline; 0 where the file has no whole header.
+pub fn header_k(file: &[u8]) -> usize
+    ensures { λ r. ⌜ (40 ≤ length (now (file .entry)) → r ≡ kField (now (file .entry))) ⌝ }
+{
+    if file.len() < HEADER_LEN {
+        return 0;
+    }
+    get64(file, 16)
 }
 
 // The number that tells an origin: k, the count of the file's overflow entries, for inline.

@@ -3,7 +3,7 @@
 --   originNumber-originOf     the number that tells an origin is the one that it was made of
 --   entryNumber-le            no number is above k
 --   entryIn xs i, originIn xs i    the number and the origin at slot i of a list, from the list alone
---   file-entryNumber, originOf-entryIn    they are those of its file
+--   originOf-entryIn, file-entryNumber    the number tells the origin; it is that of the list's file
 --   Found b slot a            what a lookup that is done says: b has a header and sound parts, the slot is inside, and a
 --                             is what is there
 --   lookup-found              so it is

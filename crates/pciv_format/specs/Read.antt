@@ -8,8 +8,8 @@
 --   entryNumber b i  the number of the overflow entry of slot i in a file b, or k
 --   originOf k j, originNumber k o    the origin that the number j tells, of k entries; the number that tells the origin o
 --   located x k j    distance x with the origin that j tells
---   itemsInto c capacity     c items into a list that holds `capacity` of them: how many, or refusal 12
 --   lookupOutcome            one slot
+--   itemsInto c capacity     c items into a list that holds `capacity` of them: how many, or refusal 12
 --   lookupListOutcome        a list of slots, into lists of c₁ and c₂ elements
 --   lookupListBuffer, lookupListEntries    the distances in the first of them, the numbers of the entries in the second
 --   scanOutcome, scanBuffer  all slots, into a list

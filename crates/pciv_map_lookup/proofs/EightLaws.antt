@@ -5,9 +5,9 @@
 --   eight-start                   eight searches begin
 --   Halving, halving-more         a turn of them, which the first q have had
 --   setsAt-none                   no place is filled
+--   setsAt-last, setsAt-sets      one place more; a list that is written behind the places
 --   Filling g ps d₀ d c q         of the first c places of ps those from q on are left: filling all in d₀ is filling these in d
 --   filling-start, -more, -end    all are left; the next place is filled; none is left
---   setsAt-last, setsAt-sets      one place more; a list that is written behind the places
 -- Axioms: none.
 use mathlib.Core.Path.{_≡_, refl, sym, ap, _∙_}
 use mathlib.Core.List.{List, [], _∷_, _++_}

@@ -33,17 +33,16 @@ pub fn primary(file: &[u8]) -> &[u8] {
 }
 
 /// Where a distance is stored.
-#[derive(Clone, Copy, Debug, Default, PartialEq, Eq, Hash)]
+#[derive(Clone, Copy, Debug, PartialEq, Eq, Hash)]
 pub enum Origin {
     /// In the primary array: exactly the distances below 255.
-    #[default]
     Inline,
     /// In the overflow entry with this number, 0 for the first one.
     Overflow(u64),
 }
 
 /// The distance at a slot, and where it is stored.
-#[derive(Clone, Copy, Debug, Default, PartialEq, Eq, Hash)]
+#[derive(Clone, Copy, Debug, PartialEq, Eq, Hash)]
 pub struct Located {
     /// The distance.
     pub distance: u32,
@@ -80,8 +79,8 @@ pub fn lookup(file: &[u8], slot: u64) -> Result<Located, Refusal> {
 }
 
 /// The distances at a list of slots, to the front of `distances`, and the numbers of their overflow
-/// entries, to the front of `entries`: for a distance below 255, which is stored inline, the number
-/// is that of all entries, [`k`](Summary::k). Answers how many slots there are. Refusals 1 to 8, then
+/// entries, to the front of `entries`: for a distance below 255, which is stored inline, it is
+/// [`k`](Summary::k), how many entries the map has. Answers the length of `slots`. Refusals 1 to 8, then
 /// 9 with the least position in the list as place, then 12 where either list is shorter than `slots`.
 ///
 /// ```

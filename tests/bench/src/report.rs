@@ -150,7 +150,7 @@ A time is that of the best round; its spread is what the best rounds of the pass
 A change is noise where it is at most both spreads together, or at most 13 %: builds of the bench over one archive
 differed by up to 12 % in a call, and so do ratios. A difference of two times is not measurable here where their spreads
 together are more than half of it. All but numpy, OpenCV and memcpy are compiled for every x86-64 processor, without AVX.
-numpy and OpenCV have to give flat Rust's results before they are timed, and flat Rust the library's (`cargo test -p bench`).
+numpy and OpenCV have to give flat Rust's results before they are timed; `cargo test -p bench` holds these to the library's.
 
 ## Tables
 

@@ -2,6 +2,7 @@
 //! it.
 
 use crate::call::Call;
+use crate::damage::le64;
 use crate::files::encode;
 use crate::judge::Judge;
 use crate::routines::and_beside;
@@ -9,6 +10,7 @@ use crate::run::{Run, Subject};
 use crate::trial::Trial;
 use compare::lists::{self, Spread, SPREADS, STEP_BORDERS};
 use compare::rng::Rng;
+use reference::HEADER_LEN;
 use std::cmp::Ordering;
 
 /// What is told apart of where a distance is stored.
@@ -54,26 +56,24 @@ impl Judge {
     /// Holds what a lookup has found at a slot of a sound file, a distance and the number of its
     /// entry, to the bytes of the file.
     pub fn found(&mut self, call: &Call, file: &[u8], slot: u64, (distance, entry): (u32, u64)) {
-        let [n, k] = [8, 16].map(|at| number(&file[at..at + 8]));
+        let [n, k] = [8, 16].map(|at| le64(&file[at..]));
         let there = match entry.cmp(&k) {
             Ordering::Less => {
-                let (slot, distance) = file[(40 + n + 12 * entry) as usize..][..12].split_at(8);
-                Some((number(slot), number(distance)))
+                let entry = &file[HEADER_LEN + (n + 12 * entry) as usize..];
+                Some((le64(entry), le32(&entry[8..])))
             }
-            Ordering::Equal => Some((slot, u64::from(file[(40 + slot) as usize]))),
+            Ordering::Equal => Some((slot, u32::from(file[HEADER_LEN + slot as usize]))),
             Ordering::Greater => None,
         };
         let what = format_args!("{call}: slot {slot}, entry {entry} of {k} in the file");
-        self.same(&what, there, Some((slot, u64::from(distance))));
+        self.same(&what, there, Some((slot, distance)));
         self.same(&what, distance < 255, entry == k);
         self.stored.insert((call.routine, Stored::of(entry, k)));
     }
 }
 
-/// The number of some bytes, the lowest one first.
-fn number(bytes: &[u8]) -> u64 {
-    let bytes = bytes.iter().rev();
-    bytes.fold(0, |number, &byte| number << 8 | u64::from(byte))
+fn le32(bytes: &[u8]) -> u32 {
+    u32::from_le_bytes(bytes[..4].try_into().expect("four bytes"))
 }
 
 /// Numbers of overflow entries beside those where the step of the sparse index changes, and of slots

@@ -1,6 +1,7 @@
 //! The calls made for one file.
 
 use crate::call::capacities;
+use crate::damage::le64;
 use crate::judge::Judge;
 use crate::masks::{self, THRESHOLDS};
 use crate::parts::Parts;
@@ -116,8 +117,7 @@ fn telling_entries(rng: &mut Rng, summary: &Summary) -> Vec<usize> {
 }
 
 fn overflow_slot(file: &[u8], n: usize, entry: usize) -> u64 {
-    let at = reference::HEADER_LEN + n + 12 * entry;
-    u64::from_le_bytes(file[at..at + 8].try_into().expect("eight bytes"))
+    le64(&file[reference::HEADER_LEN + n + 12 * entry..])
 }
 
 /// Lists of slots inside the map, and the same with slots beyond it at several positions.

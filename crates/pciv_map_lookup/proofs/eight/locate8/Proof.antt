@@ -1,5 +1,5 @@
 -- Proves pciv_map_lookup::eight::locate8. Invariant: in both lists the places from q on are left. Falls: 8 - q.
-use mathlib.Core.Path.{_≡_, sym, _∙_}
+use mathlib.Core.Path.{_≡_, sym}
 use Prim.Native.Nat.{_-_, _≤_, _<_}
 use native.Mathlib.Omega.{arith}
 use lib.ListN.{length, getD}
