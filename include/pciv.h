@@ -41,10 +41,10 @@
 /* The version of this header and of the library that it belongs to. The number is made of the three,
    with 1,000 for each MINOR and 1,000,000 for each MAJOR, and is for comparisons by #if. */
 #define PCIV_VERSION_MAJOR 0
-#define PCIV_VERSION_MINOR 3
+#define PCIV_VERSION_MINOR 4
 #define PCIV_VERSION_PATCH 0
-#define PCIV_VERSION_NUMBER 3000
-#define PCIV_VERSION "0.3.0"
+#define PCIV_VERSION_NUMBER 4000
+#define PCIV_VERSION "0.4.0"
 
 #ifdef __cplusplus
 extern "C" {
@@ -177,19 +177,24 @@ static inline pciv_part pciv_primary(const uint8_t *file, size_t file_len)
 
 /* ---- Distances -------------------------------------------------------------------------------- */
 
-/* The distance at one slot. Refusals 1 to 8, then 9.
-   When done *distance holds it; after a refusal it is unchanged. */
+/* The distance at one slot, and where it is stored. Refusals 1 to 8, then 9.
+   When done *distance holds it and *entry is the number of the slot's overflow entry, 0 for the first
+   one; entry j has the 12 bytes of the file from byte 40 + n + 12j on. A distance below 255, and no
+   other, is stored inline: *entry is then k, the number of overflow entries. After a refusal
+   *distance and *entry are unchanged. */
 uint64_t pciv_lookup(const uint8_t *file, size_t file_len, uint64_t slot, uint32_t *distance,
-                     pciv_refusal *refusal);
+                     uint64_t *entry, pciv_refusal *refusal);
 
-/* The distances at a list of slots, in the list's order; slots may repeat.
-   Refusals 1 to 8, then 9 with the least position in the list as place, then 12 where
-   distances_len is below slots_len.
-   When done the first slots_len elements of distances hold them and *count is slots_len. After a
-   refusal distances and *count are unchanged. */
+/* The distances at a list of slots, in the list's order, and where they are stored; slots may repeat.
+   Refusals 1 to 8, then 9 with the least position in the list as place, then 12 where distances_len
+   or entries_len is below slots_len.
+   When done the first slots_len elements of distances and of entries hold what pciv_lookup gives for
+   each slot, the elements behind them are unchanged, and *count is slots_len. After a refusal
+   distances, entries and *count are unchanged. */
 uint64_t pciv_lookup_list(const uint8_t *file, size_t file_len, const uint64_t *slots,
                           size_t slots_len, uint32_t *distances, size_t distances_len,
-                          uint64_t *count, pciv_refusal *refusal);
+                          uint64_t *entries, size_t entries_len, uint64_t *count,
+                          pciv_refusal *refusal);
 
 /* All distances, in order of their slots. Refusals 1 to 8, then 12 where distances_len is below n.
    When done the first n elements of distances hold them and *count is n. After a refusal distances

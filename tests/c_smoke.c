@@ -116,36 +116,61 @@ static void test_primary(const uint8_t *file)
 
 static void test_lookup(const uint8_t *file)
 {
+    static const uint32_t distances[N] = {0, 254, 255, 300};
+    static const uint64_t entries[N] = {2, 2, 0, 1};
     uint32_t distance;
+    uint64_t entry;
     pciv_refusal refusal;
     memset(&distance, DIRTY, sizeof distance);
-    EXPECT(pciv_lookup(file, MAP_LEN, N, &distance, &refusal) == PCIV_SLOT_OUT_OF_RANGE);
+    memset(&entry, DIRTY, sizeof entry);
+    EXPECT(pciv_lookup(file, MAP_LEN, N, &distance, &entry, &refusal) == PCIV_SLOT_OUT_OF_RANGE);
     EXPECT(is_refusal(&refusal, PCIV_SLOT_OUT_OF_RANGE, 0, 0));
-    EXPECT(is_dirty(&distance, sizeof distance));
-    EXPECT(pciv_lookup(file, MAP_LEN, 3, &distance, &refusal) == PCIV_OK && distance == 300);
-    EXPECT(is_refusal(&refusal, PCIV_OK, 0, 0));
+    EXPECT(is_dirty(&distance, sizeof distance) && is_dirty(&entry, sizeof entry));
+    for (uint64_t slot = 0; slot < N; slot++) {
+        EXPECT(pciv_lookup(file, MAP_LEN, slot, &distance, &entry, &refusal) == PCIV_OK);
+        EXPECT(is_refusal(&refusal, PCIV_OK, 0, 0));
+        EXPECT(distance == distances[slot] && entry == entries[slot]);
+    }
+}
+
+/* The refusal of a list of three slots, which changes neither of two lists that are so long. */
+static void test_lookup_list_refused(const uint8_t *file, const uint64_t *slots,
+                                     size_t distances_len, size_t entries_len, uint64_t refused,
+                                     uint64_t place)
+{
+    uint32_t distances[3];
+    uint64_t entries[3], count;
+    pciv_refusal refusal;
+    memset(distances, DIRTY, sizeof distances);
+    memset(entries, DIRTY, sizeof entries);
+    memset(&count, DIRTY, sizeof count);
+    EXPECT(pciv_lookup_list(file, MAP_LEN, slots, 3, distances, distances_len, entries, entries_len,
+                            &count, &refusal) == refused);
+    EXPECT(is_refusal(&refusal, refused, 0, place) && is_dirty(&count, sizeof count));
+    EXPECT(is_dirty(distances, sizeof distances) && is_dirty(entries, sizeof entries));
 }
 
 static void test_lookup_list(const uint8_t *file)
 {
-    static const uint64_t slots[] = {3, 1, 3};
+    static const uint64_t slots[] = {3, 0, 3, 2};
     static const uint64_t beyond[] = {3, N, 3};
-    uint32_t distances[4];
-    uint64_t count;
+    uint32_t distances[6];
+    uint64_t entries[5], count;
     pciv_refusal refusal;
+    test_lookup_list_refused(file, beyond, 3, 3, PCIV_SLOT_OUT_OF_RANGE, 1);
+    test_lookup_list_refused(file, beyond, 2, 0, PCIV_SLOT_OUT_OF_RANGE, 1);
+    test_lookup_list_refused(file, slots, 2, 3, PCIV_BUFFER_TOO_SMALL, 0);
+    test_lookup_list_refused(file, slots, 3, 2, PCIV_BUFFER_TOO_SMALL, 0);
+    test_lookup_list_refused(file, slots, 3, 0, PCIV_BUFFER_TOO_SMALL, 0);
     memset(distances, DIRTY, sizeof distances);
-    memset(&count, DIRTY, sizeof count);
-    EXPECT(pciv_lookup_list(file, MAP_LEN, beyond, 3, distances, 2, &count, &refusal) ==
-           PCIV_SLOT_OUT_OF_RANGE);
-    EXPECT(is_refusal(&refusal, PCIV_SLOT_OUT_OF_RANGE, 0, 1));
-    EXPECT(pciv_lookup_list(file, MAP_LEN, slots, 3, distances, 2, &count, &refusal) ==
-           PCIV_BUFFER_TOO_SMALL);
-    EXPECT(is_refusal(&refusal, PCIV_BUFFER_TOO_SMALL, 0, 0));
-    EXPECT(is_dirty(distances, sizeof distances) && is_dirty(&count, sizeof count));
-    EXPECT(pciv_lookup_list(file, MAP_LEN, slots, 3, distances, 4, &count, &refusal) == PCIV_OK);
-    EXPECT(is_refusal(&refusal, PCIV_OK, 0, 0) && count == 3);
-    EXPECT(distances[0] == 300 && distances[1] == 254 && distances[2] == 300);
-    EXPECT(is_dirty(&distances[3], sizeof distances[3]));
+    memset(entries, DIRTY, sizeof entries);
+    EXPECT(pciv_lookup_list(file, MAP_LEN, slots, 4, distances, 6, entries, 5, &count, &refusal) ==
+           PCIV_OK);
+    EXPECT(is_refusal(&refusal, PCIV_OK, 0, 0) && count == 4);
+    EXPECT(distances[0] == 300 && distances[1] == 0 && distances[2] == 300 && distances[3] == 255);
+    EXPECT(entries[0] == 1 && entries[1] == 2 && entries[2] == 1 && entries[3] == 0);
+    EXPECT(is_dirty(distances + 4, 2 * sizeof *distances));
+    EXPECT(is_dirty(entries + 4, sizeof *entries));
 }
 
 static void test_scan(const uint8_t *file)
@@ -627,8 +652,8 @@ static void test_damage(const uint8_t *map, size_t at, uint8_t byte, uint64_t nu
 /* The string and the number say what the three numbers say; #if can compare them. */
 static void test_version(void)
 {
-#if PCIV_VERSION_NUMBER < 3000
-#error "this header is older than 0.3.0"
+#if PCIV_VERSION_NUMBER < 4000
+#error "this header is older than 0.4.0"
 #endif
     char text[32];
     snprintf(text, sizeof text, "%d.%d.%d", PCIV_VERSION_MAJOR, PCIV_VERSION_MINOR,
@@ -714,19 +739,21 @@ static void test_null_read(const uint8_t *file)
     static const uint64_t slots[] = {3, 1, 3};
     static const uint8_t empty[40] = "PCIV";
     uint8_t text[160];
-    uint64_t span[2], number = 7, count = 7;
+    uint64_t span[2], number = 7, count = 7, entry;
     uint32_t distance;
     pciv_summary summary;
     pciv_refusal why;
     EXPECT(pciv_check(NULL, 0, &summary, &why) == PCIV_TRUNCATED_HEADER);
     EXPECT(pciv_primary_span(NULL, 0, span) == 0 && span[0] == 0 && span[1] == 0);
     EXPECT(pciv_primary(NULL, 0).len == 0);
-    EXPECT(pciv_lookup(NULL, 0, 0, &distance, &why) == PCIV_TRUNCATED_HEADER);
-    EXPECT(pciv_lookup_list(NULL, 0, slots, 3, &distance, 1, &count, &why) ==
+    EXPECT(pciv_lookup(NULL, 0, 0, &distance, &entry, &why) == PCIV_TRUNCATED_HEADER);
+    EXPECT(pciv_lookup_list(NULL, 0, slots, 3, &distance, 1, &entry, 1, &count, &why) ==
            PCIV_TRUNCATED_HEADER);
-    EXPECT(pciv_lookup_list(file, MAP_LEN, slots, 3, NULL, 0, &count, &why) ==
+    EXPECT(pciv_lookup_list(file, MAP_LEN, slots, 1, NULL, 0, &entry, 1, &count, &why) ==
            PCIV_BUFFER_TOO_SMALL);
-    EXPECT(pciv_lookup_list(file, MAP_LEN, NULL, 0, NULL, 0, &count, &why) == PCIV_OK);
+    EXPECT(pciv_lookup_list(file, MAP_LEN, slots, 1, &distance, 1, NULL, 0, &count, &why) ==
+           PCIV_BUFFER_TOO_SMALL);
+    EXPECT(pciv_lookup_list(file, MAP_LEN, NULL, 0, NULL, 0, NULL, 0, &count, &why) == PCIV_OK);
     EXPECT(count == 0);
     EXPECT(pciv_scan(NULL, 0, &distance, 1, &count, &why) == PCIV_TRUNCATED_HEADER);
     EXPECT(pciv_scan(file, MAP_LEN, NULL, 0, &count, &why) == PCIV_BUFFER_TOO_SMALL);

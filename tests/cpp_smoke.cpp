@@ -11,7 +11,7 @@
 static bool empty_vectors()
 {
     std::vector<uint32_t> distances;
-    std::vector<uint64_t> slots, mask;
+    std::vector<uint64_t> slots, entries, mask;
     std::vector<uint8_t> file(pciv_file_len(0, 0)), none;
     pciv_summary summary{};
     pciv_refusal refusal{};
@@ -20,7 +20,8 @@ static bool empty_vectors()
                PCIV_OK &&
            summary.len == file.size() &&
            pciv_lookup_list(file.data(), file.size(), slots.data(), slots.size(),
-                            distances.data(), distances.size(), &count, &refusal) == PCIV_OK &&
+                            distances.data(), distances.size(), entries.data(), entries.size(),
+                            &count, &refusal) == PCIV_OK &&
            count == 0 &&
            pciv_near_mask(file.data(), file.size(), 9, mask.data(), mask.size(), &count,
                           &refusal) == PCIV_OK &&

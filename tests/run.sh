@@ -208,13 +208,19 @@ large_map() {
     printf 'PCIV\0\0\0\0\0\0\014\0\0\0\0\0' && head -c 27 /dev/zero && printf '\007' && head -c 786428 /dev/zero
 }
 
+# prints_a PROGRAM: it prints what the program in Rust has to, of map A.
+prints_a() {
+    "$1" >"$work/said" &&
+        printf '%s\n' '4 distances: [0, 254, 255, 300] cm' 'slot 3: 300 cm, in overflow entry 1' | cmp - "$work/said"
+}
+
 # A crate outside of the repository, which names rust/pciv as README.md says and has its program.
 outside() {
     folder=$(mktemp -d) &&
         ln -s "$PWD" "$folder/pciv" && mkdir -p "$folder/use/src" && block rust 1 >"$folder/use/src/main.rs" &&
         { printf '[package]\nname = "use"\nedition = "2021"\n\n' && block toml 1; } >"$folder/use/Cargo.toml" &&
         cargo build --offline --manifest-path "$folder/use/Cargo.toml" --target-dir "$folder/target" &&
-        "$folder/target/debug/use" | grep -xF '4 distances: [0, 254, 255, 300] cm'
+        prints_a "$folder/target/debug/use"
     status=$?
     rm -rf "$folder"
     return $status
@@ -223,17 +229,17 @@ outside() {
 readme() {
     block c 1 >build/use.c &&
         gcc -std=c11 -Wall -Wextra -Werror -I"$dist/include" -o "$work/readme_c" build/use.c "$dist/lib/libpciv_c.a" &&
-        "$work/readme_c" <examples/map-a.pciv | grep -x 'slot 3: 300 cm' &&
-        large_map | "$work/readme_c" | grep -x 'slot 3: 7 cm' &&
+        "$work/readme_c" <examples/map-a.pciv | grep -x 'slot 3: 300 cm, in overflow entry 1' &&
+        large_map | "$work/readme_c" | grep -x 'slot 3: 7 cm, inline' &&
         head -c 40 examples/map-a.pciv >"$work/short.pciv" &&
         ! "$work/readme_c" <"$work/short.pciv" 2>"$work/readme.txt" &&
         grep -x 'refused 5 place 0: the file is not as long as its header says' "$work/readme.txt" &&
         block sh 1 >"$work/readme.sh" && env -u LD_LIBRARY_PATH sh -e "$work/readme.sh" >"$work/readme.txt" &&
-        grep -cx 'slot 3: 300 cm' "$work/readme.txt" | grep -x 3 &&
+        grep -cx 'slot 3: 300 cm, in overflow entry 1' "$work/readme.txt" | grep -x 3 &&
         outside &&
         block rust 1 >"$work/readme.rs" &&
         rustc --edition 2021 --extern "pciv=$programs/libpciv.rlib" -o "$work/readme_rust" "$work/readme.rs" &&
-        "$work/readme_rust" | grep -xF '4 distances: [0, 254, 255, 300] cm' &&
+        prints_a "$work/readme_rust" &&
         echo 'the programs for C and Rust print what they should'
 }
 

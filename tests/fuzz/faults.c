@@ -12,6 +12,8 @@
 #define edit_byte_left 6
 #define scan_reads_behind 7
 #define lookup_list_writes_behind 8
+#define lookup_list_inline_zero 9
+#define lookup_list_one_length 10
 
 static uint64_t field(const uint8_t *file, size_t at)
 {
@@ -22,12 +24,13 @@ static uint64_t field(const uint8_t *file, size_t at)
 
 #if FAULT == lookup_last_of_index
 /* The last slot is wrong where there is a sparse index. */
-uint64_t exact_pciv_lookup(const uint8_t *, size_t, uint64_t, uint32_t *, pciv_refusal *);
+uint64_t exact_pciv_lookup(const uint8_t *, size_t, uint64_t, uint32_t *, uint64_t *,
+                           pciv_refusal *);
 
 uint64_t pciv_lookup(const uint8_t *file, size_t file_len, uint64_t slot, uint32_t *distance,
-                     pciv_refusal *refusal)
+                     uint64_t *entry, pciv_refusal *refusal)
 {
-    uint64_t number = exact_pciv_lookup(file, file_len, slot, distance, refusal);
+    uint64_t number = exact_pciv_lookup(file, file_len, slot, distance, entry, refusal);
     if (number == PCIV_OK && field(file, 32) > 0 && slot == field(file, 8) - 1)
         *distance ^= 1;
     return number;
@@ -122,21 +125,30 @@ uint64_t pciv_scan(const uint8_t *file, size_t file_len, uint32_t *distances, si
     return number;
 }
 
-#elif FAULT == lookup_list_writes_behind
-/* The element behind an exact list is written as it was. */
+#elif FAULT == lookup_list_writes_behind || FAULT == lookup_list_inline_zero || \
+    FAULT == lookup_list_one_length
+/* Three faults of one function, each at its place. */
 uint64_t exact_pciv_lookup_list(const uint8_t *, size_t, const uint64_t *, size_t, uint32_t *,
-                                size_t, uint64_t *, pciv_refusal *);
+                                size_t, uint64_t *, size_t, uint64_t *, pciv_refusal *);
 
 uint64_t pciv_lookup_list(const uint8_t *file, size_t file_len, const uint64_t *slots,
                           size_t slots_len, uint32_t *distances, size_t distances_len,
-                          uint64_t *count, pciv_refusal *refusal)
+                          uint64_t *entries, size_t entries_len, uint64_t *count,
+                          pciv_refusal *refusal)
 {
+    /* The list of entries is judged by the length of the other list. */
+    size_t len = FAULT == lookup_list_one_length ? distances_len : entries_len;
     uint64_t number = exact_pciv_lookup_list(file, file_len, slots, slots_len, distances,
-                                             distances_len, count, refusal);
-    if (number == PCIV_OK) {
+                                             distances_len, entries, len, count, refusal);
+    /* The element behind the list of distances is written as it was. */
+    if (number == PCIV_OK && FAULT == lookup_list_writes_behind) {
         volatile uint32_t *behind = distances + distances_len;
         *behind = *behind;
     }
+    /* The number of an inline distance is 0. */
+    if (number == PCIV_OK && FAULT == lookup_list_inline_zero)
+        for (size_t i = 0; i < slots_len; i++)
+            entries[i] = distances[i] < 255 ? 0 : entries[i];
     return number;
 }
 

@@ -19,7 +19,7 @@ sed -n 's/^#define \([a-z_]*\) [0-9]*$/\1/p' tests/fuzz/faults.c >"$work.txt"
 while read -r fault; do
     rm -rf "$work"
     mkdir -p "$work"
-    function=$(sed -n "/FAULT == $fault\$/,/^uint64_t exact/s/^uint64_t exact_\\([a-z_]*\\)(.*/\\1/p" tests/fuzz/faults.c)
+    function=$(sed -n "/FAULT == $fault\\b/,/^uint64_t exact/s/^uint64_t exact_\\([a-z_]*\\)(.*/\\1/p" tests/fuzz/faults.c | head -n 1)
     objcopy --redefine-sym "$function=exact_$function" "$archive" "$work/libpciv_c.a" &&
         gcc -std=c11 -Wall -Wextra -Werror -Wno-unused-function -O2 -fPIC -Iinclude -DFAULT="$fault" \
             -c tests/fuzz/faults.c -o "$work/fault.o" &&

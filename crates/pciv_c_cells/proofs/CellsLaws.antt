@@ -1,20 +1,22 @@
 -- The outcome that an answer stands for is the one that it was made of, so a call tells the outcome that its routine's
 -- contract names.
 --   file-outcome                  the outcome of such an answer
---   told-file, told-number, told-distance, told-figure    what a call tells
+--   told-file, told-number, told-located, told-figure    what a call tells; told-located asks for the file's k only where
+--                                 the lookup is done
 -- Axioms: none.
 use mathlib.Core.Path.{_≡_, refl, ap, _∙_}
 use mathlib.Core.List.{List}
 use lib.Ieee.{Float}
 use Prim.Native.Nat.{ℕ}
-use Rattle.pciv_format.specs.Refusals.{Outcome, done, refused, fileAnswer, numberAnswer, distanceAnswer, figureAnswer}
+use Rattle.pciv_format.specs.Refusals.{Outcome, done, refused, fileAnswer, numberAnswer, lookupAnswer, figureAnswer}
 use Rattle.pciv_format.specs.declared.Summary.{Summary}
 use Rattle.pciv_format.specs.declared.FileAnswer.{FileAnswer}
 use Rattle.pciv_format.specs.declared.NumberAnswer.{NumberAnswer}
-use Rattle.pciv_format.specs.declared.DistanceAnswer.{DistanceAnswer}
+use Rattle.pciv_format.specs.declared.Located.{Located}
+use Rattle.pciv_format.specs.declared.LookupAnswer.{LookupAnswer}
 use Rattle.pciv_format.specs.declared.FigureAnswer.{FigureAnswer}
-use Rattle.pciv_c_cells.specs.Cells.{ToldFile, ToldNumber, fileOutcome, numberOutcome}
-use Rattle.pciv_c_cells.specs.Cells.{distanceOutcome, figureOutcome}
+use Rattle.pciv_c_cells.specs.Cells.{ToldFile, ToldNumber, ToldLocated, fileOutcome}
+use Rattle.pciv_c_cells.specs.Cells.{numberOutcome, locatedOutcome, figureOutcome}
 
 pub file-outcome : (a : FileAnswer) (o : Outcome Summary) → a ≡ fileAnswer o → fileOutcome a ≡ o
 file-outcome a o e = ap fileOutcome e ∙ back o
@@ -30,10 +32,10 @@ number-outcome a o e = ap numberOutcome e ∙ back o
     back (done x) = refl
     back (refused r) = refl
 
-distance-outcome : (a : DistanceAnswer) (o : Outcome ℕ) → a ≡ distanceAnswer o → distanceOutcome a ≡ o
-distance-outcome a o e = ap distanceOutcome e ∙ back o
+located-outcome : (a : LookupAnswer) (o : Outcome Located) → a ≡ lookupAnswer o → locatedOutcome a ≡ o
+located-outcome a o e = ap locatedOutcome e ∙ back o
   where
-    back : (o : Outcome ℕ) → distanceOutcome (distanceAnswer o) ≡ o
+    back : (o : Outcome Located) → locatedOutcome (lookupAnswer o) ≡ o
     back (done x) = refl
     back (refused r) = refl
 
@@ -53,9 +55,22 @@ module _ {code : ℕ} {why : List ℕ} where
       → ToldNumber (numberOutcome a) code old new why → ToldNumber o code old new why
   told-number {a} {o} e told = rw (number-outcome a o e) at told
 
-  pub told-distance : {a : DistanceAnswer} {o : Outcome ℕ} {old new : ℕ} → a ≡ distanceAnswer o
-      → ToldNumber (distanceOutcome a) code old new why → ToldNumber o code old new why
-  told-distance {a} {o} e told = rw (distance-outcome a o e) at told
+  pub told-located : {a : LookupAnswer} {k k' : ℕ} {o : Outcome Located} {oldX newX oldJ newJ : ℕ} → a ≡ lookupAnswer o
+      → ((x : Located) → o ≡ done x → k ≡ k') → ToldLocated k (locatedOutcome a) code oldX newX oldJ newJ why
+      → ToldLocated k' o code oldX newX oldJ newJ why
+  told-located {a} {k} {k'} {o} {oldX} {newX} {oldJ} {newJ} e same told =
+      go o same (rw (located-outcome a o e) at told)
+    where
+      go : (o : Outcome Located) → ((x : Located) → o ≡ done x → k ≡ k')
+          → ToldLocated k o code oldX newX oldJ newJ why → ToldLocated k' o code oldX newX oldJ newJ why
+      go (done x) same told = rw (same x refl) at told
+      go (refused r) same told =
+          record {
+            codeIs = told .codeIs;
+            distanceIs = told .distanceIs;
+            originIs = told .originIs;
+            whyIs = told .whyIs;
+          }
 
   pub told-figure : {a : FigureAnswer} {o : Outcome Float} {old new : Float} → a ≡ figureAnswer o
       → ToldNumber (figureOutcome a) code old new why → ToldNumber o code old new why

@@ -4,23 +4,29 @@
 --   refusalCells o        the same for an outcome o
 --   cellAfter o old       a number's cell: the result when done, else as it was
 --   summaryCells o old    the cells of pciv_summary: the counts when done, else as they were
+--   distanceCell o old, originCell k o old
+--                         a lookup's cells: the distance, and the number that tells its origin in a file with k overflow
+--                         entries, when done, else as they were
 --   spanCells o, spanLength o    where the primary part starts, and its length; 0 and 0 for a refused file
---   ToldNumber, ToldFile  all three of a call: its answer, the result's cells, the refusal's cells
---   fileOutcome, numberOutcome, distanceOutcome, figureOutcome    the outcome that an answer stands for
+--   ToldNumber, ToldFile, ToldLocated
+--                         all of a call: its answer, the result's cells, the refusal's cells
+--   fileOutcome, numberOutcome, locatedOutcome, figureOutcome    the outcome that an answer stands for
 -- Laws are in proofs/CellsLaws.antt. Axioms: none.
 use mathlib.Core.Path.{_≡_}
 use Prim.Native.Nat.{ℕ}
 use mathlib.Core.List.{List, [], _∷_}
 use lib.Ieee.{Float}
 use Rattle.pciv_format.specs.Refusals.{Outcome, done, refused}
+use Rattle.pciv_format.specs.Read.{originNumber}
 use Rattle.pciv_format.specs.declared.Summary.{Summary}
 use Rattle.pciv_format.specs.declared.Refusal.{Refusal}
 use Rattle.pciv_format.specs.declared.FileAnswer.{FileAnswer}
 use Rattle.pciv_format.specs.declared.FileAnswer.the-variants as InFile
 use Rattle.pciv_format.specs.declared.NumberAnswer.{NumberAnswer}
 use Rattle.pciv_format.specs.declared.NumberAnswer.the-variants as InNumber
-use Rattle.pciv_format.specs.declared.DistanceAnswer.{DistanceAnswer}
-use Rattle.pciv_format.specs.declared.DistanceAnswer.the-variants as InDistance
+use Rattle.pciv_format.specs.declared.Located.{Located}
+use Rattle.pciv_format.specs.declared.LookupAnswer.{LookupAnswer}
+use Rattle.pciv_format.specs.declared.LookupAnswer.the-variants as InLookup
 use Rattle.pciv_format.specs.declared.FigureAnswer.{FigureAnswer}
 use Rattle.pciv_format.specs.declared.FigureAnswer.the-variants as InFigure
 
@@ -47,6 +53,14 @@ abbrev pub summaryCells : Outcome Summary → List ℕ → List ℕ
 summaryCells (done s) old = s .n ∷ s .k ∷ s .m ∷ s .step ∷ s .len ∷ []
 summaryCells (refused r) old = old
 
+abbrev pub distanceCell : Outcome Located → ℕ → ℕ
+distanceCell (done a) old = a .distance
+distanceCell (refused r) old = old
+
+abbrev pub originCell : ℕ → Outcome Located → ℕ → ℕ
+originCell k (done a) old = originNumber k (a .origin)
+originCell k (refused r) old = old
+
 abbrev pub spanCells : Outcome Summary → List ℕ
 spanCells (done s) = 40 ∷ s .n ∷ []
 spanCells (refused r) = 0 ∷ 0 ∷ []
@@ -67,6 +81,13 @@ pub record ToldFile (o : Outcome Summary) (code : ℕ) (old new why : List ℕ) 
   pub resultIs : new ≡ summaryCells o old
   pub whyIs : why ≡ refusalCells o
 
+-- x and j are the cells of the distance and of its origin's number
+pub record ToldLocated (k : ℕ) (o : Outcome Located) (code oldX newX oldJ newJ : ℕ) (why : List ℕ) : Type 0 where
+  pub codeIs : code ≡ codeOf o
+  pub distanceIs : newX ≡ distanceCell o oldX
+  pub originIs : newJ ≡ originCell k o oldJ
+  pub whyIs : why ≡ refusalCells o
+
 -- ---- answers
 
 abbrev pub fileOutcome : FileAnswer → Outcome Summary
@@ -77,9 +98,9 @@ abbrev pub numberOutcome : NumberAnswer → Outcome ℕ
 numberOutcome (InNumber.Number x) = done x
 numberOutcome (InNumber.Refused r) = refused r
 
-abbrev pub distanceOutcome : DistanceAnswer → Outcome ℕ
-distanceOutcome (InDistance.Distance x) = done x
-distanceOutcome (InDistance.Refused r) = refused r
+abbrev pub locatedOutcome : LookupAnswer → Outcome Located
+locatedOutcome (InLookup.Found a) = done a
+locatedOutcome (InLookup.Refused r) = refused r
 
 abbrev pub figureOutcome : FigureAnswer → Outcome Float
 figureOutcome (InFigure.Quotient x) = done x

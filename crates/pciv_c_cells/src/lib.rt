@@ -2,12 +2,19 @@
 // refusal's number, 0 when done, and always writes the refusal; a result is written only when the call is done
 // (specs/Cells.antt).
 ghost use mathlib.Core.Path.{_≡_};
-ghost use Rattle.pciv_c_cells.specs.Cells.{ToldNumber, ToldFile, noCells, cellsOf, fileOutcome};
-ghost use Rattle.pciv_c_cells.specs.Cells.{numberOutcome, distanceOutcome, figureOutcome};
-use pciv_format::DistanceAnswer;
+ghost use Prim.Native.Nat.{_≤_};
+ghost use lib.ListN.{length};
+ghost use Rattle.pciv_c_cells.specs.Cells.{ToldNumber, ToldFile, ToldLocated, noCells, cellsOf};
+ghost use Rattle.pciv_c_cells.specs.Cells.{fileOutcome, numberOutcome, locatedOutcome, figureOutcome};
+ghost use Rattle.pciv_format.specs.Check.{kField};
+ghost use Rattle.pciv_format.specs.Read.{originNumber};
+use pciv_bytes::little_endian::get64;
 use pciv_format::FigureAnswer;
 use pciv_format::FileAnswer;
+use pciv_format::HEADER_LEN;
+use pciv_format::LookupAnswer;
 use pciv_format::NumberAnswer;
+use pciv_format::Origin;
 use pciv_format::Refusal;
 
 // The call is done: no refusal is told, and 0 is its answer.
@@ -54,16 +61,45 @@ pub fn tell_number(a: NumberAnswer, cell: &mut usize, refusal: &mut [usize; 3]) 
     }
 }
 
-pub fn tell_distance(a: DistanceAnswer, cell: &mut u32, refusal: &mut [usize; 3]) -> usize
-    ensures told { λ r. ⌜ ToldNumber (distanceOutcome a)
-        r (now (cell .entry)) (now (cell .exit)) (now (refusal .exit)) ⌝ }
+// The k of a file's header, by which C is told that a distance is inline; 0 where the file has no whole header.
+pub fn header_k(file: &[u8]) -> usize
+    ensures { λ r. ⌜ (40 ≤ length (now (file .entry)) → r ≡ kField (now (file .entry))) ⌝ }
+{
+    if file.len() < HEADER_LEN {
+        return 0;
+    }
+    get64(file, 16)
+}
+
+// The number that tells an origin: k, the count of the file's overflow entries, for inline.
+fn origin_number(origin: Origin, k: usize) -> usize
+    ensures { λ r. ⌜ r ≡ originNumber k origin ⌝ }
+{
+    match origin {
+        Origin::Inline => k,
+        Origin::Overflow(j) => j,
+    }
+}
+
+pub fn tell_located(
+    a: LookupAnswer,
+    k: usize,
+    distance: &mut u32,
+    entry: &mut usize,
+    refusal: &mut [usize; 3],
+) -> usize
+    ensures told { λ r. ⌜ ToldLocated k (locatedOutcome a)
+        r (now (distance .entry)) (now (distance .exit)) (now (entry .entry)) (now (entry .exit))
+        (now (refusal .exit)) ⌝ }
 {
     match a {
-        DistanceAnswer::Distance(x) => {
-            *cell = x;
+        LookupAnswer::Found(found) => {
+            let origin = found.origin;
+            *distance = found.distance;
+            *entry = origin_number(origin, k);
             tell_done(refusal)
         }
-        DistanceAnswer::Refused(r) => tell_refused(r, refusal),
+        LookupAnswer::Refused(r) => tell_refused(r, refusal),
     }
 }
 

@@ -1,11 +1,11 @@
 -- The worked examples of docs/FORMAT.md, proved for the definitions by computing them.
 --   A, B        the two maps of "Worked examples";  M  64 slots at 1 and one at 300;  ones  a word of set bits
---   primaryOfA  the primary array of A
---   counts, setTo, Gives, LengthRow    short forms of what the statements repeat
+--   primaryOfA, lookedUp    the primary array of A; slots of A that are looked up
+--   counts, found, setTo, Gives, LengthRow    short forms of what the statements repeat
 --   cases       the cases that "Worked examples" marks as proved, under one statement: a component for each
 --   lengths     the table of "Derived counts"
---   further     the near masks and shifts of "Worked examples", cases of the routines that these leave out, the readings
---               of a primary array, edits before other bytes, and masks of more than a word
+--   further     the near masks, shifts and lookups of "Worked examples", cases of the routines that these leave out, the
+--               readings of a primary array, edits before other bytes, and masks of more than a word
 --   examples    the other cases of "Worked examples", and texts of "The report program"
 -- A caller's buffer or list holds 7 in each place, so that what is left unchanged shows. Axioms: none.
 use mathlib.Core.Path.{_≡_, refl}
@@ -25,7 +25,8 @@ use Rattle.pciv_format.specs.Refusals.{done, refuse}
 use Rattle.pciv_format.specs.Parts.{wrongEntry, badEntry, entryOf, badSlot, valueOf}
 use Rattle.pciv_format.specs.Check.{badIndexEntry, badCounts, checkParts, checkHeader, checkWith, checkFile}
 use Rattle.pciv_format.specs.Read.{listOf, primaryPart, lookupOutcome, total, readings}
-use Rattle.pciv_format.specs.Read.{lookupListOutcome, lookupListBuffer, scanOutcome, scanBuffer}
+use Rattle.pciv_format.specs.Read.{lookupListOutcome, lookupListBuffer, lookupListEntries}
+use Rattle.pciv_format.specs.Read.{scanOutcome, scanBuffer}
 use Rattle.pciv_format.specs.Write.{writeOutcome, writeBuffer, closeOutcome, closeBuffer}
 use Rattle.pciv_format.specs.Mask.{maskLen, bitAt, maskHas, word, maskOf, badMask, setBits}
 use Rattle.pciv_format.specs.Mask.{setBitsOutcome, combineOutcome, combineWords, complementOutcome}
@@ -43,6 +44,9 @@ use Rattle.pciv_format.specs.Edit.{answerCells, allCells, editsOf, editL
 use Rattle.pciv_format.specs.Edit.{editListAnswers}
 use Rattle.pciv_format.specs.Report.{digits, decimal, field, line, mapLines, refusedLine, reportText}
 use Rattle.pciv_format.specs.declared.Summary.{Summary}
+use Rattle.pciv_format.specs.declared.Origin.{Origin}
+use Rattle.pciv_format.specs.declared.Origin.the-variants.{Inline, Overflow}
+use Rattle.pciv_format.specs.declared.Located.{Located}
 use Rattle.pciv_format.specs.declared.SlotOp.{SlotOp}
 use Rattle.pciv_format.specs.declared.SlotOp.the-variants.{Minimum, Maximum, Sum, Difference}
 use Rattle.pciv_format.specs.declared.Comparison.the-variants.{Below, AtMost, Above, AtLeast}
@@ -56,6 +60,9 @@ B = 1 ∷ 1 ∷ 1 ∷ 4294967295 ∷ []
 
 abbrev pub counts : ℕ → ℕ → ℕ → ℕ → ℕ → Summary
 counts n k m step len = record { n = n; k = k; m = m; step = step; len = len }
+
+abbrev pub found : ℕ → Origin → Located
+found distance origin = record { distance = distance; origin = origin }
 
 abbrev pub setTo : ℕ → ℕ → Edit
 setTo slot distance = record { slot = slot; distance = distance }
@@ -76,8 +83,8 @@ pub cases :
     × (checkFile 1 (fileOf A) ≡ done (counts 4 2 0 0 68)))
     -- overflow entries of A: slot 2 has 255, slot 3 has 300
     × ((overflowSlots 4 (at A) ≡ 2 ∷ 3 ∷ [])
-    × (lookupOutcome (fileOf A) 2 ≡ done 255)
-    × (lookupOutcome (fileOf A) 3 ≡ done 300)
+    × (lookupOutcome (fileOf A) 2 ≡ done (found 255 (Overflow 0)))
+    × (lookupOutcome (fileOf A) 3 ≡ done (found 300 (Overflow 1)))
     × (drop 44 (fileOf A)
     ≡ 2 ∷ 0 ∷ 0 ∷ 0 ∷ 0 ∷ 0 ∷ 0 ∷ 0 ∷ 0xFF ∷ 0x00 ∷ 0x00 ∷ 0x00
     ∷ 3 ∷ 0 ∷ 0 ∷ 0 ∷ 0 ∷ 0 ∷ 0 ∷ 0 ∷ 0x2C ∷ 0x01 ∷ 0x00 ∷ 0x00 ∷ []))
@@ -186,10 +193,24 @@ ones = 0xFFFFFFFFFFFFFFFF
 abbrev pub primaryOfA : List ℕ
 primaryOfA = 0x00 ∷ 0xFE ∷ 0xFF ∷ 0xFF ∷ []
 
+abbrev pub lookedUp : List ℕ
+lookedUp = 3 ∷ 0 ∷ 3 ∷ 2 ∷ []
+
 pub further :
-    -- lookups of slots 3, 0, 3 of A; all of A; the file of A, from its list and from its parts
-    (lookupListBuffer (fileOf A) (3 ∷ 0 ∷ 3 ∷ []) (7 ∷ 7 ∷ 7 ∷ 7 ∷ []) ≡ 300 ∷ 0 ∷ 300 ∷ 7 ∷ [])
-    × (lookupListOutcome (fileOf A) (3 ∷ 4 ∷ 5 ∷ []) 3 ≡ refuse 9 0 1)
+    -- lookups of slots 1 and 4 of A; of slots 3, 0, 3, 2, the numbers with k = 2 for slot 0; with a slot outside; with
+    -- either list too short; of no slots; of a map without overflow entries
+    ((lookupOutcome (fileOf A) 1 ≡ done (found 254 Inline)) × (lookupOutcome (fileOf A) 4 ≡ refuse 9 0 0))
+    × ((lookupListOutcome (fileOf A) lookedUp 5 4 ≡ done 4)
+    × (lookupListBuffer (fileOf A) lookedUp 4 (7 ∷ 7 ∷ 7 ∷ 7 ∷ 7 ∷ []) ≡ 300 ∷ 0 ∷ 300 ∷ 255 ∷ 7 ∷ [])
+    × (lookupListEntries (fileOf A) lookedUp 4 (7 ∷ 7 ∷ 7 ∷ 7 ∷ 7 ∷ []) ≡ 1 ∷ 2 ∷ 1 ∷ 0 ∷ 7 ∷ []))
+    × (lookupListOutcome (fileOf A) (3 ∷ 4 ∷ 5 ∷ []) 3 0 ≡ refuse 9 0 1)
+    × ((lookupListOutcome (fileOf A) lookedUp 3 4 ≡ refuse 12 0 0)
+    × (lookupListOutcome (fileOf A) lookedUp 4 3 ≡ refuse 12 0 0)
+    × (lookupListBuffer (fileOf A) lookedUp 3 (7 ∷ 7 ∷ 7 ∷ 7 ∷ []) ≡ 7 ∷ 7 ∷ 7 ∷ 7 ∷ [])
+    × (lookupListEntries (fileOf A) lookedUp 3 (7 ∷ 7 ∷ 7 ∷ 7 ∷ []) ≡ 7 ∷ 7 ∷ 7 ∷ 7 ∷ []))
+    × (lookupListOutcome (fileOf A) [] 0 0 ≡ done 0)
+    × (lookupListEntries (fileOf (8 ∷ 9 ∷ [])) (1 ∷ []) 1 (7 ∷ []) ≡ 0 ∷ [])
+    -- all of A; the file of A, from its list and from its parts
     × (scanBuffer (fileOf A) (7 ∷ 7 ∷ 7 ∷ 7 ∷ 7 ∷ []) ≡ A ++ (7 ∷ []))
     × (writeBuffer A (replicate 69 7) ≡ fileOf A ++ (7 ∷ []))
     × (closeBuffer (0 ∷ 254 ∷ 255 ∷ 255 ∷ []) (2 ∷ 3 ∷ []) (255 ∷ 300 ∷ []) (replicate 69 7) ≡ fileOf A ++ (7 ∷ []))
@@ -265,11 +286,16 @@ unfolding
     keepMaskedOutcome keepMaskedBuffer incrementMaskedOutcome incrementMaskedBuffer
     quotient countAt jaccardOutcome ofBits ofInt div shiftedBy shiftOutcome shiftBuffer
     signedDifferences signedDifferenceOutcome signedDifferenceList xor
-    lookupListOutcome lookupListBuffer scanOutcome scanBuffer writeOutcome writeBuffer closeOutcome closeBuffer
+    lookupOutcome lookupListOutcome lookupListBuffer lookupListEntries scanOutcome scanBuffer
+    writeOutcome writeBuffer closeOutcome closeBuffer
     plainOutcome editedFile editOutcome replaced editBuffer
     plainStart plainStep plainRun plainOutcomes bufferOf answerCells allCells editsOf
     editListOutcome editListBuffer editListAnswers
 further = (
+  (refl, refl),
+  (refl, refl, refl),
+  refl,
+  (refl, refl, refl, refl),
   refl,
   refl,
   refl,

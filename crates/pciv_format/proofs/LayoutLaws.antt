@@ -5,22 +5,24 @@
 --   indexStep-le, indexLen-le, overflowCount-le    how large they are
 --   fileLen-is                   the length of a file, written out
 --   length-primary, -overflowEntry, -indexEntry, -header, -overflowPart, -indexPart, -file    lengths of parts
+--   overflowSlots-at             a slot in overflow stands behind the smaller ones
 --   primary-cong                 of distances with the same bytes
 --   overflowCount-cong, file-cong, summary-cong    of distances that agree on the slots
 -- Axioms: none.
-use mathlib.Core.Path.{_≡_, refl, ap, _∙_}
+use mathlib.Core.Path.{_≡_, refl, sym, ap, _∙_}
 use Prim.Native.Nat.{ℕ, suc, _+_, _-_, _*_, _/_, _≤_, _<_}
-use native.Mathlib.Nat.{le-div-iff-mul-le, suc-mul, div-le-self}
+use native.Mathlib.Nat.{le-div-iff-mul-le, suc-mul, div-le-self, add-zero}
 use native.Mathlib.Omega.{arith}
 use mathlib.Core.Bool.{Bool, true, false}
-use mathlib.Core.List.{List, _++_}
+use mathlib.Core.List.{List, _∷_, _++_}
 use lib.ListN.{length, getD, length-append}
+use lib.Seq.{getD-append-add}
 use lib.Dec.{leb}
 use borrow.Author.Tests.{le-leb, lt-leb, leb-false, leb-true, eq-eqb, ne-eqb}
-use Rattle.pciv_bytes.specs.Ranges.{ceilDiv, joined}
+use Rattle.pciv_bytes.specs.Ranges.{ceilDiv, joined, keepIf, positions}
 use Rattle.pciv_bytes.specs.LittleEndian.{le}
 use Rattle.pciv_bytes.proofs.RangesLaws.{length-table, table-cong}
-use Rattle.pciv_bytes.proofs.PositionsLaws.{positions-count, positions-at, positions-cong}
+use Rattle.pciv_bytes.proofs.PositionsLaws.{positions-count, positions-at, positions-cong, positions-around}
 use Rattle.pciv_bytes.proofs.JoinedLaws.{length-joined, joined-cong}
 use Rattle.pciv_format.specs.Layout.{inOverflow, primaryByte, indexStep, indexLen, fileLen}
 use Rattle.pciv_format.specs.Layout.{primary, overflowSlots, overflowCount, overflowEntry}
@@ -126,6 +128,21 @@ length-file n v =
 pub overflowCount-le : (n : ℕ) (v : ℕ → ℕ) → overflowCount n v ≤ n
 unfolding overflowCount overflowSlots
 overflowCount-le n v = positions-count (λ (i : ℕ). inOverflow (v i)) 0 n
+
+pub overflowSlots-at : (n : ℕ) (v : ℕ → ℕ) (i : ℕ) → i < n → 255 ≤ v i
+    → (overflowCount i v < overflowCount n v) × (getD (overflowSlots n v) (overflowCount i v) 0 ≡ i)
+unfolding overflowCount overflowSlots
+overflowSlots-at n v i h overflows =
+    let p : ℕ → Bool = λ s. inOverflow (v s) in
+    let low : List ℕ = positions p 0 i in
+    let rest : List ℕ = positions p (suc i) (n - suc i) in
+    let all : positions p 0 n ≡ low ++ (i ∷ rest) =
+    positions-around p n i h ∙ ap (λ (b : Bool). low ++ keepIf b i rest) (le-leb 255 (v i) overflows) in (
+      omega (arith, ap length all ∙ length-append low (i ∷ rest)),
+      ap (λ (l : List ℕ). getD l (length low) 0) all
+          ∙ ap (λ (t : ℕ). getD (low ++ (i ∷ rest)) t 0) (sym (add-zero (length low)))
+          ∙ getD-append-add low (i ∷ rest) 0 0,
+    )
 
 -- ---- the primary array depends on the bytes of the n slots alone, the file on their distances
 

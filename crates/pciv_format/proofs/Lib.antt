@@ -25,6 +25,7 @@ pub mod PatchLaws
 pub mod MapLaws
 pub mod ReadingsLaws
 pub mod ZeroLaws
+pub mod OriginLaws
 pub mod ReadCaseLaws
 pub mod BitLaws
 pub mod MaskLaws

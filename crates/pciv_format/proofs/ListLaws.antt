@@ -2,7 +2,8 @@
 -- arguments, its answer and what the caller's buffer or list holds afterwards are those of the arithmetic on the
 -- lists, refusals 9 to 13 included. Nothing on a right-hand side reads a file.
 --   Writes                what a routine answers and leaves, whatever buffer or list it gets
---   file-primary, file-primaryPlace, file-lookup, file-lookupList, file-scan, file-sum, file-readings    reading
+--   file-primary, file-primaryPlace, file-lookup, file-scan, file-sum, file-readings    reading
+--   lookupsInto, file-lookupList, file-lookupEntries    a list of lookups: the outcome, and each of the two lists
 --   file-select           masks of a map: file-threshold, file-nearMask
 --   shiftedAt, maskedAt, maskedInto    a shifted distance, a masked one, and the outcome of a masked map
 --   file-shift, file-masked            maps from one file; the latter: file-keepMasked, file-incrementMasked
@@ -26,14 +27,14 @@ use native.Mathlib.Omega.{arith}
 use native.Mathlib.Decide.{decLe}
 use mathlib.Core.Bool.{Bool, not, _||_, xor}
 use mathlib.Core.List.{List, _++_, map}
-use lib.ListN.{length, take, drop, length-map, List·getD-map, List·getD-eq-default}
+use lib.ListN.{length, getD, take, drop, length-map, List·getD-map, List·getD-eq-default}
 use lib.Seq.{take-at, drop-at}
 use lib.Dec.{ltb, leb, eqb}
 use lib.IntN.{ℤ}
 use borrow.Author.Tests.{ltb-false, le-ltb}
 use Rattle.pciv_bytes.specs.Ranges.{table}
 use Rattle.pciv_bytes.specs.LittleEndian.{Bytes}
-use Rattle.pciv_bytes.proofs.RangesLaws.{getD-inside}
+use Rattle.pciv_bytes.proofs.RangesLaws.{getD-inside, map-cong}
 use Rattle.pciv_format.specs.Layout.{maxSlots, maxDistance, primary, overflowSlots}
 use Rattle.pciv_format.specs.Layout.{overflowCount, header, file, countsOf, summary, at, fileOf}
 use Rattle.pciv_format.specs.Layout.{summaryOf, Limits}
@@ -41,8 +42,9 @@ use Rattle.pciv_format.specs.Refusals.{Outcome, done, refuse, refuseIf, 
 use Rattle.pciv_format.specs.Parts.{Parts, badEntry, badSlot, valueOf, SoundParts}
 use Rattle.pciv_format.specs.Check.{fileParts, checkFile}
 use Rattle.pciv_format.specs.Read.{listOf, primaryPart, behind, primaryPlace, lookupOutcome}
-use Rattle.pciv_format.specs.Read.{itemsInto, lookupListOutcome, lookupListBuffer, scanOutcome}
-use Rattle.pciv_format.specs.Read.{scanBuffer, total, readings, sumOutcome, readingsOutcome}
+use Rattle.pciv_format.specs.Read.{entryNumber, itemsInto, lookupListOutcome, lookupListBuffer}
+use Rattle.pciv_format.specs.Read.{lookupListEntries, scanOutcome, scanBuffer, total, readings}
+use Rattle.pciv_format.specs.Read.{sumOutcome, readingsOutcome}
 use Rattle.pciv_format.specs.Write.{fileInto, mapInto, writeOutcome, writeBuffer, closeParts}
 use Rattle.pciv_format.specs.Write.{closeOutcome, closeBuffer}
 use Rattle.pciv_format.specs.Mask.{maskLen, maskHas, maskOf, badMask, holds, isNear, selectOutcome}
@@ -70,6 +72,7 @@ use Rattle.pciv_format.proofs.PrimaryLaws.{primary-byte}
 use Rattle.pciv_format.proofs.FileLaws.{file-header, file-byte, file-slot, file-distance}
 use Rattle.pciv_format.proofs.FileLaws.{file-checked, file-value}
 use Rattle.pciv_format.proofs.Acceptance.{file-accepted, file-read, file-table, summary-table, table-limits}
+use Rattle.pciv_format.proofs.OriginLaws.{entryIn, originIn, originOf-entryIn, file-entryNumber}
 use Rattle.pciv_format.proofs.SamePartsLaws.{SameParts, sound-same, same-back, valueOf-same}
 use Rattle.pciv_format.proofs.FrontLaws.{front-check, front-list}
 use Rattle.pciv_format.proofs.LimitLaws.{edit-plain}
@@ -89,6 +92,11 @@ primary-part n v =
     ap (take n) (drop-at (header n (overflowCount n v)) _ 40 (length-header n _))
     ∙ take-at (primary n v) _ n (length-primary n v)
 
+-- lookups in a list xs, into lists of c₁ and c₂ elements: refusals 9 and 12
+abbrev pub lookupsInto : List ℕ → List ℕ → ℕ → ℕ → Outcome ℕ
+lookupsInto xs slots c₁ c₂ =
+    refuseFirst 9 0 (λ (i : ℕ). leb (length xs) (at slots i)) (length slots) (itemsInto (length slots) (min c₁ c₂))
+
 module _ (xs : List ℕ) (l : Limits xs) where
   pub file-primary : primaryPart (fileOf xs) ≡ primary (length xs) (at xs)
   unfolding primaryPart
@@ -101,16 +109,34 @@ module _ (xs : List ℕ) (l : Limits xs) where
   file-primaryPlace p = rw (file-accepted 1 xs l)
 
   pub file-lookup : (slot : ℕ)
-      → lookupOutcome (fileOf xs) slot ≡ refuseIf (leb (length xs) slot) (refuse 9 0 0) (done (at xs slot))
+      → lookupOutcome (fileOf xs) slot
+      ≡ refuseIf (leb (length xs) slot) (refuse 9 0 0)
+      (done (record { distance = at xs slot; origin = originIn xs slot }))
   unfolding lookupOutcome summary countsOf
-  file-lookup slot = rw (file-accepted 1 xs l, file-read xs l)
+  file-lookup slot =
+      rw (
+        file-accepted 1 xs l,
+        file-read xs l,
+        file-entryNumber xs l slot,
+        file-header (length xs) (at xs) (l .count) (l .each) .kIs,
+        originOf-entryIn xs slot,
+      )
 
-  pub file-lookupList : (slots : List ℕ)
-      → Writes (lookupListOutcome (fileOf xs) slots) (lookupListBuffer (fileOf xs) slots)
-      (λ c. refuseFirst 9 0 (λ (i : ℕ). leb (length xs) (at slots i)) (length slots) (itemsInto (length slots) c))
-      (map (at xs) slots)
+  pub file-lookupList : (slots : List ℕ) (c₂ : ℕ)
+      → Writes (λ c₁. lookupListOutcome (fileOf xs) slots c₁ c₂) (lookupListBuffer (fileOf xs) slots c₂)
+      (λ c₁. lookupsInto xs slots c₁ c₂) (map (at xs) slots)
   unfolding lookupListOutcome lookupListBuffer summary countsOf
-  file-lookupList slots out = rw (file-accepted 1 xs l, file-read xs l) (refl, refl)
+  file-lookupList slots c₂ out = rw (file-accepted 1 xs l, file-read xs l) (refl, refl)
+
+  pub file-lookupEntries : (slots : List ℕ) (c₁ : ℕ)
+      → Writes (lookupListOutcome (fileOf xs) slots c₁) (lookupListEntries (fileOf xs) slots c₁)
+      (lookupsInto xs slots c₁) (map (entryIn xs) slots)
+  unfolding lookupListOutcome lookupListEntries summary countsOf
+  file-lookupEntries slots c₁ out =
+      rw (
+        file-accepted 1 xs l,
+        map-cong (entryNumber (fileOf xs)) (entryIn xs) slots (λ i h. file-entryNumber xs l (getD slots i 0)),
+      ) (refl, refl)
 
   pub file-scan : Writes (scanOutcome (fileOf xs)) (scanBuffer (fileOf xs)) (itemsInto (length xs)) xs
   unfolding scanOutcome scanBuffer summary countsOf

@@ -6,6 +6,7 @@
 --   entry-at, entries-rise      where every entry is right: each of them, and that the slots rise
 --   entry-good, slots-rise      the same of sound parts
 --   entryOf-slot, valueOf-slot  the entry and the distance at an entry's slot
+--   entryOf-none, -inline, -past    k for a slot that no entry has, with a byte below 255, past the last slot
 --   slot-entry                  a slot with byte 255 has an entry
 --   valueOf-inline, slot-cases  the distance of a slot that is stored inline; what is known of any slot
 --   primaryByte-valueOf, valueOf-le    the primary byte of the distance, and the largest distance
@@ -21,7 +22,7 @@ use lib.Dec.{eqb}
 use borrow.Author.Tests.{lt-ltb, le-ltb, le-leb, lt-leb, eq-eqb, ne-eqb, ltb-false, leb-true, leb-false}
 use borrow.Author.Tests.{eqb-true, not-false}
 use Rattle.pciv_bytes.specs.Ranges.{firstBelow, table}
-use Rattle.pciv_bytes.proofs.RangesLaws.{firstBelow-at, firstBelow-has, length-table}
+use Rattle.pciv_bytes.proofs.RangesLaws.{firstBelow-none, firstBelow-at, firstBelow-has, length-table}
 use Rattle.pciv_bytes.proofs.PositionsLaws.{rises, positions-are}
 use Rattle.pciv_format.specs.Layout.{maxDistance, inOverflow, primaryByte, overflowSlots, overflowCount}
 use Rattle.pciv_format.specs.Parts.{Parts, wrongEntry, lowestSlot, badEntry, entryOf, badSlot}
@@ -126,6 +127,13 @@ module _ (P : Parts) (right : EntriesRight P) where
   pub entries-rise : (j t : ℕ) → j < t → t < P .k → P .slot j < P .slot t
   entries-rise = rises (P .slot) (P .k) (λ j h. omega (arith, entry-at (suc j) h .above))
 
+-- ---- a slot that no entry has
+
+pub entryOf-none : (P : Parts) (i : ℕ) → ((j : ℕ) → j < P .k → P .slot j ≡ i → ⊥) → entryOf P i ≡ P .k
+unfolding entryOf
+entryOf-none P i none =
+    firstBelow-none (λ (j : ℕ). eqb (P .slot j) i) (P .k) (λ j h. ne-eqb (P .slot j) i (none j h))
+
 -- ---- what sound parts satisfy
 
 module _ (P : Parts) (s : SoundParts P) where
@@ -147,6 +155,12 @@ module _ (P : Parts) (s : SoundParts P) where
   pub valueOf-slot : (j : ℕ) → j < P .k → valueOf P (P .slot j) ≡ P .distance j
   unfolding valueOf
   valueOf-slot j h = rw (entry-good j h .marked, entryOf-slot j h)
+
+  pub entryOf-inline : (i : ℕ) → P .byte i < 255 → entryOf P i ≡ P .k
+  entryOf-inline i small = entryOf-none P i (λ j h e. omega (arith, entry-good j h .marked, ap (P .byte) e))
+
+  pub entryOf-past : (i : ℕ) → P .n ≤ i → entryOf P i ≡ P .k
+  entryOf-past i past = entryOf-none P i (λ j h e. omega (arith, entry-good j h .inside))
 
   -- a slot with byte 255 has an entry
   pub slot-entry : (i : ℕ) → i < P .n → P .byte i ≡ 255 → (j : ℕ) × (j < P .k) × (P .slot j ≡ i)

@@ -5,24 +5,32 @@
 --   onlyDone o l, bytesBefore o    l, or nothing where o is a refusal; the bytes before the primary part
 --   behind i p       the place i bytes behind the place p
 --   primaryPlace b p    where the primary part of b starts, if b starts at p
---   itemsInto c capacity     c items into a list that holds `capacity` of them: how many, or refusal 12
+--   entryNumber b i  the number of the overflow entry of slot i in a file b, or k
+--   originOf k j, originNumber k o    the origin that the number j tells, of k entries; the number that tells the origin o
+--   located x k j    distance x with the origin that j tells
 --   lookupOutcome            one slot
---   lookupListOutcome, lookupListBuffer, scanOutcome, scanBuffer    a list of slots, and all of them, into a list
+--   itemsInto c capacity     c items into a list that holds `capacity` of them: how many, or refusal 12
+--   lookupListOutcome        a list of slots, into lists of c₁ and c₂ elements
+--   lookupListBuffer, lookupListEntries    the distances in the first of them, the numbers of the entries in the second
+--   scanOutcome, scanBuffer  all slots, into a list
 --   total xs, readings xs    the sum of all distances, and how many are not 0; of bytes likewise
 --   sumOutcome, readingsOutcome    these of a file
--- Laws are in proofs/ReadLaws.antt, of readings in proofs/ReadingsLaws.antt, of the outcomes case by case in
--- proofs/ReadCaseLaws.antt. Axioms: none.
-use Prim.Native.Nat.{ℕ, _+_}
-use mathlib.Core.Bool.{not}
+-- Laws are in proofs/ReadLaws.antt, of readings in proofs/ReadingsLaws.antt, of origins in proofs/OriginLaws.antt, of the
+-- outcomes case by case in proofs/ReadCaseLaws.antt. Axioms: none.
+use Prim.Native.Nat.{ℕ, _+_, min}
+use mathlib.Core.Bool.{not, cond}
 use mathlib.Core.List.{List, [], map}
 use lib.ListN.{length, take, drop}
 use lib.Dec.{ltb, leb, eqb}
 use Rattle.pciv_bytes.specs.Ranges.{flag, table, sumFrom}
 use Rattle.pciv_format.specs.Layout.{at}
 use Rattle.pciv_format.specs.Refusals.{Outcome, done, refused, refuse, refuseIf, refuseFirst, andThen, written}
-use Rattle.pciv_format.specs.Parts.{valueOf}
+use Rattle.pciv_format.specs.Parts.{entryOf, valueOf}
 use Rattle.pciv_format.specs.Check.{nField, kField, fileParts, checkFile}
 use Rattle.pciv_format.specs.declared.Summary.{Summary}
+use Rattle.pciv_format.specs.declared.Origin.{Origin}
+use Rattle.pciv_format.specs.declared.Origin.the-variants.{Inline, Overflow}
+use Rattle.pciv_format.specs.declared.Located.{Located}
 
 -- the distance that a file b has at slot i
 abbrev pub valueAt : List ℕ → ℕ → ℕ
@@ -52,24 +60,48 @@ bytesBefore (refused r) = 0
 unfoldable pub primaryPlace : List ℕ → ℕ × ℕ → ℕ × ℕ
 primaryPlace b p = behind (bytesBefore (checkFile 1 b)) p
 
+-- ---- where a distance is stored
+
+-- the number of the overflow entry of slot i, from 0, or k where the distance there is inline
+abbrev pub entryNumber : List ℕ → ℕ → ℕ
+entryNumber b i = entryOf (fileParts b (nField b) (kField b)) i
+
+abbrev pub originOf : ℕ → ℕ → Origin
+originOf k j = cond (ltb j k) (Overflow j) Inline
+
+abbrev pub originNumber : ℕ → Origin → ℕ
+originNumber k Inline = k
+originNumber k (Overflow j) = j
+
+abbrev pub located : ℕ → ℕ → ℕ → Located
+located x k j = record { distance = x; origin = originOf k j }
+
 -- ---- lookup and scan
 
-unfoldable pub lookupOutcome : List ℕ → ℕ → Outcome ℕ
+unfoldable pub lookupOutcome : List ℕ → ℕ → Outcome Located
 lookupOutcome b slot =
-    andThen (checkFile 1 b) (λ s. refuseIf (leb (s .n) slot) (refuse 9 0 0) (done (at (listOf b) slot)))
+    andThen (checkFile 1 b)
+    (λ s. refuseIf (leb (s .n) slot) (refuse 9 0 0) (done (located (at (listOf b) slot) (kField b) (entryNumber b slot))))
 
 -- c items into a list that holds `capacity` of them; the answer is how many were written
 abbrev pub itemsInto : ℕ → ℕ → Outcome ℕ
 itemsInto c capacity = refuseIf (ltb capacity c) (refuse 12 0 0) (done c)
 
-unfoldable pub lookupListOutcome : List ℕ → List ℕ → ℕ → Outcome ℕ
-lookupListOutcome b slots capacity =
+-- both lists get an item for each slot, so the shorter one has to hold them
+unfoldable pub lookupListOutcome : List ℕ → List ℕ → ℕ → ℕ → Outcome ℕ
+lookupListOutcome b slots c₁ c₂ =
     andThen (checkFile 1 b)
-    (λ s. refuseFirst 9 0 (λ (i : ℕ). leb (s .n) (at slots i)) (length slots) (itemsInto (length slots) capacity))
+    (λ s. refuseFirst 9 0 (λ (i : ℕ). leb (s .n) (at slots i)) (length slots) (itemsInto (length slots) (min c₁ c₂)))
 
-unfoldable pub lookupListBuffer : List ℕ → List ℕ → List ℕ → List ℕ
-lookupListBuffer b slots out =
-    written (lookupListOutcome b slots (length out)) (map (at (listOf b)) slots) out
+-- the first list afterwards, where the second has c₂ elements
+unfoldable pub lookupListBuffer : List ℕ → List ℕ → ℕ → List ℕ → List ℕ
+lookupListBuffer b slots c₂ out =
+    written (lookupListOutcome b slots (length out) c₂) (map (at (listOf b)) slots) out
+
+-- the second list afterwards, where the first has c₁ elements
+unfoldable pub lookupListEntries : List ℕ → List ℕ → ℕ → List ℕ → List ℕ
+lookupListEntries b slots c₁ out =
+    written (lookupListOutcome b slots c₁ (length out)) (map (entryNumber b) slots) out
 
 unfoldable pub scanOutcome : List ℕ → ℕ → Outcome ℕ
 scanOutcome b capacity = andThen (checkFile 1 b) (λ s. itemsInto (s .n) capacity)

@@ -7,7 +7,7 @@
 --   andThen o f                  f of what o is done with; a refusal stays
 --   written o f d                a buffer or list d after the outcome o of writing f: f and then what stood behind
 --                                it, or d unchanged after a refusal
---   fileAnswer, numberAnswer, distanceAnswer, figureAnswer
+--   fileAnswer, numberAnswer, lookupAnswer, figureAnswer
 --                                the outcome as a value of the answer's type
 -- Laws are in proofs/RefusalsLaws.antt. Axioms: none.
 use Prim.Native.Nat.{ℕ}
@@ -23,8 +23,9 @@ use Rattle.pciv_format.specs.declared.FileAnswer.{FileAnswer}
 use Rattle.pciv_format.specs.declared.FileAnswer.the-variants as InFile
 use Rattle.pciv_format.specs.declared.NumberAnswer.{NumberAnswer}
 use Rattle.pciv_format.specs.declared.NumberAnswer.the-variants as InNumber
-use Rattle.pciv_format.specs.declared.DistanceAnswer.{DistanceAnswer}
-use Rattle.pciv_format.specs.declared.DistanceAnswer.the-variants as InDistance
+use Rattle.pciv_format.specs.declared.Located.{Located}
+use Rattle.pciv_format.specs.declared.LookupAnswer.{LookupAnswer}
+use Rattle.pciv_format.specs.declared.LookupAnswer.the-variants as InLookup
 use Rattle.pciv_format.specs.declared.FigureAnswer.{FigureAnswer}
 use Rattle.pciv_format.specs.declared.FigureAnswer.the-variants as InFigure
 
@@ -63,9 +64,9 @@ abbrev pub numberAnswer : Outcome ℕ → NumberAnswer
 numberAnswer (done x) = InNumber.Number x
 numberAnswer (refused r) = InNumber.Refused r
 
-abbrev pub distanceAnswer : Outcome ℕ → DistanceAnswer
-distanceAnswer (done x) = InDistance.Distance x
-distanceAnswer (refused r) = InDistance.Refused r
+abbrev pub lookupAnswer : Outcome Located → LookupAnswer
+lookupAnswer (done a) = InLookup.Found a
+lookupAnswer (refused r) = InLookup.Refused r
 
 abbrev pub figureAnswer : Outcome Float → FigureAnswer
 figureAnswer (done x) = InFigure.Quotient x

@@ -73,9 +73,21 @@ pub enum NumberAnswer {
     Refused(Refusal),
 }
 
+// Where a distance is stored: `Inline` in the primary array, `Overflow` in the overflow entry with this number, from 0.
+pub enum Origin {
+    Inline,
+    Overflow(usize),
+}
+
+// The distance at a slot, and where it is stored.
+pub struct Located {
+    pub distance: u32,
+    pub origin: Origin,
+}
+
 // The answer of a lookup of one slot.
-pub enum DistanceAnswer {
-    Distance(u32),
+pub enum LookupAnswer {
+    Found(Located),
     Refused(Refusal),
 }
 

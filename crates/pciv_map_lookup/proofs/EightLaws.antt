@@ -1,11 +1,13 @@
 -- Laws of a search for the entry of a slot that keeps the part where it may stand, and of places that are filled.
 --   flag-leb                      a test that is computed without a branch
 --   holds-halve                   the search goes on
---   overflow-some, holds-value    there is an entry, and the search ends with the slot's distance
+--   overflow-some, holds-value    there is an entry, and the search ends with it and the slot's distance
 --   eight-start                   eight searches begin
 --   Halving, halving-more         a turn of them, which the first q have had
---   setsAt-none, -more, -end      no place; the next place is filled; none is left
+--   setsAt-none                   no place is filled
 --   setsAt-last, setsAt-sets      one place more; a list that is written behind the places
+--   Filling g ps d₀ d c q         of the first c places of ps those from q on are left: filling all in d₀ is filling these in d
+--   filling-start, -more, -end    all are left; the next place is filled; none is left
 -- Axioms: none.
 use mathlib.Core.Path.{_≡_, refl, sym, ap, _∙_}
 use mathlib.Core.List.{List, [], _∷_, _++_}
@@ -14,14 +16,14 @@ use native.Mathlib.Nat.{mul-zero, mul-one, add-zero}
 use native.Mathlib.Numerals.{add-one}
 use native.Mathlib.Omega.{arith}
 use native.Mathlib.Decide.{decLe}
-use lib.ListN.{length, getD, set, take, drop, replicate, drop-of-length-le}
+use lib.ListN.{length, getD, set, take, drop, replicate, length-set, drop-of-length-le}
 use lib.Seq.{sets, length-take-le, getD-take, drop-cons, getD-set-same, getD-set-other, set-comm, take-suc-set}
 use lib.Dec.{leb}
 use borrow.Author.Tests.{le-leb, lt-leb}
 use Rattle.pciv_bytes.specs.Ranges.{flag}
 use Rattle.pciv_bytes.proofs.WriteLaws.{set-before-sets}
-use Rattle.pciv_format.specs.Parts.{Parts, valueOf, SoundParts}
-use Rattle.pciv_format.proofs.PartsLaws.{slots-rise, slot-entry, valueOf-slot}
+use Rattle.pciv_format.specs.Parts.{Parts, entryOf, valueOf, SoundParts}
+use Rattle.pciv_format.proofs.PartsLaws.{slots-rise, entryOf-slot, slot-entry, valueOf-slot}
 use Rattle.pciv_map_lookup.specs.Eight.{OverflowPlace, Holds, Eight, setsAt}
 use Rattle.pciv_format.proofs.EntryLaws.{slots-sorted}
 
@@ -89,12 +91,15 @@ module _ (P : Parts) (sound : SoundParts P) where
 
   -- and where one entry is left, that is it
   pub holds-value : (xs : List ℕ) (b p lo : ℕ) → OverflowPlace P xs b p → Holds P (getD xs p 0) lo 1
-      → (lo < P .k) × (valueOf P (getD xs p 0) ≡ P .distance lo)
+      → (lo < P .k) × (valueOf P (getD xs p 0) ≡ P .distance lo) × (entryOf P (getD xs p 0) ≡ lo)
   holds-value xs b p lo f w =
       let q = slot-entry P sound (getD xs p 0) (f .inside) (f .overflows) in
       let at = w .entry (q .0) (q .1) (q .2) in
-      let e : q .0 ≡ lo = omega arith in
-      (omega (arith, w .within), ap (valueOf P) (sym (q .2)) ∙ valueOf-slot P sound (q .0) (q .1) ∙ ap (P .distance) e)
+      let e : q .0 ≡ lo = omega arith in (
+        omega (arith, w .within),
+        ap (valueOf P) (sym (q .2)) ∙ valueOf-slot P sound (q .0) (q .1) ∙ ap (P .distance) e,
+        ap (entryOf P) (sym (q .2)) ∙ entryOf-slot P sound (q .0) (q .1) ∙ e,
+      )
 
 -- ---- eight searches
 
@@ -131,8 +136,7 @@ module _ (g : ℕ → ℕ) where
   unfolding setsAt
   setsAt-none d = refl
 
-  -- of c places those from q on are left
-  pub setsAt-more : (ps d : List ℕ) (c q x : ℕ) → c ≤ length ps → q < c → x ≡ g (getD ps q 0)
+  setsAt-more : (ps d : List ℕ) (c q x : ℕ) → c ≤ length ps → q < c → x ≡ g (getD ps q 0)
       → setsAt g (drop q (take c ps)) d ≡ setsAt g (drop (q + 1) (take c ps)) (set d (getD ps q 0) x)
   unfolding setsAt
   setsAt-more ps d c q x long h e =
@@ -143,7 +147,7 @@ module _ (g : ℕ → ℕ) where
         e,
       )
 
-  pub setsAt-end : (ps d : List ℕ) (c q : ℕ) → c ≤ length ps → c ≤ q → setsAt g (drop q (take c ps)) d ≡ d
+  setsAt-end : (ps d : List ℕ) (c q : ℕ) → c ≤ length ps → c ≤ q → setsAt g (drop q (take c ps)) d ≡ d
   unfolding setsAt
   setsAt-end ps d c q long h = rw (drop-of-length-le (take c ps) {i = q} (rw (length-take-le c ps long) h))
 
@@ -183,3 +187,26 @@ module _ (g : ℕ → ℕ) where
   setsAt-sets (p ∷ ps) d l i h =
       ap (setsAt g ps) (set-before-sets l d p i (g p) (h 0 (omega arith)))
       ∙ setsAt-sets ps (set d p (g p)) l i (λ q hq. h (suc q) (omega arith))
+
+-- ---- places that are left
+
+pub record Filling (g : ℕ → ℕ) (ps d₀ d : List ℕ) (c q : ℕ) : Type 0 where
+  pub same : length d ≡ length d₀
+  pub left : setsAt g (take c ps) d₀ ≡ setsAt g (drop q (take c ps)) d
+
+pub filling-start : (g : ℕ → ℕ) (ps d : List ℕ) (c : ℕ) → Filling g ps d d c 0
+filling-start g ps d c = record { same = refl; left = refl }
+
+module _ {g : ℕ → ℕ} {ps d₀ d : List ℕ} {c q : ℕ} (long : c ≤ length ps) (f : Filling g ps d₀ d c q) where
+  pub filling-more : (d' : List ℕ) (x : ℕ) → d' ≡ set d (getD ps q 0) x → q < c → x ≡ g (getD ps q 0)
+      → Filling g ps d₀ d' c (q + 1)
+  filling-more d' x is h e =
+      record {
+        same = ap length is ∙ simp length-set (f .same);
+        left = f .left
+            ∙ setsAt-more g ps d c q x long h e
+            ∙ ap (setsAt g (drop (q + 1) (take c ps))) (sym is);
+      }
+
+  pub filling-end : c ≤ q → d ≡ setsAt g (take c ps) d₀
+  filling-end h = sym (f .left ∙ setsAt-end g ps d c q long h)

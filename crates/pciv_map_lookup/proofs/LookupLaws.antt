@@ -1,6 +1,7 @@
 -- Laws of the overflow entries below a slot, and of the two tables of a checked map that a lookup searches.
 --   entriesBelow-past               past the last slot they are all entries
---   valueOf-entry                   a slot in overflow has its distance at entry `entriesBelow`
+--   valueOf-entry                   a slot in overflow has its entry, and its distance, at `entriesBelow`
+--   located-inline, located-entry   so what is located at a slot: its byte, or that entry
 --   entriesBelow-count              as many slots below are in overflow
 --   entries-table, index-table      the overflow entries and the index are sorted by their slots
 --   entriesBelow-part, index-block  the index names a part of the entries, and a search there finds the entry
@@ -18,10 +19,13 @@ use Rattle.pciv_bytes.specs.LittleEndian.{get}
 use Rattle.pciv_bytes.proofs.RangesLaws.{length-table, getD-table}
 use Rattle.pciv_bytes.proofs.PositionsLaws.{positions-at, positions-append}
 use Rattle.pciv_format.specs.Layout.{indexStep, indexLen, inOverflow, overflowSlots, overflowCount}
-use Rattle.pciv_format.specs.Parts.{Parts, valueOf, SoundParts}
+use Rattle.pciv_format.specs.Parts.{Parts, entryOf, valueOf, SoundParts}
 use Rattle.pciv_format.specs.Check.{mField, stepField, fileParts, badIndexEntry, CheckedMap}
+use Rattle.pciv_format.specs.Read.{located}
+use Rattle.pciv_format.specs.declared.Origin.the-variants.{Inline, Overflow}
 use Rattle.pciv_format.proofs.PartsLaws.{or-false, not-eqb, entry-good, slots-rise, slot-entry}
-use Rattle.pciv_format.proofs.PartsLaws.{valueOf-slot, overflowSlots-are}
+use Rattle.pciv_format.proofs.PartsLaws.{entryOf-slot, entryOf-inline, valueOf-slot, valueOf-inline, overflowSlots-are}
+use Rattle.pciv_format.proofs.OriginLaws.{originOf-entry, originOf-none}
 use Rattle.pciv_format.proofs.LayoutLaws.{index-inside}
 use Rattle.pciv_format.proofs.CheckLaws.{checked-length}
 use Rattle.pciv_map_lookup.specs.Lookup.{lowerBound, entriesBelow, blockStart, blockEnd, keyAt, Sorted}
@@ -47,11 +51,25 @@ module _ (P : Parts) (sound : SoundParts P) where
 
   -- a slot with byte 255 has its entry there
   pub valueOf-entry : (i : ℕ) → i < P .n → P .byte i ≡ 255
-      → (entriesBelow P i < P .k) × (valueOf P i ≡ P .distance (entriesBelow P i))
+      → (entriesBelow P i < P .k) × (valueOf P i ≡ P .distance (entriesBelow P i)) × (entryOf P i ≡ entriesBelow P i)
   valueOf-entry i h e =
       let q = slot-entry P sound i h e in
-      let at : entriesBelow P i ≡ q .0 = ap (entriesBelow P) (sym (q .2)) ∙ entriesBelow-slot (q .0) (q .1) in
-      (omega (arith, q .1), rw at (ap (valueOf P) (sym (q .2)) ∙ valueOf-slot P sound (q .0) (q .1)))
+      let at : entriesBelow P i ≡ q .0 = ap (entriesBelow P) (sym (q .2)) ∙ entriesBelow-slot (q .0) (q .1) in (
+        omega (arith, q .1),
+        rw at (ap (valueOf P) (sym (q .2)) ∙ valueOf-slot P sound (q .0) (q .1)),
+        rw at (ap (entryOf P) (sym (q .2)) ∙ entryOf-slot P sound (q .0) (q .1)),
+      )
+
+  pub located-inline : (i : ℕ) → P .byte i < 255
+      → located (valueOf P i) (P .k) (entryOf P i) ≡ record { distance = P .byte i; origin = Inline }
+  located-inline i small =
+      rw (valueOf-inline P sound i small, entryOf-inline P sound i small, originOf-none (P .k) (P .k) (le-refl (P .k)))
+
+  pub located-entry : (i : ℕ) → i < P .n → P .byte i ≡ 255 → (j : ℕ) → j ≡ entriesBelow P i
+      → located (valueOf P i) (P .k) (entryOf P i) ≡ record { distance = P .distance j; origin = Overflow j }
+  located-entry i h e j is =
+      let v = valueOf-entry i h e in
+      rw (v .1, v .2, is, originOf-entry (P .k) (entriesBelow P i) (v .0))
 
   -- they are the slots in overflow below i
   pub entriesBelow-count : ((i : ℕ) → P .byte i < 256) → (i : ℕ) → i ≤ P .n

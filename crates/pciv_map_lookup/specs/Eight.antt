@@ -1,5 +1,5 @@
 -- Slots in overflow that stand at places of a list, and searches for eight of them among the overflow entries.
---   distanceAt P xs p             the distance at the slot that stands at place p of the list xs
+--   atPlace g xs p                g of the slot that stands at place p of the list xs
 --   OverflowPlace P xs b p        place p is below b, and the slot of xs there is in overflow
 --   OverflowPlaces P xs b ps c    so it is for the first c places of ps
 --   Holds P s lo len              the entry of slot s is among the len entries from lo on
@@ -10,10 +10,10 @@ use mathlib.Core.Path.{_≡_}
 use mathlib.Core.List.{List, [], _∷_}
 use Prim.Native.Nat.{ℕ, _+_, _≤_, _<_}
 use lib.ListN.{length, getD, set}
-use Rattle.pciv_format.specs.Parts.{Parts, valueOf}
+use Rattle.pciv_format.specs.Parts.{Parts}
 
-abbrev pub distanceAt : Parts → List ℕ → ℕ → ℕ
-distanceAt P xs p = valueOf P (getD xs p 0)
+abbrev pub atPlace : (ℕ → ℕ) → List ℕ → ℕ → ℕ
+atPlace g xs p = g (getD xs p 0)
 
 pub record OverflowPlace (P : Parts) (xs : List ℕ) (b p : ℕ) : Type 0 where
   pub before : p < b

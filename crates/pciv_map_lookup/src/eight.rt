@@ -1,15 +1,17 @@
-// The distances at slots in overflow that stand at given places of a list. Eight of them are searched for in step:
+// The distances and entries of slots in overflow that stand at given places of a list. Eight are searched for in step:
 // a turn of a search leaves as many entries whatever the slot, and the loads of a turn do not wait for each other.
 // Searches and places are defined in specs/Eight.antt.
 ghost use mathlib.Core.Path.{_≡_};
-ghost use Prim.Native.Nat.{_-_, _/_, _^_, _≤_, _<_};
+ghost use Prim.Native.Nat.{_+_, _-_, _*_, _/_, _^_, _≤_, _<_};
 ghost use lib.Dec.{leb};
-ghost use lib.ListN.{length, take};
+ghost use lib.ListN.{length, set, take};
 ghost use Rattle.pciv_bytes.specs.Ranges.{flag};
+ghost use Rattle.pciv_bytes.specs.LittleEndian.{get};
+ghost use Rattle.pciv_format.specs.Parts.{entryOf, valueOf};
 ghost use Rattle.pciv_format.specs.Check.{fileParts, CheckedMap};
-ghost use Rattle.pciv_map_lookup.specs.Eight.{Eight, OverflowPlaces, distanceAt, setsAt};
+ghost use Rattle.pciv_map_lookup.specs.Eight.{Eight, OverflowPlaces, atPlace, setsAt};
 use crate::HALF_RANGE;
-use crate::distance_at;
+use crate::entry_of;
 use pciv_map::entries::entry_distance;
 use pciv_map::entries::entry_slot;
 
@@ -62,9 +64,29 @@ fn entries8(file: &[u8], n: usize, k: usize, slots: &[usize], places: &[usize; 8
     first
 }
 
-// The distances at eight slots in overflow, to their places in the caller's list.
-pub(crate) fn distances8(
-    out: &mut [u32],
+// Overflow entry j, to a place of the caller's lists: its distance, and its number.
+fn put_entry(
+    distances: &mut [u32],
+    entries: &mut [usize],
+    place: usize,
+    file: &[u8],
+    n: usize,
+    j: usize,
+)
+    requires { ⌜ (place < length (now distances)) × (place < length (now entries)) ⌝ }
+    requires { ⌜ 40 + n + 12 * j + 12 ≤ length (now file) ⌝ }
+    ensures { λ _. ⌜ now (distances .exit)
+        ≡ set (now (distances .entry)) place (get 4 (now (file .entry)) (40 + n + 12 * j + 8)) ⌝ }
+    ensures { λ _. ⌜ now (entries .exit) ≡ set (now (entries .entry)) place j ⌝ }
+{
+    distances[place] = entry_distance(file, n, j);
+    entries[place] = j;
+}
+
+// The distances and entries of eight slots in overflow, to their places in the caller's lists.
+pub(crate) fn locate8(
+    distances: &mut [u32],
+    entries: &mut [usize],
     file: &[u8],
     n: usize,
     k: usize,
@@ -73,23 +95,27 @@ pub(crate) fn distances8(
 )
     requires { ⌜ CheckedMap (now file) n k ⌝ }
     requires { ⌜ OverflowPlaces (fileParts (now file) n k) (now slots) (length (now slots)) (now places) 8 ⌝ }
-    requires { ⌜ length (now slots) ≤ length (now out) ⌝ }
-    ensures { λ _. ⌜ now (out .exit)
-        ≡ setsAt (distanceAt (fileParts (now (file .entry)) n k) (now (slots .entry)))
-        (take 8 (now (places .entry))) (now (out .entry)) ⌝ }
+    requires { ⌜ (length (now slots) ≤ length (now distances)) × (length (now slots) ≤ length (now entries)) ⌝ }
+    ensures { λ _. ⌜ now (distances .exit)
+        ≡ setsAt (atPlace (valueOf (fileParts (now (file .entry)) n k)) (now (slots .entry)))
+        (take 8 (now (places .entry))) (now (distances .entry)) ⌝ }
+    ensures { λ _. ⌜ now (entries .exit)
+        ≡ setsAt (atPlace (entryOf (fileParts (now (file .entry)) n k)) (now (slots .entry)))
+        (take 8 (now (places .entry))) (now (entries .entry)) ⌝ }
 {
     let found = entries8(file, n, k, slots, places);
     let mut q = 0;
     while q < 8 {
         let place = places[q];
-        out[place] = entry_distance(file, n, found[q]);
+        put_entry(distances, entries, place, file, n, found[q]);
         q += 1;
     }
 }
 
 // The same for fewer than eight, each on its own: those at the first `count` places.
-pub(crate) fn distances_few(
-    out: &mut [u32],
+pub(crate) fn locate_few(
+    distances: &mut [u32],
+    entries: &mut [usize],
     file: &[u8],
     n: usize,
     k: usize,
@@ -100,15 +126,19 @@ pub(crate) fn distances_few(
     requires { ⌜ CheckedMap (now file) n k ⌝ }
     requires { ⌜ (count ≤ 8)
         × OverflowPlaces (fileParts (now file) n k) (now slots) (length (now slots)) (now places) count ⌝ }
-    requires { ⌜ length (now slots) ≤ length (now out) ⌝ }
-    ensures { λ _. ⌜ now (out .exit)
-        ≡ setsAt (distanceAt (fileParts (now (file .entry)) n k) (now (slots .entry)))
-        (take count (now (places .entry))) (now (out .entry)) ⌝ }
+    requires { ⌜ (length (now slots) ≤ length (now distances)) × (length (now slots) ≤ length (now entries)) ⌝ }
+    ensures { λ _. ⌜ now (distances .exit)
+        ≡ setsAt (atPlace (valueOf (fileParts (now (file .entry)) n k)) (now (slots .entry)))
+        (take count (now (places .entry))) (now (distances .entry)) ⌝ }
+    ensures { λ _. ⌜ now (entries .exit)
+        ≡ setsAt (atPlace (entryOf (fileParts (now (file .entry)) n k)) (now (slots .entry)))
+        (take count (now (places .entry))) (now (entries .entry)) ⌝ }
 {
     let mut q = 0;
     while q < count {
         let place = places[q];
-        out[place] = distance_at(file, n, k, slots[place]);
+        let j = entry_of(file, n, k, slots[place]);
+        put_entry(distances, entries, place, file, n, j);
         q += 1;
     }
 }

@@ -1,5 +1,6 @@
-// The distance at a slot of a checked map, through the sparse index where there is one; at a list of slots in `list`.
-// What is counted is defined in specs/Lookup.antt, and a slot's distance in pciv_format, specs/Parts.antt.
+// The distance at a slot of a checked map and where it is stored, through the sparse index where there is one; of a
+// list of slots in `list`. What is counted is defined in specs/Lookup.antt; in pciv_format, a slot's distance and entry
+// in specs/Parts.antt, and its origin in specs/Read.antt.
 mod eight;
 pub mod list;
 
@@ -7,11 +8,14 @@ ghost use mathlib.Core.Path.{_≡_};
 ghost use Prim.Native.Nat.{_^_, _<_};
 ghost use lib.Dec.{ltb};
 ghost use Rattle.pciv_bytes.specs.Ranges.{flag};
-ghost use Rattle.pciv_format.specs.Parts.{valueOf};
+ghost use Rattle.pciv_format.specs.Parts.{entryOf, valueOf};
 ghost use Rattle.pciv_format.specs.Check.{fileParts, CheckedMap};
+ghost use Rattle.pciv_format.specs.Read.{located};
 ghost use Rattle.pciv_map_lookup.specs.Lookup.{lowerBound, entriesBelow, blockStart, blockEnd, keyAt, KeyTable};
 use pciv_bytes::little_endian::get64;
 use pciv_format::HEADER_LEN;
+use pciv_format::Located;
+use pciv_format::Origin;
 use pciv_format::SENTINEL;
 use pciv_map::entries::entry_distance;
 
@@ -86,16 +90,24 @@ pub fn entry_of(file: &[u8], n: usize, k: usize, slot: usize) -> usize
     start + lower_bound(file, entries + 12 * start, 12, end - start, slot)
 }
 
-// The distance at a slot.
-pub fn distance_at(file: &[u8], n: usize, k: usize, slot: usize) -> u32
+// The distance at a slot, and where it is stored.
+pub fn locate(file: &[u8], n: usize, k: usize, slot: usize) -> Located
     requires { ⌜ CheckedMap (now file) n k ⌝ }
     requires { ⌜ slot < n ⌝ }
-    ensures { λ r. ⌜ r ≡ valueOf (fileParts (now (file .entry)) n k) slot ⌝ }
+    ensures { λ r. ⌜ r
+        ≡ located (valueOf (fileParts (now (file .entry)) n k) slot)
+        k (entryOf (fileParts (now (file .entry)) n k) slot) ⌝ }
 {
     let byte = file[HEADER_LEN + slot];
     if byte < SENTINEL {
-        return byte as u32;
+        return Located {
+            distance: byte as u32,
+            origin: Origin::Inline,
+        };
     }
     let j = entry_of(file, n, k, slot);
-    entry_distance(file, n, j)
+    Located {
+        distance: entry_distance(file, n, j),
+        origin: Origin::Overflow(j),
+    }
 }

@@ -2,20 +2,21 @@
 // Every routine checks the file first and refuses as the check does, with map 1; then come 9 and 12.
 // A refused call changes no byte, and what follows a result in the caller's list stays as it was.
 ghost use mathlib.Core.Path.{_≡_};
-ghost use Prim.Native.Nat.{ℕ, _+_, _≤_, _<_};
+ghost use Prim.Native.Nat.{ℕ, _+_, _≤_, _<_, min};
 ghost use lib.ListN.{length, getD, take, drop};
-ghost use lib.Dec.{leb};
+ghost use lib.Dec.{ltb, leb};
 ghost use denote.Ref.{ptr};
 ghost use Rattle.pciv_bytes.specs.Ranges.{firstBelow};
-ghost use Rattle.pciv_format.specs.Refusals.{numberAnswer, distanceAnswer};
+ghost use Rattle.pciv_format.specs.Refusals.{numberAnswer, lookupAnswer};
 ghost use Rattle.pciv_format.specs.Read.{primaryPart, behind, primaryPlace, lookupOutcome};
-ghost use Rattle.pciv_format.specs.Read.{lookupListOutcome, lookupListBuffer, scanOutcome, scanBuffer};
+ghost use Rattle.pciv_format.specs.Read.{lookupListOutcome, lookupListBuffer, lookupListEntries};
+ghost use Rattle.pciv_format.specs.Read.{scanOutcome, scanBuffer};
 ghost use Rattle.pciv_format.specs.Read.{sumOutcome, readingsOutcome};
 use pciv_check::check;
 use pciv_format::BUFFER_TOO_SMALL;
-use pciv_format::DistanceAnswer;
 use pciv_format::FileAnswer;
 use pciv_format::HEADER_LEN;
+use pciv_format::LookupAnswer;
 use pciv_format::NumberAnswer;
 use pciv_format::Refusal;
 use pciv_format::SLOT_OUT_OF_RANGE;
@@ -23,8 +24,8 @@ use pciv_layout::refusals::refuse_number;
 use pciv_map::scan::scan_into;
 use pciv_map::totals::readings_of;
 use pciv_map::totals::sum_of;
-use pciv_map_lookup::distance_at;
-use pciv_map_lookup::list::distances_into;
+use pciv_map_lookup::list::locate_into;
+use pciv_map_lookup::locate;
 
 // The `len` bytes from `start` on, as a part of the file.
 fn part(file: &[u8], start: usize, len: usize) -> &[u8]
@@ -52,24 +53,24 @@ pub fn primary(file: &[u8]) -> &[u8]
     }
 }
 
-// The distance at a slot. Refusals: 1 to 8, then 9.
-pub fn lookup(file: &[u8], slot: usize) -> DistanceAnswer
-    ensures answer { λ r. ⌜ r ≡ distanceAnswer (lookupOutcome (now (file .entry)) slot) ⌝ }
+// The distance at a slot, and its origin. Refusals: 1 to 8, then 9.
+pub fn lookup(file: &[u8], slot: usize) -> LookupAnswer
+    ensures answer { λ r. ⌜ r ≡ lookupAnswer (lookupOutcome (now (file .entry)) slot) ⌝ }
 {
     let checked = check(file);
     match checked {
-        FileAnswer::Refused(r) => DistanceAnswer::Refused(r),
+        FileAnswer::Refused(r) => LookupAnswer::Refused(r),
         FileAnswer::Done(s) => {
             let n = s.n;
             let k = s.k;
             if n <= slot {
-                return DistanceAnswer::Refused(Refusal {
+                return LookupAnswer::Refused(Refusal {
                     number: SLOT_OUT_OF_RANGE,
                     map: 0,
                     place: 0,
                 });
             }
-            DistanceAnswer::Distance(distance_at(file, n, k, slot))
+            LookupAnswer::Found(locate(file, n, k, slot))
         }
     }
 }
@@ -89,13 +90,34 @@ fn first_outside(slots: &[usize], n: usize) -> usize
     i
 }
 
-// The distances at a list of slots, to the front of the caller's list; answers how many.
-// Refusals: 1 to 8, then 9 with the least position in the list, then 12.
-pub fn lookup_list(file: &[u8], slots: &[usize], out: &mut [u32]) -> NumberAnswer
+// One of two lists of these lengths holds fewer than `count` items.
+fn either_short(first: usize, second: usize, count: usize) -> bool
+    ensures { λ r. ⌜ r ≡ ltb (min first second) count ⌝ }
+{
+    if first < count {
+        return true;
+    }
+    second < count
+}
+
+// The distances at a list of slots, to the front of one list of the caller, and the numbers of their overflow entries, or
+// k for inline, to the front of another; answers how many.
+// Refusals: 1 to 8, then 9 with the least position in the list, then 12 where either list is too short.
+pub fn lookup_list(
+    file: &[u8],
+    slots: &[usize],
+    distances: &mut [u32],
+    entries: &mut [usize],
+) -> NumberAnswer
     ensures answer { λ r. ⌜ r
-        ≡ numberAnswer (lookupListOutcome (now (file .entry)) (now (slots .entry)) (length (now (out .entry)))) ⌝ }
-    ensures buffer { λ _. ⌜ now (out .exit)
-        ≡ lookupListBuffer (now (file .entry)) (now (slots .entry)) (now (out .entry)) ⌝ }
+        ≡ numberAnswer (lookupListOutcome (now (file .entry)) (now (slots .entry))
+        (length (now (distances .entry))) (length (now (entries .entry)))) ⌝ }
+    ensures buffer { λ _. ⌜ now (distances .exit)
+        ≡ lookupListBuffer (now (file .entry)) (now (slots .entry))
+        (length (now (entries .entry))) (now (distances .entry)) ⌝ }
+    ensures entries { λ _. ⌜ now (entries .exit)
+        ≡ lookupListEntries (now (file .entry)) (now (slots .entry))
+        (length (now (distances .entry))) (now (entries .entry)) ⌝ }
 {
     let checked = check(file);
     match checked {
@@ -104,13 +126,14 @@ pub fn lookup_list(file: &[u8], slots: &[usize], out: &mut [u32]) -> NumberAnswe
             let n = s.n;
             let k = s.k;
             let outside = first_outside(slots, n);
+            let short = either_short(distances.len(), entries.len(), slots.len());
             if outside < slots.len() {
                 return refuse_number(SLOT_OUT_OF_RANGE, 0, outside);
             }
-            if out.len() < slots.len() {
+            if short {
                 return refuse_number(BUFFER_TOO_SMALL, 0, 0);
             }
-            distances_into(file, n, k, slots, out);
+            locate_into(file, n, k, slots, distances, entries);
             NumberAnswer::Number(slots.len())
         }
     }

@@ -7,8 +7,8 @@
 //!
 //! What measures a caller's slice is a `usize`: how many elements a call has written to it, how many
 //! it needs ([`mask_len`], [`file_len`], [`longest_file`]). What is said of a map is a `u64`, as in
-//! its file and in C: slots, their number, sums, places, and every field of the structs, which have
-//! C's layout. Distances are `u32`.
+//! its file and in C: slots, overflow entries, their number, sums, places, and the fields of the
+//! structs with C's layout, which are all but [`Located`]. Distances are `u32`.
 //!
 //! ```
 //! let file = include_bytes!("../../../examples/map-a.pciv");
@@ -49,7 +49,7 @@ pub use mask::{
     increment_masked, keep_masked, map_of_mask, mask_above, mask_and, mask_at_least, mask_at_most,
     mask_below, mask_len, mask_not, mask_or, mask_xor, near_mask, set_bits,
 };
-pub use read::{check, lookup, lookup_list, primary, readings, report, scan, sum};
+pub use read::{check, lookup, lookup_list, primary, readings, report, scan, sum, Located, Origin};
 pub use refusal::{refusal_text, Refusal};
 pub use write::{close, close_entries, write, Entry};
 

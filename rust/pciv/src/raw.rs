@@ -26,6 +26,7 @@ mod c {
             file_len: usize,
             slot: u64,
             distance: *mut u32,
+            entry: *mut u64,
             refusal: *mut Refusal,
         ) -> u64;
         pub fn pciv_lookup_list(
@@ -35,6 +36,8 @@ mod c {
             slots_len: usize,
             distances: *mut u32,
             distances_len: usize,
+            entries: *mut u64,
+            entries_len: usize,
             count: *mut u64,
             refusal: *mut Refusal,
         ) -> u64;
@@ -282,8 +285,14 @@ pub fn primary_span(file: &[u8], span: &mut [u64; 2]) -> u64 {
 }
 
 /// `pciv_lookup`.
-pub fn lookup(file: &[u8], slot: u64, distance: &mut u32, refusal: &mut Refusal) -> u64 {
-    unsafe { c::pciv_lookup(file.as_ptr(), file.len(), slot, distance, refusal) }
+pub fn lookup(
+    file: &[u8],
+    slot: u64,
+    distance: &mut u32,
+    entry: &mut u64,
+    refusal: &mut Refusal,
+) -> u64 {
+    unsafe { c::pciv_lookup(file.as_ptr(), file.len(), slot, distance, entry, refusal) }
 }
 
 /// `pciv_lookup_list`.
@@ -291,6 +300,7 @@ pub fn lookup_list(
     file: &[u8],
     slots: &[u64],
     distances: &mut [u32],
+    entries: &mut [u64],
     count: &mut u64,
     refusal: &mut Refusal,
 ) -> u64 {
@@ -302,6 +312,8 @@ pub fn lookup_list(
             slots.len(),
             distances.as_mut_ptr(),
             distances.len(),
+            entries.as_mut_ptr(),
+            entries.len(),
             count,
             refusal,
         )

@@ -32,34 +32,75 @@ pub fn primary(file: &[u8]) -> &[u8] {
     &file[start..start + len]
 }
 
-/// The distance at one slot. Refusals 1 to 8, then 9.
+/// Where a distance is stored.
+#[derive(Clone, Copy, Debug, PartialEq, Eq, Hash)]
+pub enum Origin {
+    /// In the primary array: exactly the distances below 255.
+    Inline,
+    /// In the overflow entry with this number, 0 for the first one.
+    Overflow(u64),
+}
+
+/// The distance at a slot, and where it is stored.
+#[derive(Clone, Copy, Debug, PartialEq, Eq, Hash)]
+pub struct Located {
+    /// The distance.
+    pub distance: u32,
+    /// Where it is stored.
+    pub origin: Origin,
+}
+
+/// The distance at one slot, and where it is stored. Refusals 1 to 8, then 9.
 ///
 /// ```
+/// use pciv::{Located, Origin};
+///
 /// let file = include_bytes!("../../../examples/map-a.pciv");
-/// assert_eq!(pciv::lookup(file, 3)?, 300);
+/// let located = Located { distance: 300, origin: Origin::Overflow(1) };
+/// assert_eq!(pciv::lookup(file, 3)?, located);
+/// let located = Located { distance: 254, origin: Origin::Inline };
+/// assert_eq!(pciv::lookup(file, 1)?, located);
+///
 /// let refusal = pciv::lookup(file, 4).unwrap_err();
 /// assert_eq!(refusal.number, pciv::Refusal::SLOT_OUT_OF_RANGE);
 /// # Ok::<(), pciv::Refusal>(())
 /// ```
-pub fn lookup(file: &[u8], slot: u64) -> Result<u32, Refusal> {
-    answer(|distance, refusal| raw::lookup(file, slot, distance, refusal))
+pub fn lookup(file: &[u8], slot: u64) -> Result<Located, Refusal> {
+    let call = |(distance, entry): &mut (u32, u64), refusal: &mut Refusal| {
+        raw::lookup(file, slot, distance, entry, refusal)
+    };
+    answer(call).map(|(distance, entry)| Located {
+        distance,
+        origin: match distance {
+            0..255 => Origin::Inline,
+            255.. => Origin::Overflow(entry),
+        },
+    })
 }
 
-/// The distances at a list of slots, to the front of `distances`. Answers how many there are.
-/// Refusals 1 to 8, then 9 with the least position in the list as place, then 12.
+/// The distances at a list of slots, to the front of `distances`, and the numbers of their overflow
+/// entries, to the front of `entries`: for a distance below 255, which is stored inline, it is
+/// [`k`](Summary::k), how many entries the map has. Answers the length of `slots`. Refusals 1 to 8, then
+/// 9 with the least position in the list as place, then 12 where either list is shorter than `slots`.
 ///
 /// ```
 /// let file = include_bytes!("../../../examples/map-a.pciv");
-/// let mut distances = [7; 4];
-/// assert_eq!(pciv::lookup_list(file, &[3, 0, 3], &mut distances)?, 3);
-/// assert_eq!(distances, [300, 0, 300, 7]);
+/// let (mut distances, mut entries) = ([7; 5], [7; 5]);
+/// assert_eq!(pciv::lookup_list(file, &[3, 0, 3, 2], &mut distances, &mut entries)?, 4);
+/// assert_eq!(distances, [300, 0, 300, 255, 7]);
+/// assert_eq!(entries, [1, 2, 1, 0, 7]);
 ///
-/// let refusal = pciv::lookup_list(file, &[3, 4, 5], &mut distances).unwrap_err();
+/// let refusal = pciv::lookup_list(file, &[3, 4, 5], &mut distances, &mut entries).unwrap_err();
 /// assert_eq!((refusal.number, refusal.place), (pciv::Refusal::SLOT_OUT_OF_RANGE, 1));
 /// # Ok::<(), pciv::Refusal>(())
 /// ```
-pub fn lookup_list(file: &[u8], slots: &[u64], distances: &mut [u32]) -> Result<usize, Refusal> {
-    count(|count, refusal| raw::lookup_list(file, slots, distances, count, refusal))
+pub fn lookup_list(
+    file: &[u8],
+    slots: &[u64],
+    distances: &mut [u32],
+    entries: &mut [u64],
+) -> Result<usize, Refusal> {
+    count(|count, refusal| raw::lookup_list(file, slots, distances, entries, count, refusal))
 }
 
 /// All distances, to the front of `distances`. Answers how many there are. Refusals 1 to 8, then
@@ -130,9 +171,19 @@ mod tests {
         let mut distances = [7; 3];
         let refusal = scan(MAP_A, &mut distances).unwrap_err();
         assert_eq!(refusal.number, Refusal::BUFFER_TOO_SMALL);
-        let refusal = lookup_list(MAP_A, &[0; 4], &mut distances).unwrap_err();
-        assert_eq!(refusal.number, Refusal::BUFFER_TOO_SMALL);
         assert_eq!(distances, [7; 3]);
+    }
+
+    #[test]
+    fn each_list_of_a_lookup_is_judged_by_its_own_length() {
+        let (mut distances, mut entries) = ([7; 4], [7; 4]);
+        for (capacity, more) in [(3, 4), (4, 3), (3, 3), (0, 4), (4, 0)] {
+            let lists = (&mut distances[..capacity], &mut entries[..more]);
+            let refusal = lookup_list(MAP_A, &[0, 1, 2, 3], lists.0, lists.1).unwrap_err();
+            assert_eq!(refusal.number, Refusal::BUFFER_TOO_SMALL);
+        }
+        assert_eq!(lookup_list(MAP_A, &[], &mut [], &mut []), Ok(0));
+        assert_eq!((distances, entries), ([7; 4], [7; 4]));
     }
 
     #[test]

@@ -31,7 +31,7 @@ pub struct Refusal {
 /// let file = include_bytes!("../../../examples/map-a.pciv");
 /// let distance = match pciv::lookup(file, 4) {
 ///     Err(Refusal { number: Refusal::SLOT_OUT_OF_RANGE, .. }) => None,
-///     other => Some(other?),
+///     other => Some(other?.distance),
 /// };
 /// assert_eq!(distance, None);
 /// # Ok::<(), Refusal>(())

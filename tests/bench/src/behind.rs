@@ -75,7 +75,7 @@ const FAMILIES: [Family; 17] = [
             "edit_list, 1,000 in overflow",
         ],
         often: Often::Stroke,
-        why: "the check, and a search for each slot in overflow; a flat array has one access to memory.",
+        why: "the check, and a search for each slot in overflow; a flat array is accessed once, and names no entry.",
     },
     Family {
         name: "sum_maps, shift up",
@@ -95,7 +95,7 @@ const FAMILIES: [Family; 17] = [
             "increment_masked, 1 % in a disc",
         ],
         often: Often::Frame,
-        why: "a count of the set slots that come into overflow, a pass over the bytes or, where few slots are set, a copy and a walk over the set ones, and the entries as for sums.",
+        why: "a count of the set slots that come into overflow, a pass over the bytes (a copy and a walk where few are set), and the entries as for sums.",
     },
     Family {
         name: "keep_masked",
@@ -121,7 +121,7 @@ const FAMILIES: [Family; 17] = [
         name: "minimum, maximum, difference",
         calls: &["minimum", "maximum", "difference"],
         often: Often::Frame,
-        why: "two checks, a pass over the bytes, and a walk over the entries of both maps, where a processor guesses branches wrong if they are scattered.",
+        why: "two checks, a pass over the bytes, and a walk over the entries of both maps, whose branches are guessed wrong if they are scattered.",
     },
     Family {
         name: "shift down",

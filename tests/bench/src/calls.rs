@@ -121,10 +121,12 @@ fn reading(table: &mut Table, map: &Map) {
     }
 }
 
-/// One overflow slot, and a list of overflow slots.
+/// One overflow slot, and a list of overflow slots: distances and numbers of entries, on flat arrays
+/// distances alone.
 fn lookups(table: &mut Table, scene: &Scene) {
     let (file, list, slots) = (&scene.a.file[..], &scene.a.list[..], &scene.asked[..]);
-    let (mut ours, mut theirs) = (vec![0; slots.len()], vec![0; slots.len()]);
+    let lists = || (vec![0; slots.len()], vec![0; slots.len()]);
+    let (mut ours, mut theirs) = (lists(), lists());
     table.run(
         "lookup",
         Race {
@@ -139,9 +141,13 @@ fn lookups(table: &mut Table, scene: &Scene) {
     table.run(
         "lookup_list of 16,000",
         Race {
-            library: contestant(|| keep(pciv::lookup_list(file, slots, black_box(&mut ours)))),
+            library: contestant(|| {
+                let (distances, entries) = black_box(&mut ours);
+                keep(pciv::lookup_list(file, slots, distances, entries))
+            }),
             independent: contestant(|| {
-                keep(reference::lookup_list(file, slots, black_box(&mut theirs)))
+                let (distances, entries) = black_box(&mut theirs);
+                keep(reference::lookup_list(file, slots, distances, entries))
             }),
             files: &[file],
             flat: Flat::Distances(&mut |out| flat::lookup_list(list, black_box(slots), out)),

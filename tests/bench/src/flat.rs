@@ -315,7 +315,8 @@ mod tests {
             assert_eq!(filled(n, |out| scan(&a.list, out)), scanned);
             let slots: Vec<u64> = (0..n as u64).rev().collect();
             let looked_up = filled(n, |out| {
-                pciv::lookup_list(&a.file, &slots, out).expect("a sound file");
+                let entries = &mut vec![0; n];
+                pciv::lookup_list(&a.file, &slots, out, entries).expect("a sound file");
             });
             assert_eq!(
                 filled(n, |out| lookup_list(&a.list, &slots, out)),
@@ -324,7 +325,7 @@ mod tests {
             for &slot in &slots {
                 assert_eq!(
                     Ok(lookup(&a.list, slot)),
-                    pciv::lookup(&a.file, slot).map(u64::from)
+                    pciv::lookup(&a.file, slot).map(|located| u64::from(located.distance))
                 );
             }
         });

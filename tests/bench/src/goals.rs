@@ -199,7 +199,7 @@ const fn noted(note: &'static str, maps: Maps, goal: Goal) -> Goal {
 
 const WITH_CHECKS: &str = ", checks included";
 
-const GOALS: [Goal; 68] = [
+const GOALS: [Goal; 69] = [
     goal("check", Checks::Kept, Of::Independent, 12.0),
     goal("check", Checks::Kept, Of::Memcpy, 1.1),
     noted(
@@ -301,6 +301,11 @@ const GOALS: [Goal; 68] = [
     ),
     goal("write, longest buffer", Checks::Kept, Of::Independent, 1.6),
     goal("lookup_list of 16,000", Checks::Off, Of::Independent, 1.7),
+    noted(
+        WITH_CHECKS,
+        USUAL,
+        goal("lookup_list of 16,000", Checks::Kept, Of::Independent, 1.5),
+    ),
     noted(
         WITH_CHECKS,
         USUAL,

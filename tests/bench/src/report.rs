@@ -146,16 +146,15 @@ it is copied; for `close`, it is made of the same bytes and entries.
 
 Times are microseconds a call, one thread. Contestants take turns, {ROUNDS} rounds in each of {PASSES} passes over all calls
 (the library's own times: alone, {own_passes} passes, a process each); a turn starts with a call that is not timed, so buffers are warm.
-A time is that of the best round; its spread is what the best rounds of the passes differ by, the worst third of them left
-out. A change is noise where it is at most both spreads together, or at most 13 %: builds of the bench over one archive
+A time is that of the best round; its spread is what the best rounds of the passes differ by, without the worst third.
+A change is noise where it is at most both spreads together, or at most 13 %: builds of the bench over one archive
 differed by up to 12 % in a call, and so do ratios. A difference of two times is not measurable here where their spreads
 together are more than half of it. All but numpy, OpenCV and memcpy are compiled for every x86-64 processor, without AVX.
-numpy and OpenCV have to give the results of flat Rust before they are timed; flat Rust is tested against the library
-(`cargo test -p bench`).
+numpy and OpenCV have to give flat Rust's results before they are timed; `cargo test -p bench` holds these to the library's.
 
 ## Tables
 
-Tab-separated, with a line of headings, written by the same run. `overflow` is the share of slots in overflow in per cent,
+Tab-separated, with headings, of the same run. `overflow` is the share of slots in overflow in per cent,
 `layout` is scattered or clustered (runs of 256 slots).
 
 | File | A line for | Columns |

@@ -1,9 +1,9 @@
 //! One call of the library beside one of the reference: the number answered, the refusal, the
-//! result and every element of the buffer.
+//! result and every element of the buffers.
 
 use crate::judge::Judge;
 use compare::rng::Rng;
-use pciv::{Refusal, Summary};
+use pciv::{Located, Origin, Refusal, Summary};
 use std::fmt::{self, Debug, Display};
 use std::ops::Range;
 
@@ -12,7 +12,7 @@ const GUARD: usize = 4;
 
 /// The routine called and what tells this call from others.
 pub struct Call {
-    routine: &'static str,
+    pub routine: &'static str,
     with: String,
 }
 
@@ -76,6 +76,23 @@ impl Dirty for Summary {
     }
 }
 
+/// A distance and the number of its entry.
+impl Dirty for (u32, u64) {
+    fn dirty(i: usize) -> (u32, u64) {
+        (u32::dirty(i), u64::dirty(i + 1))
+    }
+}
+
+impl Dirty for Located {
+    fn dirty(i: usize) -> Located {
+        let (distance, entry) = Dirty::dirty(i);
+        Located {
+            distance,
+            origin: Origin::Overflow(entry),
+        }
+    }
+}
+
 /// An answer of the reference, or one that is written down.
 pub type Answer<T> = Result<T, reference::Refusal>;
 
@@ -85,6 +102,27 @@ pub fn summary_of(summary: reference::Summary) -> Summary {
     Summary { n, k, m, step, len }
 }
 
+/// The reference's distance with its origin in the library's type.
+pub fn located_of(located: reference::Located) -> Located {
+    Located {
+        distance: located.distance,
+        origin: match located.origin {
+            reference::Origin::Inline => Origin::Inline,
+            reference::Origin::Overflow(entry) => Origin::Overflow(entry),
+        },
+    }
+}
+
+/// A result of the Rust interface, told as C is told it.
+pub fn told<T>(result: Result<T, Refusal>, value: &mut T, refusal: &mut Refusal) -> u64 {
+    *refusal = Refusal::default();
+    match result {
+        Ok(done) => *value = done,
+        Err(refused) => *refusal = refused,
+    }
+    refusal.number
+}
+
 /// Capacities for a result of `len` elements: exact, generous, one short, none.
 pub fn capacities(rng: &mut Rng, len: usize) -> Vec<usize> {
     let mut capacities = vec![len, len + 1 + rng.below(20)];
@@ -92,6 +130,13 @@ pub fn capacities(rng: &mut Rng, len: usize) -> Vec<usize> {
         capacities.extend([len - 1, 0]);
     }
     capacities
+}
+
+/// All pairs of these, for two results of `len` elements each.
+pub fn capacity_pairs(rng: &mut Rng, len: usize) -> Vec<(usize, usize)> {
+    let (capacities, more) = (capacities(rng, len), capacities(rng, len));
+    let pairs = |&capacity: &usize| more.iter().map(move |&other| (capacity, other));
+    capacities.iter().flat_map(pairs).collect()
 }
 
 /// Capacities for a result that is a file; none and some where the call is refused in any.
@@ -143,18 +188,20 @@ fn observed<T: Dirty>(call: impl FnOnce(&mut T, &mut Refusal) -> u64) -> Outcome
 }
 
 impl Judge {
-    /// Compares a call with the reference's answer.
+    /// Compares a call with the reference's answer. Answers the library's result where the call has
+    /// to be done.
     pub fn value<T: Dirty>(
         &mut self,
         call: &Call,
         answer: Answer<T>,
         library: impl FnOnce(&mut T, &mut Refusal) -> u64,
-    ) {
+    ) -> Option<T> {
         self.calls += 1;
-        let expected = expected(answer);
+        let (expected, observed) = (expected(answer), observed(library));
         let Refusal { number, map, .. } = expected.refusal;
         self.outcomes.insert((call.routine, number, map));
-        self.same(call, expected, observed(library));
+        self.same(call, &expected, &observed);
+        (number == 0).then_some(observed.result)
     }
 
     /// Compares a call that writes a file to a buffer of `capacity` bytes.
@@ -177,13 +224,32 @@ impl Judge {
         reference: impl FnOnce(&mut [E]) -> Answer<T>,
         library: impl FnOnce(&mut [E], &mut T, &mut Refusal) -> u64,
     ) {
-        let mut wanted = Guarded::dirty(capacity);
+        self.buffers(
+            call,
+            (capacity, 0),
+            |out, _: &mut [u8]| reference(out),
+            |out, _, result, refusal| library(out, result, refusal),
+        );
+    }
+
+    /// Compares a call that writes to two buffers. Answers what the library left there where the call
+    /// has to be done.
+    pub fn buffers<E: Dirty + Clone, F: Dirty + Clone, T: Dirty>(
+        &mut self,
+        call: &Call,
+        (capacity, more): (usize, usize),
+        reference: impl FnOnce(&mut [E], &mut [F]) -> Answer<T>,
+        library: impl FnOnce(&mut [E], &mut [F], &mut T, &mut Refusal) -> u64,
+    ) -> Option<(Guarded<E>, Guarded<F>)> {
+        let mut wanted = (Guarded::dirty(capacity), Guarded::dirty(more));
         let mut got = wanted.clone();
-        let answer = reference(wanted.contents_mut());
-        self.value(call, answer, |out, refusal| {
-            library(got.contents_mut(), out, refusal)
+        let answer = reference(wanted.0.contents_mut(), wanted.1.contents_mut());
+        let done = self.value(call, answer, |result, refusal| {
+            library(got.0.contents_mut(), got.1.contents_mut(), result, refusal)
         });
-        self.same_guarded(call, "buffer", &wanted, &got);
+        self.same_guarded(call, "buffer", &wanted.0, &got.0);
+        self.same_guarded(call, "second buffer", &wanted.1, &got.1);
+        done.map(|_| got)
     }
 
     /// Compares what a call left in a buffer and around it.

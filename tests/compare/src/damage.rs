@@ -262,6 +262,6 @@ fn index(file: &[u8], layout: &Layout) -> Vec<Damage> {
         .collect()
 }
 
-fn le64(bytes: &[u8]) -> u64 {
+pub fn le64(bytes: &[u8]) -> u64 {
     u64::from_le_bytes(bytes[..8].try_into().expect("eight bytes"))
 }

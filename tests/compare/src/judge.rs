@@ -1,5 +1,6 @@
 //! Collects the verdicts of a run.
 
+use crate::origins::Stored;
 use std::collections::HashSet;
 use std::fmt::{Debug, Display};
 
@@ -14,6 +15,8 @@ pub struct Judge {
     pub differences: u64,
     /// What had to be answered: routine, refusal number or 0 when done, and map.
     pub outcomes: HashSet<(&'static str, u64, u64)>,
+    /// Where distances that were looked up are stored, by routine.
+    pub stored: HashSet<(&'static str, Stored)>,
     /// Holds any file, for the reference alone.
     scratch: Vec<u8>,
 }

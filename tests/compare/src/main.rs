@@ -10,6 +10,7 @@ mod edits;
 mod files;
 mod judge;
 mod masks;
+mod origins;
 mod pairs;
 mod parts;
 mod read_only;
@@ -27,6 +28,7 @@ fn main() {
     let mut run = Run::from_environment();
     worked::run_all(&mut run);
     files::run_all(&mut run);
+    origins::run_all(&mut run);
     writing::run_all(&mut run);
     pairs::run_all(&mut run);
     shifts::run_all(&mut run);

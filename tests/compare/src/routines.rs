@@ -1,6 +1,7 @@
 //! The calls made for one file.
 
 use crate::call::capacities;
+use crate::damage::le64;
 use crate::judge::Judge;
 use crate::masks::{self, THRESHOLDS};
 use crate::parts::Parts;
@@ -60,8 +61,8 @@ fn refused_file(trial: &mut Trial, rng: &mut Rng) {
     trial.scan(trial.original().len());
     trial.lookup(0);
     trial.lookup(u64::MAX);
-    let (slots, capacity) = ([0, u64::MAX, rng.word()], rng.below(5));
-    trial.lookup_list(rng, &slots, capacity);
+    let (slots, capacities) = ([0, u64::MAX, rng.word()], (rng.below(5), rng.below(5)));
+    trial.lookup_list_in(rng, &slots, capacities);
     let by = rng.pick(&SHIFTS);
     trial.shift(rng, by);
     let t = rng.pick(&THRESHOLDS);
@@ -83,16 +84,20 @@ fn telling_slots(rng: &mut Rng, file: &[u8], summary: &Summary) -> Vec<u64> {
     }
     let mut slots = vec![0, summary.n - 1];
     slots.extend((0..6).map(|_| rng.below(n) as u64));
-    for entry in telling_entries(rng, summary) {
-        let slot = overflow_slot(file, n, entry);
-        slots.extend([slot.wrapping_sub(1), slot, slot + 1]);
-    }
-    slots.retain(|&slot| slot < summary.n);
+    let entries = telling_entries(rng, summary).into_iter();
+    let in_overflow = entries.map(|entry| overflow_slot(file, n, entry));
+    slots.extend(and_beside(in_overflow, summary.n));
     slots
 }
 
-/// Overflow entries at both ends, a random one, and those about the second and the last index
-/// entry.
+/// Some slots, each between the two beside it, as far as they are below n.
+pub fn and_beside(slots: impl Iterator<Item = u64>, n: u64) -> impl Iterator<Item = u64> {
+    let three = slots.flat_map(|slot| [slot.wrapping_sub(1), slot, slot + 1]);
+    three.filter(move |&slot| slot < n)
+}
+
+/// Overflow entries at both ends, a random one, and those about the second, the last and a random
+/// index entry.
 fn telling_entries(rng: &mut Rng, summary: &Summary) -> Vec<usize> {
     let k = summary.k as usize;
     if k == 0 {
@@ -101,7 +106,8 @@ fn telling_entries(rng: &mut Rng, summary: &Summary) -> Vec<usize> {
     let step = summary.step as usize;
     let last_indexed = (k - 1) / step.max(1) * step;
     let mut entries = vec![0, k - 1, rng.below(k)];
-    for indexed in [step, last_indexed] {
+    let any_indexed = rng.below(k) / step.max(1) * step;
+    for indexed in [step, any_indexed, last_indexed] {
         entries.extend([indexed.wrapping_sub(1), indexed, indexed + 1]);
     }
     entries.retain(|&entry| entry < k);
@@ -111,25 +117,20 @@ fn telling_entries(rng: &mut Rng, summary: &Summary) -> Vec<usize> {
 }
 
 fn overflow_slot(file: &[u8], n: usize, entry: usize) -> u64 {
-    let at = reference::HEADER_LEN + n + 12 * entry;
-    u64::from_le_bytes(file[at..at + 8].try_into().expect("eight bytes"))
+    le64(&file[reference::HEADER_LEN + n + 12 * entry..])
 }
 
 /// Lists of slots inside the map, and the same with slots beyond it at several positions.
 fn lookup_lists(trial: &mut Trial, rng: &mut Rng, inside: &[u64], beyond: &[u64]) {
     let mut list = inside.to_vec();
     list.extend((0..inside.len()).map(|_| rng.pick(inside)));
-    for capacity in capacities(rng, list.len()) {
-        trial.lookup_list(rng, &list, capacity);
-        trial.lookup_list(rng, &[], capacity);
-    }
+    trial.lookup_list(rng, &list);
+    trial.lookup_list(rng, &[]);
     for position in [0, list.len() / 2, list.len()] {
         let mut refused = list.clone();
         refused.insert(position, rng.pick(beyond));
-        trial.lookup_list(rng, &refused, refused.len());
+        trial.lookup_list_in(rng, &refused, (refused.len(), refused.len()));
         refused.push(rng.pick(beyond));
-        for capacity in capacities(rng, refused.len()) {
-            trial.lookup_list(rng, &refused, capacity);
-        }
+        trial.lookup_list(rng, &refused);
     }
 }

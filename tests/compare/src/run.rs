@@ -1,6 +1,7 @@
 //! A run over all cases: picks them, counts them, concludes.
 
 use crate::judge::Judge;
+use crate::origins;
 use compare::rng::{case_seed, Rng};
 use std::{env, process};
 
@@ -122,8 +123,12 @@ impl Run {
             return (self.cases == 0).then(|| format!("no case has the seed {only:#x}"));
         }
         let missing = |outcome: &_| !self.judge.outcomes.contains(outcome);
-        let (routine, number, map) = outcomes().find(missing)?;
-        Some(format!("no call of {routine} gave {number} with map {map}"))
+        if let Some((routine, number, map)) = outcomes().find(missing) {
+            return Some(format!("no call of {routine} gave {number} with map {map}"));
+        }
+        let missing = |stored: &_| !self.judge.stored.contains(stored);
+        let (routine, stored) = origins::all_stored().find(missing)?;
+        Some(format!("no call of {routine} found {stored:?}"))
     }
 }
 

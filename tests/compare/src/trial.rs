@@ -1,6 +1,8 @@
 //! Calls on one file.
 
-use crate::call::{capacities, file_capacities, summary_of, Answer, Call, Dirty};
+use crate::call::{
+    capacities, capacity_pairs, file_capacities, located_of, summary_of, told, Answer, Call, Dirty,
+};
 use crate::edits;
 use crate::files::encode;
 use crate::judge::Judge;
@@ -51,28 +53,59 @@ impl<'a> Trial<'a> {
         self.settle(&call);
     }
 
+    /// As C has it, and as Rust has it.
     pub fn lookup(&mut self, slot: u64) {
         let call = Call::new("lookup", format!(" of slot {slot}"));
-        let answer = reference::lookup(self.file.original(), slot);
-        self.judge.value(&call, answer, |out, refusal| {
-            raw::lookup(self.file.contents(), slot, out, refusal)
+        let answer = reference::lookup_numbered(self.file.original(), slot);
+        let found = self
+            .judge
+            .value(&call, answer, |(distance, entry), refusal| {
+                raw::lookup(self.file.contents(), slot, distance, entry, refusal)
+            });
+        if let Some(found) = found {
+            self.judge.found(&call, self.file.original(), slot, found);
+        }
+        self.settle(&call);
+        let call = Call::new("lookup", format!(" of slot {slot} from Rust"));
+        let answer = reference::lookup(self.file.original(), slot).map(located_of);
+        self.judge.value(&call, answer, |located, refusal| {
+            told(pciv::lookup(self.file.contents(), slot), located, refusal)
         });
         self.settle(&call);
     }
 
-    pub fn lookup_list(&mut self, rng: &mut Rng, slots: &[u64], capacity: usize) {
+    /// In lists of several capacities.
+    pub fn lookup_list(&mut self, rng: &mut Rng, slots: &[u64]) {
+        for capacities in capacity_pairs(rng, slots.len()) {
+            self.lookup_list_in(rng, slots, capacities);
+        }
+    }
+
+    pub fn lookup_list_in(&mut self, rng: &mut Rng, slots: &[u64], capacities: (usize, usize)) {
         let shown = &slots[..slots.len().min(8)];
-        let with = format!(" of {} slots {shown:?}.., capacity {capacity}", slots.len());
+        let count = slots.len();
+        let with = format!(" of {count} slots {shown:?}.., capacities {capacities:?}");
         let call = Call::new("lookup_list", with);
         let mut slots = ReadOnly::new(rng, slots, u64::MAX);
-        self.judge.buffer(
+        let found = self.judge.buffers(
             &call,
-            capacity,
-            |out| reference::lookup_list(self.file.original(), slots.original(), out),
-            |out, count, refusal| {
-                raw::lookup_list(self.file.contents(), slots.contents(), out, count, refusal)
+            capacities,
+            |distances, entries| {
+                let file = self.file.original();
+                reference::lookup_list(file, slots.original(), distances, entries)
+            },
+            |distances, entries, count, refusal| {
+                let file = self.file.contents();
+                raw::lookup_list(file, slots.contents(), distances, entries, count, refusal)
             },
         );
+        if let Some((distances, entries)) = found {
+            let found = distances.contents().iter().zip(entries.contents());
+            for (&slot, (&distance, &entry)) in slots.original().iter().zip(found) {
+                let file = self.file.original();
+                self.judge.found(&call, file, slot, (distance, entry));
+            }
+        }
         slots.settle(self.judge, &call, "the list of slots");
         self.settle(&call);
     }

@@ -139,7 +139,7 @@ const fn row(case: &'static str, calls: fn(&mut Judge)) -> Row {
     Row { case, calls }
 }
 
-const ROWS: [Row; 21] = [
+const ROWS: [Row; 22] = [
     row("empty map", empty_map),
     row("primary array of A", primary_of_a),
     row("overflow entries of A", entries_of_a),
@@ -240,6 +240,7 @@ const ROWS: [Row; 21] = [
             selects(judge, "near_mask", raw::near_mask, (&bytes(A), t), &[mask])
         }
     }),
+    row("lookup of A at slots 3, 0, 3, 2", lookups_of_a),
 ];
 
 fn worked_examples(run: &mut Run) {
@@ -302,12 +303,28 @@ fn primary_of_a(judge: &mut Judge) {
     judge.same_buffer(&"primary", primary, pciv::primary(&file));
 }
 
+fn lookups_of_a(judge: &mut Judge) {
+    let file = bytes(A);
+    judge.buffers(
+        &Call::new("lookup_list", " of slots 3, 0, 3, 2"),
+        (5, 6),
+        |distances, entries| {
+            distances[..4].copy_from_slice(&[300, 0, 300, 255]);
+            entries[..4].copy_from_slice(&[1, 2, 1, 0]);
+            Ok(4)
+        },
+        |distances, entries, count, refusal| {
+            raw::lookup_list(&file, &[3, 0, 3, 2], distances, entries, count, refusal)
+        },
+    );
+}
+
 fn entries_of_a(judge: &mut Judge) {
     let file = bytes(A);
-    for (slot, distance) in [(0, 0), (1, 254), (2, 255), (3, 300)] {
+    for (slot, found) in [(0, (0, 2)), (1, (254, 2)), (2, (255, 0)), (3, (300, 1))] {
         let call = Call::new("lookup", format!(" of slot {slot}"));
-        judge.value(&call, Ok(distance), |out, refusal| {
-            raw::lookup(&file, slot, out, refusal)
+        judge.value(&call, Ok(found), |(distance, entry), refusal| {
+            raw::lookup(&file, slot, distance, entry, refusal)
         });
     }
     let (primary, slots, distances) = ([0x00, 0xFE, 0xFF, 0xFF], [2, 3], [255, 300]);

@@ -54,6 +54,13 @@ impl Dirty for Summary {
     }
 }
 
+/// A distance and the number of its entry.
+impl Dirty for (u32, u64) {
+    fn dirty(i: usize) -> (u32, u64) {
+        (u32::dirty(i), u64::dirty(i + 1))
+    }
+}
+
 /// So many dirty elements.
 pub fn dirty<E: Dirty>(len: usize) -> Vec<E> {
     (0..len).map(E::dirty).collect()

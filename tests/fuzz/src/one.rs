@@ -59,20 +59,24 @@ pub fn lookup(bench: &mut Bench, input: &mut Input) {
     let slot = slot(input, &file);
     bench.value(
         &file,
-        |file| reference::lookup(file, slot),
-        |file, distance, refusal| raw::lookup(file, slot, distance, refusal),
+        |file| reference::lookup_numbered(file, slot),
+        |file, (distance, entry), refusal| raw::lookup(file, slot, distance, entry, refusal),
     );
 }
 
 pub fn lookup_list(bench: &mut Bench, input: &mut Input) {
     let file = file(input, None);
     let slots = slots(input, &file);
-    let capacity = input.capacity(slots.len());
-    bench.lists(
-        (&file, &slots),
-        capacity,
-        reference::lookup_list,
-        raw::lookup_list,
+    let [capacity, more] = [(); 2].map(|()| input.capacity(slots.len()));
+    bench.call(
+        (&file, &slots, NONE),
+        (&dirty::<u32>(capacity), &dirty::<u64>(more)),
+        |(file, slots, _), (distances, entries)| {
+            reference::lookup_list(file, slots, distances, entries)
+        },
+        |(file, slots, _), (distances, entries), count, refusal| {
+            raw::lookup_list(file, slots, distances, entries, count, refusal)
+        },
     );
 }
 

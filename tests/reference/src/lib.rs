@@ -25,7 +25,8 @@ pub use entries::Entry;
 pub use figures::{bray_curtis, bray_curtis_parts, jaccard, jaccard_parts, nearest_quotient};
 pub use layout::{file_len, index_len, index_step, HEADER_LEN, MAX_SLOTS, SENTINEL};
 pub use map::{
-    check, decode, lookup, lookup_list, primary, readings, readings_of_primary, scan, sum, Map,
+    check, decode, lookup, lookup_list, lookup_numbered, primary, readings, readings_of_primary,
+    scan, sum, Located, Map, Origin,
 };
 pub use mask::{
     increment_masked, keep_masked, map_of_mask, mask_and, mask_len, mask_not, mask_or, mask_xor,

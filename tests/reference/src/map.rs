@@ -7,6 +7,36 @@ use crate::layout::{
     SENTINEL,
 };
 use crate::{require_capacity, Refusal, Summary};
+use std::ops::Range;
+
+/// Where a distance is stored.
+#[derive(Clone, Copy, Debug, PartialEq, Eq)]
+pub enum Origin {
+    /// In the primary array.
+    Inline,
+    /// In the overflow entry with this number, counted from 0.
+    Overflow(u64),
+}
+
+/// The distance at a slot, and where it is stored.
+#[derive(Clone, Copy, Debug, PartialEq, Eq)]
+pub struct Located {
+    /// The distance.
+    pub distance: u32,
+    /// Where it is stored.
+    pub origin: Origin,
+}
+
+impl Located {
+    /// The distance and the number of its entry as lists have it, in a map with `k` overflow
+    /// entries: k for an inline distance.
+    fn numbered(self, k: u64) -> (u32, u64) {
+        match self.origin {
+            Origin::Inline => (self.distance, k),
+            Origin::Overflow(entry) => (self.distance, entry),
+        }
+    }
+}
 
 /// The parts of a file that passed every rule.
 #[derive(Clone, Copy, Debug)]
@@ -102,26 +132,41 @@ impl<'a> Map<'a> {
         self.distances().filter(|&distance| distance != 0).count() as u64
     }
 
-    /// The distance at a slot below n.
-    fn distance(&self, slot: u64) -> u32 {
+    /// The distance at a slot, and where it is stored. Refusal 9 for a slot outside.
+    fn lookup(&self, slot: u64) -> Result<Located, Refusal> {
+        if slot >= self.summary.n {
+            return Err(Refusal::of_call(9, 0));
+        }
+        Ok(self.located(slot))
+    }
+
+    /// The same at a slot below n.
+    fn located(&self, slot: u64) -> Located {
         match self.primary[slot as usize] {
-            SENTINEL => self.overflow_distance(slot),
-            inline => u32::from(inline),
+            SENTINEL => self.located_in_overflow(slot),
+            inline => Located {
+                distance: u32::from(inline),
+                origin: Origin::Inline,
+            },
         }
     }
 
-    /// The distance at a slot in overflow.
-    fn overflow_distance(&self, slot: u64) -> u32 {
+    /// The same at a slot in overflow.
+    fn located_in_overflow(&self, slot: u64) -> Located {
         let block = self.overflow_block(slot);
-        let at = block
+        let at = self.overflow[block.clone()]
             .binary_search_by_key(&slot, overflow_slot)
             .expect("an entry for each sentinel");
-        overflow_distance(&block[at])
+        let entry = block.start + at;
+        Located {
+            distance: overflow_distance(&self.overflow[entry]),
+            origin: Origin::Overflow(entry as u64),
+        }
     }
 
     /// The overflow entries among which that of `slot` is: from the last index entry at or before
     /// the slot to the next one, or all without an index.
-    fn overflow_block(&self, slot: u64) -> &'a [OverflowBytes] {
+    fn overflow_block(&self, slot: u64) -> Range<usize> {
         let reached = self
             .index
             .partition_point(|entry| index_slot(entry) <= slot);
@@ -133,7 +178,7 @@ impl<'a> Map<'a> {
             Some(next) => index_position(next) as usize,
             None => self.overflow.len(),
         };
-        &self.overflow[start..end]
+        start..end
     }
 }
 
@@ -169,25 +214,35 @@ pub fn decode(file: &[u8]) -> Result<Vec<u32>, Refusal> {
     Map::open(file).map(|map| map.distances().collect())
 }
 
-/// The distance at one slot. Refusals 1 to 8, then 9.
-pub fn lookup(file: &[u8], slot: u64) -> Result<u32, Refusal> {
-    let map = Map::open(file)?;
-    if slot >= map.summary.n {
-        return Err(Refusal::of_call(9, 0));
-    }
-    Ok(map.distance(slot))
+/// The distance at one slot, and where it is stored. Refusals 1 to 8, then 9.
+pub fn lookup(file: &[u8], slot: u64) -> Result<Located, Refusal> {
+    Map::open(file)?.lookup(slot)
 }
 
-/// The distances at the slots of a list, to the front of `distances`. Refusals 1 to 8, then 9
-/// with the least position in the list, then 12. Answers how many there are.
-pub fn lookup_list(file: &[u8], slots: &[u64], distances: &mut [u32]) -> Result<u64, Refusal> {
+/// The same with the number of the overflow entry as [`lookup_list`] has it.
+pub fn lookup_numbered(file: &[u8], slot: u64) -> Result<(u32, u64), Refusal> {
+    let map = Map::open(file)?;
+    Ok(map.lookup(slot)?.numbered(map.summary.k))
+}
+
+/// The distances at the slots of a list, to the front of `distances`, and the numbers of their
+/// overflow entries, to the front of `entries`: k, how many entries there are, for an inline
+/// distance. Refusals 1 to 8, then 9 with the least position in the list, then 12. Answers how many
+/// slots there are.
+pub fn lookup_list(
+    file: &[u8],
+    slots: &[u64],
+    distances: &mut [u32],
+    entries: &mut [u64],
+) -> Result<u64, Refusal> {
     let map = Map::open(file)?;
     if let Some(position) = slots.iter().position(|&slot| slot >= map.summary.n) {
         return Err(Refusal::of_call(9, position as u64));
     }
     require_capacity(slots.len(), distances.len())?;
-    for (distance, &slot) in distances.iter_mut().zip(slots) {
-        *distance = map.distance(slot);
+    require_capacity(slots.len(), entries.len())?;
+    for ((distance, entry), &slot) in distances.iter_mut().zip(entries).zip(slots) {
+        (*distance, *entry) = map.located(slot).numbered(map.summary.k);
     }
     Ok(slots.len() as u64)
 }

@@ -1,8 +1,8 @@
 //! Reading by the reference, held to the small maps and rules of `docs/FORMAT.md`.
 
 use reference::{
-    check, decode, encode, lookup, lookup_list, primary, readings, readings_of_primary, scan, sum,
-    Refusal, Summary,
+    check, decode, encode, lookup, lookup_list, lookup_numbered, primary, readings,
+    readings_of_primary, scan, sum, Located, Origin, Refusal, Summary,
 };
 
 const A: [u32; 4] = [0, 254, 255, 300];
@@ -50,6 +50,8 @@ fn empty_map() {
     assert_eq!(primary(&file), []);
     assert_eq!((sum(&file), readings(&file)), (Ok(0), Ok(0)));
     assert_eq!(lookup(&file, 0).err(), refused(9, 0, 0));
+    assert_eq!(lookup_numbered(&file, 0).err(), refused(9, 0, 0));
+    assert_eq!(lookup_list(&file, &[], &mut [], &mut []), Ok(0));
 }
 
 #[test]
@@ -130,33 +132,65 @@ fn earlier_rules_come_first() {
     assert_eq!(check(&file).err(), refused(5, 1, 0));
 }
 
+/// Where each distance of a list is stored: the entries have the numbers of the distances in
+/// overflow before them.
+fn origins(distances: &[u32]) -> Vec<Origin> {
+    let mut entries = 0..;
+    let origin = |&distance: &u32| match distance {
+        0..255 => Origin::Inline,
+        _ => Origin::Overflow(entries.next().expect("a number")),
+    };
+    distances.iter().map(origin).collect()
+}
+
 #[test]
-fn lookup_agrees_with_the_list() {
-    for k in [1, 2_048, 2_049, 4_096, 4_097] {
-        let distances = list_with_overflow(k);
+fn lookups_agree_with_the_list() {
+    for k in [0, 1, 7, 8, 9, 2_048, 2_049, 4_096, 4_097] {
+        let mut distances = list_with_overflow(k);
+        distances.push(254);
         let file = file_of(&distances);
-        let slots: Vec<u64> = (0..distances.len() as u64).rev().collect();
-        let mut found = vec![0; slots.len()];
-        assert_eq!(
-            lookup_list(&file, &slots, &mut found),
-            Ok(slots.len() as u64)
-        );
+        let origins = origins(&distances);
+        let n = distances.len();
+        let slots: Vec<u64> = (0..n as u64).rev().collect();
+        let (mut found, mut entries) = (vec![0; n], vec![0; n]);
+        let count = lookup_list(&file, &slots, &mut found, &mut entries);
+        assert_eq!(count, Ok(n as u64));
         found.reverse();
+        entries.reverse();
         assert!(found == distances, "{k} overflow entries");
+        for slot in 0..n {
+            let entry = match origins[slot] {
+                Origin::Inline => k as u64,
+                Origin::Overflow(entry) => entry,
+            };
+            assert_eq!(entries[slot], entry, "{k} overflow entries, slot {slot}");
+        }
+        for slot in (0..n).step_by(61) {
+            let (distance, origin) = (distances[slot], origins[slot]);
+            let located = Located { distance, origin };
+            assert_eq!(lookup(&file, slot as u64), Ok(located));
+            let numbered = (distance, entries[slot]);
+            assert_eq!(lookup_numbered(&file, slot as u64), Ok(numbered));
+        }
     }
 }
 
 #[test]
-fn lookup_list_refuses_slots_before_the_buffer() {
+fn lookup_list_refuses_slots_before_either_list() {
     let file = file_of(&A);
-    let mut distances = [7; 3];
-    let beyond = lookup_list(&file, &[3, 3, 4, 0, 9], &mut distances);
-    assert_eq!(beyond.err(), refused(9, 0, 2));
-    let too_short = lookup_list(&file, &[3, 3, 2, 0], &mut distances);
-    assert_eq!(too_short.err(), refused(12, 0, 0));
-    assert_eq!(distances, [7; 3]);
-    assert_eq!(lookup_list(&file, &[3, 3], &mut distances), Ok(2));
-    assert_eq!(distances, [300, 300, 7]);
+    let (mut distances, mut entries) = ([7; 5], [7; 5]);
+    for (capacity, more) in [(3, 5), (5, 3), (3, 3), (0, 5), (5, 0)] {
+        let lists = (&mut distances[..capacity], &mut entries[..more]);
+        let beyond = lookup_list(&file, &[3, 3, 4, 0, 9], lists.0, lists.1);
+        assert_eq!(beyond.err(), refused(9, 0, 2));
+        let too_short = lookup_list(&file, &[3, 3, 2, 0], lists.0, lists.1);
+        assert_eq!(too_short.err(), refused(12, 0, 0));
+    }
+    assert_eq!((distances, entries), ([7; 5], [7; 5]));
+    let count = lookup_list(&file, &[3, 0, 3, 2], &mut distances, &mut entries);
+    assert_eq!(count, Ok(4));
+    assert_eq!(distances, [300, 0, 300, 255, 7]);
+    assert_eq!(entries, [1, 2, 1, 0, 7]);
 }
 
 #[test]

@@ -1,8 +1,8 @@
 -- Proves pciv_read::lookup.
 use mathlib.Core.Path.{_≡_, sym, ap, _∙_}
-use Prim.Native.Nat.{ℕ}
-use Rattle.pciv_format.specs.Refusals.{done, refused, distanceAnswer}
+use Rattle.pciv_format.specs.Refusals.{done, refused, lookupAnswer}
 use Rattle.pciv_format.specs.Check.{checkFile}
+use Rattle.pciv_format.specs.declared.Located.{Located}
 use Rattle.pciv_format.proofs.RefusalsLaws.{fileAnswer-done, fileAnswer-refused}
 use Rattle.pciv_format.proofs.ReadCaseLaws.{checked, lookup-refused, lookup-outside, lookup-inside}
 use borrow.Author.Needs.{needs}
@@ -31,24 +31,24 @@ returns : tie.Need-returns
 returns c =
     let k = c .before .before in
     let a = k .before .before .before .before .args in
-    ap distanceAnswer (sym (lookup-outside (a .file .now) _ (is-map k) (a .slot) (c .if1 .taken)))
+    ap lookupAnswer (sym (lookup-outside (a .file .now) _ (is-map k) (a .slot) (c .if1 .taken)))
 
-distance-at-requires : tie.Need-distance-at-requires
-distance-at-requires c κs =
+locate-requires : tie.Need-locate-requires
+locate-requires c κs =
     let k = c .before .before in
     (checked _ _ (is-map k), c .if1 .left)
 
 returns-2 : tie.Need-returns-2
 returns-2 c =
     let a = c .before .before .before .before .before .args in
-    ap distanceAnswer (sym (lookup-refused (a .file .now) _ (is-refused (c .before)) (a .slot)))
+    ap lookupAnswer (sym (lookup-refused (a .file .now) _ (is-refused (c .before)) (a .slot)))
 
 returns-3 : tie.Need-returns-3
 returns-3 c =
     let k = c .before .before .before in
     let a = k .before .before .before .before .args in
-    ap (λ (x : ℕ). distanceAnswer (done x)) (c .distance-at .ensures)
-    ∙ ap distanceAnswer (sym (lookup-inside (a .file .now) _ (is-map k) (a .slot) (c .before .if1 .left)))
+    ap (λ (x : Located). lookupAnswer (done x)) (c .locate .ensures)
+    ∙ ap lookupAnswer (sym (lookup-inside (a .file .now) _ (is-map k) (a .slot) (c .before .if1 .left)))
 
 pub lookup-spec : {M : Type 1} → statement M
 lookup-spec =
@@ -58,6 +58,6 @@ lookup-spec =
     enum-known-checked
     enum-known-checked-2
     returns
-    distance-at-requires
+    locate-requires
     returns-2
     returns-3)

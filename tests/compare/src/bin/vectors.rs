@@ -184,10 +184,17 @@ impl Contents {
         same("weighted sum of the scan", self.weighted, weighted.sum())?;
 
         let slots: Vec<u64> = (0..self.summary.n).collect();
-        let mut found = vec![0; n];
-        let count = pciv::lookup_list(file, &slots, &mut found);
+        let (mut found, mut entries) = (vec![0; n], vec![0; n]);
+        let count = pciv::lookup_list(file, &slots, &mut found, &mut entries);
         same("lookup_list", Ok(n), count)?;
         same("all lookups as the scan", true, found == list)?;
+        let mut numbers = 0..;
+        let is_entry = |(&distance, &entry): (&u32, &u64)| match distance {
+            0..255 => entry == self.summary.k,
+            255.. => numbers.next() == Some(entry),
+        };
+        let are_entries = list.iter().zip(&entries).all(is_entry);
+        same("entries in order, and k inline", true, are_entries)?;
         let mut written = vec![0; file.len()];
         same("write", Ok(self.summary), pciv::write(&list, &mut written))?;
         same("the scan written as the file", true, written == file)

@@ -13,11 +13,14 @@ tell-number-requires c κs = search needs
 same-length : tie.Need-same-length
 same-length c = search needs
 
+same-length-2 : tie.Need-same-length-2
+same-length-2 c = search needs
+
 returns : tie.Need-returns
 returns c =
-    let e = c .before .before .before .before .before .lookup-list .ensures in
+    let e = c .before .before .before .before .before .before .before .lookup-list .ensures in
     (told-number (e .0) (c .tell-number .ensures), e .1)
 
 pub pciv-lookup-list-spec : {M : Type 1} → statement M
 pciv-lookup-list-spec =
-    tie.close (tie.spec lookup-list-requires tell-number-requires same-length returns)
+    tie.close (tie.spec lookup-list-requires tell-number-requires same-length same-length-2 returns)
