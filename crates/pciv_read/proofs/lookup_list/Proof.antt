@@ -33,7 +33,11 @@ all-inside : (c : tie.Else1)
     let xs = k .before .before .before .before .before .before .before .args .slots .now in
     let n = k .checked2 .given .0 .0 .n in
     length xs ≤ firstBelow (λ (i : ℕ). leb n (getD xs i 0)) (length xs))
-all-inside c = omega (arith, c .before .before .first-outside .ensures, c .if1 .left)
+all-inside c =
+    let k = c .before .before .before .before in
+    let xs = k .before .before .before .before .before .before .before .args .slots .now in
+    let none : length xs ≤ c .before .before .first-outside .result = c .if1 .left in
+    omega (arith, none, c .before .before .first-outside .ensures)
 
 check-requires : tie.Need-check-requires
 check-requires c κs = search needs

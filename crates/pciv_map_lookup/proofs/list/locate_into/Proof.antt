@@ -3,7 +3,7 @@
 use mathlib.Core.Path.{refl}
 use Prim.Native.Nat.{ℕ, _+_, _-_, _≤_, _<_}
 use native.Mathlib.Omega.{arith}
-use lib.ListN.{length, getD, set}
+use lib.ListN.{length, getD, set, length-set}
 use lib.Dec.{eqb}
 use mir.Val.{boolByte}
 use borrow.Author.Needs.{needs}
@@ -114,8 +114,13 @@ locate8-requires : tie.Need-locate8-requires Inv-loop μ-loop
 locate8-requires c κs =
     let then = c .before .before .before in
     let pre = entered (then .before .before .before .before) .pre in
-    let w = full then in
-    (pre .0, (waits-places _ _ _ _ _ (w .places), omega (arith, w .distances .same, w .entries .same)))
+    let inv = then .before .before .before .before .loop .inv .1 in (
+      pre .0,
+      (
+        waits-places _ _ _ _ _ (full then .places),
+        simp length-set (omega (arith, inv .distances .same, inv .entries .same)),
+      ),
+    )
 
 loop-less : tie.Need-loop-less Inv-loop μ-loop
 loop-less c = search needs
