@@ -113,7 +113,7 @@ module _ (xs t : List ℕ) (l : Limits xs) where
       let c : CheckedMap b (length xs) k = front-checked (fileOf xs) t (length xs) k (counted .fits) counted in
       checkWith-done ltb mp b (length xs) k c (le-ltb (length b) (fileLen (length xs) k) (c .fits))
 
-  front-file : editedFile (fileOf xs ++ t) ≡ fileOf xs
+  pub front-file : editedFile (fileOf xs ++ t) ≡ fileOf xs
   unfolding editedFile
   front-file =
       let k : ℕ = overflowCount (length xs) (at xs) in

@@ -1,5 +1,5 @@
 -- Proves pciv_slot::stay_in_overflow.
-use mathlib.Core.Path.{sym, ap, _∙_}
+use mathlib.Core.Path.{sym, ap₂, _∙_}
 use Prim.Native.Nat.{_+_, _*_, _≤_}
 use native.Mathlib.Omega.{arith}
 use lib.ListN.{length}
@@ -65,7 +65,7 @@ returns c =
     let is =
     stays-overflow (a .buffer .now) (a .n) (a .k) (bytes known) e (entry .pre .0) (entry .pre .1 .0)
     (entry .pre .1 .1) (found .entry-of .result) (found .entry-of .ensures) in
-    (c .edited .ensures ∙ ap editAnswer (sym (is .0)), put .put32 .ensures ∙ sym (is .1))
+    (c .edited .ensures ∙ ap₂ editAnswer (sym (is .0)) (sym (is .1)), put .put32 .ensures ∙ sym (is .2))
 
 pub stay-in-overflow-spec : {M : Type 1} → statement M
 stay-in-overflow-spec =

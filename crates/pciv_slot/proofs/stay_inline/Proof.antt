@@ -1,5 +1,5 @@
 -- Proves pciv_slot::stay_inline.
-use mathlib.Core.Path.{sym, ap, _∙_}
+use mathlib.Core.Path.{sym, ap₂, _∙_}
 use native.Mathlib.Omega.{arith}
 use Rattle.pciv_bytes.specs.LittleEndian.{Bytes}
 use Rattle.pciv_format.specs.Edit.{Edit, editAnswer}
@@ -38,7 +38,7 @@ returns c =
     let is =
     stays-inline (a .buffer .now) (a .n) (a .k) (bytes known) e (entry .pre .0) (entry .pre .1 .0)
     (entry .pre .1 .1) in
-    (c .edited .ensures ∙ ap editAnswer (sym (is .0)), sym (is .1))
+    (c .edited .ensures ∙ ap₂ editAnswer (sym (is .0)) (sym (is .1)), sym (is .2))
 
 pub stay-inline-spec : {M : Type 1} → statement M
 stay-inline-spec =
