@@ -1,5 +1,5 @@
 -- The overflow entries that an edit moves (docs/FORMAT.md, "The editor").
---   after-inline, -overflow    the entries of a list, around a slot
+--   after-overflow, -inline    the entries of a list, around a slot
 --   moved-stays, -into, -out   an edit of a list that stays inline or in overflow; one into overflow, and out of it
 --   moved-done, -refused       the editor's number, by its outcome;  plain-refused  the plain editor's
 --   moved-le, edit-moved-le    at most as many as there were
@@ -58,17 +58,16 @@ module _ (x : List ℕ) (s : ℕ) where
       ap length (positions-around p (length x) s inside)
       ∙ length-append (positions p 0 s) (keepIf (p s) s (positions p (suc s) (length x - suc s)))
 
-  -- those of smaller and of larger slots
-  pub after-inline : s < length x → at x s < 255
-      → overflowCount (length x) (at x) ≡ overflowCount s (at x) + entriesAfter x s
-  unfolding entriesAfter
-  after-inline inside h = around inside ∙ rw (lt-leb 255 (at x s) h)
-
-  -- and that of s
+  -- those of smaller slots, its own, and those of larger ones
   pub after-overflow : s < length x → 255 ≤ at x s
       → overflowCount (length x) (at x) ≡ overflowCount s (at x) + suc (entriesAfter x s)
   unfolding entriesAfter
   after-overflow inside h = around inside ∙ rw (le-leb 255 (at x s) h)
+
+  pub after-inline : s < length x → at x s < 255
+      → overflowCount (length x) (at x) ≡ overflowCount s (at x) + entriesAfter x s
+  unfolding entriesAfter
+  after-inline inside h = around inside ∙ rw (lt-leb 255 (at x s) h)
 
   after-le : entriesAfter x s ≤ overflowCount (length x) (at x)
   unfolding entriesAfter positions

@@ -37,6 +37,14 @@ fn edited(n: usize, k: usize, moved: usize) -> EditAnswer
     }
 }
 
+// The same where the slot stays inline or in overflow, as every entry stays where it is.
+fn stayed(n: usize, k: usize) -> EditAnswer
+    requires { ⌜ (n ≤ maxSlots) × (k ≤ n) ⌝ }
+    ensures { λ r. ⌜ r ≡ editAnswer (done (countsOf n k)) 0 ⌝ }
+{
+    edited(n, k, 0)
+}
+
 // A refusal, which concerns no map; no entry is moved.
 fn refused(number: usize) -> EditAnswer
     ensures { λ r. ⌜ r ≡ editAnswer (refuse number 0 0) 0 ⌝ }
@@ -68,7 +76,7 @@ fn stay_inline(buffer: &mut [u8], n: usize, k: usize, slot: usize, distance: u32
     ensures buffer { λ _. ⌜ now (buffer .exit) ≡ editBuffer (now (buffer .entry)) (record { slot = slot; distance = distance }) ⌝ }
 {
     buffer[HEADER_LEN + slot] = distance as u8;
-    edited(n, k, 0)
+    stayed(n, k)
 }
 
 // In overflow before and after: the four distance bytes of its entry.
@@ -81,7 +89,7 @@ fn stay_in_overflow(buffer: &mut [u8], n: usize, k: usize, slot: usize, distance
 {
     let j = entry_of(buffer, n, k, slot);
     put32(buffer, HEADER_LEN + n + 12 * j + 8, distance);
-    edited(n, k, 0)
+    stayed(n, k)
 }
 
 // The slot moves into or out of overflow, after which there are `count` entries: refusal 12, or the header, the slot's

@@ -18,7 +18,7 @@ returns : tie.Need-returns
 returns c = rw (lt-ltb _ 255 (c .if1 .taken))
 
 sub-result-3 : tie.Need-sub-result-3
-sub-result-3 c = c .before .pre .1 (c .if1 .left)
+sub-result-3 c = omega (arith, c .before .pre .1 (c .if1 .left))
 
 returns-2 : tie.Need-returns-2
 returns-2 c = rw (le-ltb _ 255 (c .if1 .left))

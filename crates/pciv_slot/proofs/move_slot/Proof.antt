@@ -95,7 +95,7 @@ entries-behind-requires c κs =
     let found = changed .before .before .before .before .before .before in
     let fit = found .before .before in
     let space = law (fit .before .before) .space (found .entry-of .result) (found .entry-of .ensures) (fits fit) in
-    (λ h. space .leaves h .0, λ h. space .enters h .0)
+    (λ h. omega (arith, space .leaves h .0), λ h. omega (arith, space .enters h .0))
 
 edited-requires : tie.Need-edited-requires
 edited-requires c κs =
