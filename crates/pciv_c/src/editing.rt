@@ -9,6 +9,7 @@ use pciv_c_cells::tell_number;
 use pciv_edit::edit;
 use pciv_edit::run::edit_list;
 
+// `*moved` is written after a refusal too, as 0.
 #[no_mangle]
 pub extern "C" fn pciv_edit(
     buffer: &mut [u8],
