@@ -13,7 +13,7 @@ use mathlib.Core.Path.{_≡_, refl, sym, ap, _∙_}
 use Prim.Native.Nat.{ℕ, _+_, _-_, _*_, _≤_, _<_, min}
 use native.Mathlib.Nat.{sub-zero}
 use native.Mathlib.Omega.{arith}
-use mathlib.Core.List.{List, [], _∷_, _++_}
+use mathlib.Core.List.{List, [], _∷_}
 use lib.ListN.{length, length-append}
 use lib.Seq.{sets}
 use borrow.Author.Tests.{le-ltb, lt-ltb, ne-eqb}
@@ -25,7 +25,7 @@ use Rattle.pciv_format.specs.Layout.{maxDistance, at}
 use Rattle.pciv_format.specs.Refusals.{Outcome, done, refused, refuse, numberAnswer}
 use Rattle.pciv_format.specs.Check.{checkBuffer}
 use Rattle.pciv_format.specs.Edit.{Edit, editOutcome, editMoved, editBuffer, editRun, editOutcomes, editMoves}
-use Rattle.pciv_format.specs.Edit.{answerLen, cellsOf, noRefusal, noSummary, answerCells, editCells, allCells}
+use Rattle.pciv_format.specs.Edit.{answerLen, cellsOf, noRefusal, noSummary, answerCells, allCells}
 use Rattle.pciv_format.specs.Edit.{editsOf, editListOutcome, editListBuffer, editListAnswers}
 use Rattle.pciv_format.specs.declared.NumberAnswer.{NumberAnswer}
 use Rattle.pciv_format.specs.declared.Summary.{Summary}
@@ -47,7 +47,7 @@ pub record Left (b₀ out₀ : List ℕ) (es : List Edit) (b out : List ℕ) (to
   pub buffer : editRun b₀ es ≡ editRun b rest
   pub answers : sets out₀ 0 (runCells b₀ es) ≡ sets out to (runCells b rest)
 
-length-cells : (o : Outcome Summary) (moved : ℕ) → length (editCells o moved) ≡ answerLen
+length-cells : (o : Outcome Summary) (moved : ℕ) → length (answerCells o moved) ≡ answerLen
 unfolding answerCells
 length-cells (done s) moved = refl
 length-cells (refused r) moved = refl
@@ -56,11 +56,11 @@ module _ (b₀ out₀ : List ℕ) (es : List Edit) (b out : List ℕ) where
   pub left-more : (to : ℕ) (rest : List Edit) (e : Edit) (next : List Edit) → rest ≡ e ∷ next
       → Left b₀ out₀ es b out to rest
       → (b' out' : List ℕ) → b' ≡ editBuffer b e
-      → out' ≡ sets out to (editCells (editOutcome b e) (editMoved b e))
+      → out' ≡ sets out to (answerCells (editOutcome b e) (editMoved b e))
       → (to' : ℕ) → to' ≡ to + answerLen → Left b₀ out₀ es b' out' to' next
   unfolding editRun editOutcomes editMoves allCells
   left-more to rest e next is l b' out' eb eo to' et =
-      let cells : List ℕ = editCells (editOutcome b e) (editMoved b e) in
+      let cells : List ℕ = answerCells (editOutcome b e) (editMoved b e) in
       let more : List ℕ = runCells (editBuffer b e) next in
       rw (eb, eo, et)
       (record {
@@ -113,11 +113,11 @@ module _ (slots distances : List ℕ) where
 -- ---- the numbers of one answer
 
 module _ (o : Outcome Summary) (m moved : ℕ) (same : m ≡ moved) where
-  pub cells-refused : (r : Refusal) → o ≡ refused r → cellsOf r noSummary ++ (m ∷ []) ≡ editCells o moved
+  pub cells-refused : (r : Refusal) → o ≡ refused r → cellsOf r noSummary m ≡ answerCells o moved
   unfolding answerCells
   cells-refused r is = rw (is, same)
 
-  pub cells-done : (s : Summary) → o ≡ done s → cellsOf noRefusal s ++ (m ∷ []) ≡ editCells o moved
+  pub cells-done : (s : Summary) → o ≡ done s → cellsOf noRefusal s m ≡ answerCells o moved
   unfolding answerCells
   cells-done s is = rw (is, same)
 
@@ -129,7 +129,7 @@ length-runCells b [] = refl
 length-runCells b (e ∷ es) =
     omega (
       arith,
-      length-append (editCells (editOutcome b e) (editMoved b e)) (runCells (editBuffer b e) es),
+      length-append (answerCells (editOutcome b e) (editMoved b e)) (runCells (editBuffer b e) es),
       length-cells (editOutcome b e) (editMoved b e),
       length-runCells (editBuffer b e) es,
     )

@@ -1,14 +1,13 @@
 // A run of edits in one call (docs/FORMAT.md, "A run of edits"): the file is checked once, and each edit gets the
 // buffer as the one before left it. What the run answers and leaves is defined in pciv_format, specs/Edit.antt.
 ghost use mathlib.Core.Path.{_≡_};
-ghost use mathlib.Core.List.{[], _∷_, _++_};
 ghost use Prim.Native.Nat.{_+_, _*_, _≤_};
 ghost use lib.ListN.{length};
 ghost use lib.Seq.{sets};
 ghost use Rattle.pciv_format.specs.Refusals.{numberAnswer};
 ghost use Rattle.pciv_format.specs.Check.{CheckedMap};
 ghost use Rattle.pciv_format.specs.Edit.{editOutcome, editMoved, editBuffer, editRun, editOutcomes, editMoves};
-ghost use Rattle.pciv_format.specs.Edit.{answerLen, cellsOf, editCells, allCells, editsOf, editListOutcome};
+ghost use Rattle.pciv_format.specs.Edit.{answerLen, cellsOf, answerCells, allCells, editsOf, editListOutcome};
 ghost use Rattle.pciv_format.specs.Edit.{editListBuffer, editListAnswers};
 use pciv_check::check_buffer;
 use pciv_format::ANSWER_LEN;
@@ -24,7 +23,7 @@ use pciv_slot::edit_checked;
 // Writes the numbers of one answer.
 fn put_cells(answers: &mut [usize], at: usize, r: Refusal, s: Summary, moved: usize)
     requires { ⌜ at + answerLen ≤ length (now answers) ⌝ }
-    ensures { λ _. ⌜ now (answers .exit) ≡ sets (now (answers .entry)) at (cellsOf r s ++ (moved ∷ [])) ⌝ }
+    ensures { λ _. ⌜ now (answers .exit) ≡ sets (now (answers .entry)) at (cellsOf r s moved) ⌝ }
 {
     let cells = [
         r.number,
@@ -58,7 +57,7 @@ fn edit_next(
     requires { ⌜ at + answerLen ≤ length (now answers) ⌝ }
     ensures map { λ r. ⌜ CheckedMap (now (buffer .exit)) n r ⌝ }
     ensures buffer { λ _. ⌜ now (buffer .exit) ≡ editBuffer (now (buffer .entry)) (record { slot = slot; distance = distance }) ⌝ }
-    ensures answers { λ _. ⌜ now (answers .exit) ≡ sets (now (answers .entry)) at (editCells (editOutcome (now (buffer .entry)) (record { slot = slot; distance = distance }))
+    ensures answers { λ _. ⌜ now (answers .exit) ≡ sets (now (answers .entry)) at (answerCells (editOutcome (now (buffer .entry)) (record { slot = slot; distance = distance }))
         (editMoved (now (buffer .entry)) (record { slot = slot; distance = distance }))) ⌝ }
 {
     let edited = edit_checked(buffer, n, k, slot, distance);

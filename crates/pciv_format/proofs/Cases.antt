@@ -39,7 +39,7 @@ use Rattle.pciv_format.specs.Arith.{shiftBuffer, signedDifferences, sign
 use Rattle.pciv_format.specs.Arith.{signedDifferenceList}
 use Rattle.pciv_format.specs.Figures.{quotient, distanceBetween, brayCurtisOutcome, countAt, jaccardOutcome}
 use Rattle.pciv_format.specs.Edit.{Edit, plainOutcome, editedFile, editOutcome, replaced, editBuffer}
-use Rattle.pciv_format.specs.Edit.{entriesAfter, movedBy, plainMoved, editMoved, plainStart, plainStep}
+use Rattle.pciv_format.specs.Edit.{entriesAbove, movedBy, plainMoved, editMoved, plainStart, plainStep}
 use Rattle.pciv_format.specs.Edit.{plainRun, plainOutcomes, plainMoves, bufferOf, answerCells, allCells}
 use Rattle.pciv_format.specs.Edit.{editsOf, editListOutcome, editListBuffer, editListAnswers}
 use Rattle.pciv_format.specs.Report.{digits, decimal, field, line, mapLines, refusedLine, reportText}
@@ -237,14 +237,15 @@ pub further :
     ∷ 9 ∷ 0 ∷ 0 ∷ 0 ∷ 0 ∷ 0 ∷ 0 ∷ 0 ∷ 0
     ∷ 0 ∷ 0 ∷ 0 ∷ 4 ∷ 1 ∷ 0 ∷ 0 ∷ 56 ∷ 0 ∷ 7 ∷ [])
     × (editListOutcome (fileOf A) (2 ∷ 4 ∷ []) (254 ∷ []) 28 ≡ refuse 9 0 1)
-    -- entries moved in A: slot 2 to 254; slot 1 to 255 in 80 bytes and, refused, in 79; slot 3 to 7; slot 3 to 400; slot 4;
-    -- the two entries, counted in the files of A and of A with slot 1 at 255
+    -- entries moved in A: slot 2 to 254; slot 1 to 255 in 80 bytes and, refused, in 79; slot 3 to 7; slot 3 to 400; slot 4.
+    -- In 300, 0, 300 slot 1 to 255. The two entries, in the files of A and of A with slot 1 at 255
     × ((editMoved (fileOf A) (setTo 2 254) ≡ 1)
     × (editMoved (fileOf A ++ replicate 12 7) (setTo 1 255) ≡ 2)
     × (editMoved (fileOf A ++ replicate 11 7) (setTo 1 255) ≡ 0)
     × (editMoved (fileOf A) (setTo 3 7) ≡ 0)
     × (editMoved (fileOf A) (setTo 3 400) ≡ 0)
     × (editMoved (fileOf A) (setTo 4 255) ≡ 0))
+    × (editMoved (fileOf (300 ∷ 0 ∷ 300 ∷ []) ++ replicate 12 7) (setTo 1 255) ≡ 1)
     × (positions (renumbered (fileOf A) (fileOf (0 ∷ 255 ∷ 255 ∷ 300 ∷ [])) 1) 0 4 ≡ 2 ∷ 3 ∷ [])
     -- masks of M: below 300, above 299
     × (thresholdWords Below (fileOf M) 300 (7 ∷ 7 ∷ 7 ∷ []) ≡ ones ∷ 0 ∷ 7 ∷ [])
@@ -298,7 +299,7 @@ unfolding
     signedDifferences signedDifferenceOutcome signedDifferenceList xor
     lookupOutcome lookupListOutcome lookupListBuffer lookupListEntries scanOutcome scanBuffer
     writeOutcome writeBuffer closeOutcome closeBuffer
-    plainOutcome editedFile editOutcome replaced editBuffer entriesAfter movedBy plainMoved editMoved
+    plainOutcome editedFile editOutcome replaced editBuffer entriesAbove movedBy plainMoved editMoved
     plainStart plainStep plainRun plainOutcomes plainMoves bufferOf answerCells allCells editsOf
     editListOutcome editListBuffer editListAnswers
 further = (
@@ -325,6 +326,7 @@ further = (
   refl,
   refl,
   (refl, refl, refl, refl, refl, refl),
+  refl,
   refl,
   refl,
   refl,

@@ -1,6 +1,7 @@
 -- A file at the front of a longer buffer is checked and read as it is by itself.
 --   front-checked              a file that is a checked map by itself is one in the buffer
---   front-check, front-list    a buffer with the file of a list at its front is accepted, and edited as that list
+--   front-check, front-file, front-list
+--                              a buffer with the file of a list at its front is accepted, and edited as that file and list
 --   Holds b n k x              b holds the file of the list x at its front
 --   checked-front              a checked buffer holds the list that it is read as
 -- Axioms: none.

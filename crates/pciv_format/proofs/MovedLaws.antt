@@ -1,9 +1,9 @@
 -- The overflow entries that an edit moves (docs/FORMAT.md, "The editor").
---   after-overflow, -inline    the entries of a list, around a slot
+--   above-overflow, -inline    the entries of a list, around a slot
 --   moved-stays, -into, -out   an edit of a list that stays inline or in overflow; one into overflow, and out of it
 --   moved-done, -refused       the editor's number, by its outcome;  plain-refused  the plain editor's
 --   moved-le, edit-moved-le    at most as many as there were
---   hasEntry, renumbered       of files: a slot has an entry;  it has one, of another number in the other file
+--   hasEntry, renumbered       a slot has an entry in a file;  one in each of two files, with different numbers
 --   entries-stay               an edit leaves the other slots with an entry, or without one
 --   moved-renumbered, edit-renumbered
 --                              the number is how many entries of other slots have another number in the new file
@@ -15,19 +15,19 @@ use native.Mathlib.Omega.{arith}
 use native.Mathlib.Decide.{decLe}
 use mathlib.Core.Bool.{Bool, true, false, not, xor, cond, _&&_}
 use mathlib.Core.List.{List, [], _∷_, _++_}
-use lib.ListN.{length, drop, length-append}
+use lib.ListN.{length, drop}
 use lib.Dec.{ltb, leb, eqb}
 use borrow.Author.Tests.{lt-ltb, le-ltb, le-leb, lt-leb, leb-false, eq-eqb, ne-eqb}
-use Rattle.pciv_bytes.specs.Ranges.{keepIf, positions}
+use Rattle.pciv_bytes.specs.Ranges.{positions}
 use Rattle.pciv_bytes.specs.LittleEndian.{Bytes}
 use Rattle.pciv_bytes.proofs.PositionsLaws.{positions-cong, positions-none, positions-around}
-use Rattle.pciv_format.specs.Layout.{maxDistance, inOverflow, overflowSlots, overflowCount, at, fileOf, Limits}
+use Rattle.pciv_format.specs.Layout.{maxDistance, inOverflow, overflowCount, at, fileOf, Limits}
 use Rattle.pciv_format.specs.Layout.{fileLen}
 use Rattle.pciv_format.specs.Refusals.{Outcome, done, refused}
 use Rattle.pciv_format.specs.Check.{nField, kField, checkBuffer, CheckedMap}
 use Rattle.pciv_format.specs.Read.{entryNumber}
 use Rattle.pciv_format.specs.Edit.{Edit, edited, plainOutcome, editedFile, editOutcome, replaced, ifAccepted}
-use Rattle.pciv_format.specs.Edit.{editBuffer, entriesAfter, movedBy, plainMoved, editMoved, State}
+use Rattle.pciv_format.specs.Edit.{editBuffer, entriesAbove, movedBy, plainMoved, editMoved, State}
 use Rattle.pciv_format.specs.Edit.{plainStart, plainStep, bufferOf, editMoves, plainMoves, startOf}
 use Rattle.pciv_format.specs.declared.Summary.{Summary}
 use Rattle.pciv_format.specs.declared.Refusal.{Refusal}
@@ -36,9 +36,10 @@ use Rattle.pciv_format.proofs.LayoutLaws.{overflowSlots-at, overflowCou
 use Rattle.pciv_format.proofs.CheckLaws.{done-buffer}
 use Rattle.pciv_format.proofs.FileLaws.{file-checked}
 use Rattle.pciv_format.proofs.FrontLaws.{Holds, front-file, checked-front}
-use Rattle.pciv_format.proofs.OriginLaws.{file-entryNumber}
-use Rattle.pciv_format.proofs.EditLaws.{edited-at, edited-other, length-edited, edited-limits}
-use Rattle.pciv_format.proofs.EditLaws.{count-in, count-stays}
+use Rattle.pciv_format.proofs.OriginLaws.{overflow-inside, file-entryNumber}
+use Rattle.pciv_format.proofs.EditLaws.{edited-at, edited-other, edited-limits}
+use Rattle.pciv_format.proofs.EditLaws.{count-overflow, count-inline, count-in, count-stays}
+use Rattle.pciv_format.proofs.LimitLaws.{buffer-refused}
 use Rattle.pciv_format.proofs.EditCaseLaws.{held, buffer-done}
 use Rattle.pciv_format.proofs.RunLaws.{Reached, list-there, edit-answer, edit-buffer, next-reached}
 use Rattle.pciv_format.proofs.RunLaws.{start-reached, start-there, Distances}
@@ -46,36 +47,26 @@ use Rattle.pciv_format.proofs.RunLaws.{start-reached, start-there, Dist
 -- ---- the entries around a slot
 
 module _ (x : List ℕ) (s : ℕ) where
-  around : s < length x
-      → overflowCount (length x) (at x)
-      ≡ overflowCount s (at x)
-      + length (keepIf (inOverflow (at x s)) s (positions (λ (i : ℕ). inOverflow (at x i)) (suc s) (length x - suc s)))
-  unfolding overflowCount overflowSlots
-  around inside =
-      let p : ℕ → Bool = λ i. inOverflow (at x i) in
-      ap length (positions-around p (length x) s inside)
-      ∙ length-append (positions p 0 s) (keepIf (p s) s (positions p (suc s) (length x - suc s)))
+  module _ (inside : s < length x) where
+    -- those of smaller slots, its own, and those of larger ones
+    pub above-overflow : 255 ≤ at x s
+        → overflowCount (length x) (at x) ≡ overflowCount s (at x) + suc (entriesAbove x s)
+    unfolding entriesAbove
+    above-overflow h = count-overflow (length x) (at x) (at x) s inside (λ i ne. refl) h
 
-  -- those of smaller slots, its own, and those of larger ones
-  pub after-overflow : s < length x → 255 ≤ at x s
-      → overflowCount (length x) (at x) ≡ overflowCount s (at x) + suc (entriesAfter x s)
-  unfolding entriesAfter
-  after-overflow inside h = around inside ∙ rw (le-leb 255 (at x s) h)
+    pub above-inline : at x s < 255 → overflowCount (length x) (at x) ≡ overflowCount s (at x) + entriesAbove x s
+    unfolding entriesAbove
+    above-inline h = count-inline (length x) (at x) (at x) s inside (λ i ne. refl) h
 
-  pub after-inline : s < length x → at x s < 255
-      → overflowCount (length x) (at x) ≡ overflowCount s (at x) + entriesAfter x s
-  unfolding entriesAfter
-  after-inline inside h = around inside ∙ rw (lt-leb 255 (at x s) h)
-
-  after-le : entriesAfter x s ≤ overflowCount (length x) (at x)
-  unfolding entriesAfter positions
-  after-le =
+  above-le : entriesAbove x s ≤ overflowCount (length x) (at x)
+  unfolding entriesAbove positions
+  above-le =
       elim (decLe (length x) s) [
         | yes past ↦ (let none : length x - suc s ≡ 0 = omega arith in rw none (omega arith))
         | no d ↦ (let inside : s < length x = omega arith in
             elim (decLe 255 (at x s)) [
-              | yes h ↦ omega (arith, after-overflow inside h)
-              | no h ↦ omega (arith, after-inline inside (omega arith))
+              | yes h ↦ omega (arith, above-overflow inside h)
+              | no h ↦ omega (arith, above-inline inside (omega arith))
             ])
       ]
 
@@ -86,15 +77,15 @@ module _ (x : List ℕ) (e : Edit) where
   unfolding movedBy xor
   moved-stays same = rw same (go (inOverflow (e .distance)))
     where
-      go : (o : Bool) → cond (xor o o) (entriesAfter x (e .slot)) 0 ≡ 0
+      go : (o : Bool) → cond (xor o o) (entriesAbove x (e .slot)) 0 ≡ 0
       go true = refl
       go false = refl
 
-  pub moved-into : at x (e .slot) < 255 → 255 ≤ e .distance → movedBy x e ≡ entriesAfter x (e .slot)
+  pub moved-into : at x (e .slot) < 255 → 255 ≤ e .distance → movedBy x e ≡ entriesAbove x (e .slot)
   unfolding movedBy xor
   moved-into was overflows = rw (lt-leb 255 (at x (e .slot)) was, le-leb 255 (e .distance) overflows)
 
-  pub moved-out : 255 ≤ at x (e .slot) → e .distance < 255 → movedBy x e ≡ entriesAfter x (e .slot)
+  pub moved-out : 255 ≤ at x (e .slot) → e .distance < 255 → movedBy x e ≡ entriesAbove x (e .slot)
   unfolding movedBy xor
   moved-out was inline = rw (le-leb 255 (at x (e .slot)) was, lt-leb 255 (e .distance) inline)
 
@@ -102,8 +93,8 @@ module _ (x : List ℕ) (e : Edit) where
   unfolding movedBy
   movedBy-le = go (xor (inOverflow (at x (e .slot))) (inOverflow (e .distance)))
     where
-      go : (o : Bool) → cond o (entriesAfter x (e .slot)) 0 ≤ overflowCount (length x) (at x)
-      go true = after-le x (e .slot)
+      go : (o : Bool) → cond o (entriesAbove x (e .slot)) 0 ≤ overflowCount (length x) (at x)
+      go true = above-le x (e .slot)
       go false = omega arith
 
   module _ (R : ℕ) where
@@ -163,9 +154,9 @@ edit-moved-le b bytes e = go (editOutcome b e) refl
 abbrev pub hasEntry : List ℕ → ℕ → Bool
 hasEntry f i = ltb (entryNumber f i) (kField f)
 
--- slot i is not s and has an entry in f, and its number in g is another one
+-- slot i is not s and has an entry in f and in g, and their numbers differ
 abbrev pub renumbered : List ℕ → List ℕ → ℕ → ℕ → Bool
-renumbered f g s i = not (eqb i s) && hasEntry f i && not (eqb (entryNumber f i) (entryNumber g i))
+renumbered f g s i = not (eqb i s) && hasEntry f i && hasEntry g i && not (eqb (entryNumber f i) (entryNumber g i))
 
 module _ (x : List ℕ) (l : Limits x) where
   k-field : kField (fileOf x) ≡ overflowCount (length x) (at x)
@@ -174,10 +165,10 @@ module _ (x : List ℕ) (l : Limits x) where
   number-overflow : (i : ℕ) → 255 ≤ at x i → entryNumber (fileOf x) i ≡ overflowCount i (at x)
   number-overflow i h = file-entryNumber x l i ∙ rw (le-leb 255 (at x i) h)
 
-  has-entry : (i : ℕ) → i < length x → hasEntry (fileOf x) i ≡ inOverflow (at x i)
-  has-entry i inside =
+  has-entry : (i : ℕ) → hasEntry (fileOf x) i ≡ inOverflow (at x i)
+  has-entry i =
       elim (decLe 255 (at x i)) [
-        | yes h ↦ (let below = overflowSlots-at (length x) (at x) i inside h .0 in
+        | yes h ↦ (let below = overflowSlots-at (length x) (at x) i (overflow-inside x i h) h .0 in
             lt-ltb (entryNumber (fileOf x) i) (kField (fileOf x)) (omega (arith, number-overflow i h, k-field))
             ∙ sym (le-leb 255 (at x i) h))
         | no h ↦ (let inline = lt-leb 255 (at x i) (omega arith) in
@@ -197,38 +188,36 @@ module _ (x : List ℕ) (e : Edit) (l : Limits x) (small : e .distance ≤ maxDi
   limits : Limits (edited x e)
   limits = edited-limits x e l small
 
-  pub entries-stay : (i : ℕ) → i < length x → (i ≡ e .slot → ⊥)
-      → hasEntry (fileOf (edited x e)) i ≡ hasEntry (fileOf x) i
-  entries-stay i inside ne =
-      has-entry (edited x e) limits i (rw length-edited inside)
-      ∙ ap inOverflow (sym (edited-other x e i ne))
-      ∙ sym (has-entry x l i inside)
+  pub entries-stay : (i : ℕ) → (i ≡ e .slot → ⊥) → hasEntry (fileOf (edited x e)) i ≡ hasEntry (fileOf x) i
+  entries-stay i ne =
+      has-entry (edited x e) limits i ∙ ap inOverflow (sym (edited-other x e i ne)) ∙ sym (has-entry x l i)
 
   abbrev other : ℕ → Bool
   other = renumbered (fileOf x) (fileOf (edited x e)) (e .slot)
 
   -- in overflow, a slot's number is the count of such slots below it
-  other-is : (i : ℕ) → i < length x → (i ≡ e .slot → ⊥)
+  other-is : (i : ℕ) → (i ≡ e .slot → ⊥)
       → other i ≡ inOverflow (v i) && not (eqb (overflowCount i v) (overflowCount i w))
-  other-is i inside ne =
-      rw (ne-eqb i (e .slot) ne, has-entry x l i inside)
+  other-is i ne =
+      rw (ne-eqb i (e .slot) ne, entries-stay i ne, has-entry x l i)
       (elim (decLe 255 (v i)) [
         | yes h ↦ (let h' : 255 ≤ w i = omega (arith, edited-other x e i ne) in
-            ap₂ (λ (a c : ℕ). inOverflow (v i) && not (eqb a c)) (number-overflow x l i h)
-            (number-overflow (edited x e) limits i h'))
+            rw (le-leb 255 (v i) h)
+            (ap₂ (λ (a c : ℕ). not (eqb a c)) (number-overflow x l i h)
+            (number-overflow (edited x e) limits i h')))
         | no h ↦ rw (lt-leb 255 (v i) (omega arith))
       ])
 
-  other-same : (i : ℕ) → i < length x → (i ≡ e .slot → ⊥) → overflowCount i v ≡ overflowCount i w → other i ≡ false
-  other-same i inside ne same = other-is i inside ne ∙ rw (eq-eqb _ _ same) (go (inOverflow (v i)))
+  other-same : (i : ℕ) → (i ≡ e .slot → ⊥) → overflowCount i v ≡ overflowCount i w → other i ≡ false
+  other-same i ne same = other-is i ne ∙ rw (eq-eqb _ _ same) (go (inOverflow (v i)))
     where
       go : (o : Bool) → o && false ≡ false
       go true = refl
       go false = refl
 
-  other-differs : (i : ℕ) → i < length x → (i ≡ e .slot → ⊥) → (overflowCount i v ≡ overflowCount i w → ⊥)
+  other-differs : (i : ℕ) → (i ≡ e .slot → ⊥) → (overflowCount i v ≡ overflowCount i w → ⊥)
       → other i ≡ inOverflow (v i)
-  other-differs i inside ne differ = other-is i inside ne ∙ rw (ne-eqb _ _ differ) (go (inOverflow (v i)))
+  other-differs i ne differ = other-is i ne ∙ rw (ne-eqb _ _ differ) (go (inOverflow (v i)))
     where
       go : (o : Bool) → o && true ≡ o
       go true = refl
@@ -240,7 +229,7 @@ module _ (x : List ℕ) (e : Edit) (l : Limits x) (small : e .distance ≤ maxDi
     below =
         positions-none other 0 (e .slot)
         (λ i h₁ h₂.
-        other-same i (omega arith) (λ q. omega arith)
+        other-same i (λ q. omega arith)
         (overflowCount-cong i v w (λ j h. edited-other x e j (λ q. omega arith))))
 
     -- so those that change are above it
@@ -256,22 +245,22 @@ module _ (x : List ℕ) (e : Edit) (l : Limits x) (small : e .distance ≤ maxDi
         ∙ ap length
         (positions-none other (suc (e .slot)) (length x - suc (e .slot))
         (λ i h₁ h₂.
-        other-same i (omega arith) (λ q. omega arith)
+        other-same i (λ q. omega arith)
         (sym
         (count-stays i v w (e .slot) h₁ (edited-other x e)
         (same ∙ ap inOverflow (sym (edited-at x e inside)))))))
         ∙ sym (moved-stays x e same)
 
     -- else all do
-    moves : movedBy x e ≡ entriesAfter x (e .slot)
+    moves : movedBy x e ≡ entriesAbove x (e .slot)
         → ((i : ℕ) → e .slot < i → overflowCount i v ≡ overflowCount i w → ⊥)
         → length (positions other 0 (length x)) ≡ movedBy x e
-    unfolding entriesAfter
+    unfolding entriesAbove
     moves is differ =
         counted
         ∙ ap length
         (positions-cong other (λ (i : ℕ). inOverflow (v i)) (suc (e .slot)) (length x - suc (e .slot))
-        (λ i h₁ h₂. other-differs i (omega arith) (λ q. omega arith) (differ i h₁)))
+        (λ i h₁ h₂. other-differs i (λ q. omega arith) (differ i h₁)))
         ∙ sym is
 
     by-case : length (positions other 0 (length x)) ≡ movedBy x e
@@ -305,31 +294,50 @@ module _ (x : List ℕ) (e : Edit) (l : Limits x) (small : e .distance ≤ maxDi
       accepted-inside : (R : ℕ) (s : Summary) → plainOutcome x R e ≡ done s → e .slot < length x
       accepted-inside R s is = leb-false (length x) (e .slot) (refuseIf-done (leb (length x) (e .slot)) _ _ s is .0)
 
--- the files at the front of the buffer just before and just after
+-- the files at the front of the buffer just before and just after; a refused edit leaves the one that was there
 pub edit-renumbered : (b : List ℕ) → Bytes b → (e : Edit) → e .distance ≤ maxDistance
-    → (s : Summary) → editOutcome b e ≡ done s
     → editMoved b e
     ≡ length (positions (renumbered (editedFile b) (editedFile (editBuffer b e)) (e .slot)) 0 (nField b))
 unfolding replaced editMoved plainMoved
-edit-renumbered b bytes e small s is =
-    let x : List ℕ = held b in
-    let h = there b bytes e s is in
-    let c = accepted b bytes e s is in
-    let n : length x ≡ nField b = h .slots ∙ sym (c .1 .header .nIs) in
-    let old : editedFile b ≡ fileOf x = ap editedFile (h .apart) ∙ front-file x _ (h .limits) in
-    let new : editedFile (editBuffer b e) ≡ fileOf (edited x e) =
-    ap editedFile (buffer-done b e s is) ∙ replaced-file b x (edited x e) (edited-limits x e (h .limits) small) in
-    let count : List ℕ → List ℕ → ℕ → ℕ = λ f g m. length (positions (renumbered f g (e .slot)) 0 m) in
-    moved-is
-    ∙ moved-renumbered x e (h .limits) small (length b) s (c .2)
-    ∙ ap₂ (λ (f g : List ℕ). count f g (length x)) (sym old) (sym new)
-    ∙ ap (count (editedFile b) (editedFile (editBuffer b e))) n
+edit-renumbered b bytes e small = go (editOutcome b e) refl
   where
-    replaced-file : (b x y : List ℕ) → Limits y → editedFile (replaced b x y) ≡ fileOf y
-    replaced-file b x y l = front-file y _ l
+    count : List ℕ → List ℕ → ℕ → ℕ
+    count f g m = length (positions (renumbered f g (e .slot)) 0 m)
 
-    moved-is : editMoved b e ≡ plainMoved (held b) (length b) e
-    moved-is = rw (is, accepted b bytes e s is .2)
+    replaced-file : (x y : List ℕ) → Limits y → editedFile (replaced b x y) ≡ fileOf y
+    replaced-file x y l = front-file y _ l
+
+    same-file : (f : List ℕ) (m : ℕ) → count f f m ≡ 0
+    same-file f m =
+        ap length
+        (positions-none (renumbered f f (e .slot)) 0 m
+        (λ i h₁ h₂.
+        rw (eq-eqb (entryNumber f i) (entryNumber f i) refl) (never (not (eqb i (e .slot)) && hasEntry f i && hasEntry f i))))
+      where
+        never : (o : Bool) → o && false ≡ false
+        never true = refl
+        never false = refl
+
+    go : (o : Outcome Summary) → editOutcome b e ≡ o
+        → editMoved b e ≡ count (editedFile b) (editedFile (editBuffer b e)) (nField b)
+    go (done s) is =
+        let x : List ℕ = held b in
+        let h = there b bytes e s is in
+        let c = accepted b bytes e s is in
+        let moved : editMoved b e ≡ plainMoved x (length b) e = rw (is, c .2) in
+        let n : length x ≡ nField b = h .slots ∙ sym (c .1 .header .nIs) in
+        let old : editedFile b ≡ fileOf x = ap editedFile (h .apart) ∙ front-file x _ (h .limits) in
+        let new : editedFile (editBuffer b e) ≡ fileOf (edited x e) =
+        ap editedFile (buffer-done b e s is) ∙ replaced-file x (edited x e) (edited-limits x e (h .limits) small) in
+        moved
+        ∙ moved-renumbered x e (h .limits) small (length b) s (c .2)
+        ∙ ap₂ (λ (f g : List ℕ). count f g (length x)) (sym old) (sym new)
+        ∙ ap (count (editedFile b) (editedFile (editBuffer b e))) n
+    go (refused r) is =
+        moved-refused b e r is
+        ∙ sym
+        (ap (λ (g : List ℕ). count (editedFile b) (editedFile g) (nField b)) (buffer-refused b e r is)
+        ∙ same-file (editedFile b) (nField b))
 
 -- ---- a run of edits
 

@@ -5,12 +5,13 @@
 --   editOutcome, editBuffer   the editor's outcome, and the buffer afterwards
 --   replaced b x y            the file of y in the place of the file of x, at the front of b
 --   ifAccepted o new old      the new state where o is done, the old one where it refuses
---   entriesAfter x s          how many slots above s are in overflow in x
---   movedBy x e               how many overflow entries of other slots get another number when x is edited by e
---   plainMoved, editMoved     that number for the plain editor and for the editor: 0 where they refuse
---   editAnswer o moved        the editor's answer as its type: outcome and number
 --   entryPlace x s, limitsBy    where the entry of slot s stands, or would; the bytes that may change, case by case
 --   MayChange x e i           byte i of the buffer may change when x is edited by e, which is accepted
+--   entriesAbove x s          how many slots above s are in overflow in x
+--   movedBy x e               the overflow entries that edit e of x moves: those above its slot where that goes into or
+--                             out of overflow, else none
+--   plainMoved, editMoved     that number for the plain editor and for the editor: 0 where they refuse
+--   editAnswer o moved        the editor's answer as its type: outcome and number
 --   State, plainStart, plainStep    the plain editor's list and the longest file so far, its start, and an edit
 --   plainRun, plainOutcomes   the plain editor's state after a list of edits, and its answers in order
 --   bufferOf z b₀             what the buffer holds in state z, where it was b₀ at the start
@@ -18,9 +19,8 @@
 --   plainMoves, editMoves     the numbers of entries that the edits of a run move, in order
 --   StepLimits R x b e        what an edit of a buffer b of R bytes does to its bytes, x being the plain editor's list
 --   RunLimits R z b es        the same of every edit of a run, from the plain editor's state z
---   answerCells o, editCells o moved, allCells
---                             an outcome of a run as numbers, the whole answer as answerLen numbers, and all of them;
---                             cellsOf, noRefusal, noSummary
+--   answerCells o moved       an answer of a run as answerLen numbers; cellsOf, noRefusal, noSummary
+--   allCells                  all answers of a run
 --   editsOf                   the edits of a list of slots and a list of distances
 --   startOf b                 the plain editor's start on a buffer
 --   editListOutcome, editListBuffer, editListAnswers
@@ -79,26 +79,6 @@ unfoldable pub editBuffer : List ℕ → Edit → List ℕ
 editBuffer b e =
     ifAccepted (editOutcome b e) (replaced b (listOf (editedFile b)) (edited (listOf (editedFile b)) e)) b
 
--- ---- the overflow entries that an edit moves
-
-unfoldable pub entriesAfter : List ℕ → ℕ → ℕ
-entriesAfter x s = length (positions (λ (i : ℕ). inOverflow (at x i)) (suc s) (length x - suc s))
-
--- none unless exactly one of the old and the new distance is in overflow; else the entries with larger slots
-unfoldable pub movedBy : List ℕ → Edit → ℕ
-movedBy x e =
-    cond (xor (inOverflow (at x (e .slot))) (inOverflow (e .distance))) (entriesAfter x (e .slot)) 0
-
-unfoldable pub plainMoved : List ℕ → ℕ → Edit → ℕ
-plainMoved x R e = ifAccepted (plainOutcome x R e) (movedBy x e) 0
-
-unfoldable pub editMoved : List ℕ → Edit → ℕ
-editMoved b e = ifAccepted (editOutcome b e) (movedBy (listOf (editedFile b)) e) 0
-
--- the editor's answer as its type
-abbrev pub editAnswer : Outcome Summary → ℕ → EditAnswer
-editAnswer o moved = record { outcome = fileAnswer o; moved = moved }
-
 -- ---- the limits on changed bytes
 
 -- where the entry of slot s stands, or would: after the entries of smaller slots
@@ -115,6 +95,26 @@ limitsBy false true x s i = ((16 ≤ i) × (i < 40)) ⊎ ((i ≡ 40 + s) ⊎ (en
 -- stays inline, stays in overflow, or moves into or out of overflow
 abbrev pub MayChange : List ℕ → Edit → ℕ → Type 0
 MayChange x e i = limitsBy (inOverflow (at x (e .slot))) (inOverflow (e .distance)) x (e .slot) i
+
+-- ---- the overflow entries that an edit moves
+
+unfoldable pub entriesAbove : List ℕ → ℕ → ℕ
+entriesAbove x s = length (positions (λ (i : ℕ). inOverflow (at x i)) (suc s) (length x - suc s))
+
+-- none unless exactly one of the old and the new distance is in overflow; else the entries with larger slots
+unfoldable pub movedBy : List ℕ → Edit → ℕ
+movedBy x e =
+    cond (xor (inOverflow (at x (e .slot))) (inOverflow (e .distance))) (entriesAbove x (e .slot)) 0
+
+unfoldable pub plainMoved : List ℕ → ℕ → Edit → ℕ
+plainMoved x R e = ifAccepted (plainOutcome x R e) (movedBy x e) 0
+
+unfoldable pub editMoved : List ℕ → Edit → ℕ
+editMoved b e = ifAccepted (editOutcome b e) (movedBy (listOf (editedFile b)) e) 0
+
+-- the editor's answer as its type
+abbrev pub editAnswer : Outcome Summary → ℕ → EditAnswer
+editAnswer o moved = record { outcome = fileAnswer o; moved = moved }
 
 -- ---- a run of edits: each edit gets the buffer as the one before left it
 
@@ -199,9 +199,9 @@ RunLimits R z b (e ∷ es) = StepLimits R (z .list) b e × RunLimits R (plainSte
 abbrev pub answerLen : ℕ
 answerLen = 9
 
--- a refusal and a summary, one of which is all 0
-abbrev pub cellsOf : Refusal → Summary → List ℕ
-cellsOf r s = r .number ∷ r .map ∷ r .place ∷ s .n ∷ s .k ∷ s .m ∷ s .step ∷ s .len ∷ []
+-- a refusal and a summary, one of which is all 0, and the number of entries moved
+abbrev pub cellsOf : Refusal → Summary → ℕ → List ℕ
+cellsOf r s moved = r .number ∷ r .map ∷ r .place ∷ s .n ∷ s .k ∷ s .m ∷ s .step ∷ s .len ∷ moved ∷ []
 
 abbrev pub noRefusal : Refusal
 noRefusal = record { number = 0; map = 0; place = 0 }
@@ -209,19 +209,15 @@ noRefusal = record { number = 0; map = 0; place = 0 }
 abbrev pub noSummary : Summary
 noSummary = record { n = 0; k = 0; m = 0; step = 0; len = 0 }
 
-unfoldable pub answerCells : Outcome Summary → List ℕ
-answerCells (done s) = cellsOf noRefusal s
-answerCells (refused r) = cellsOf r noSummary
-
--- the whole answer: the number of entries moved stands last
-abbrev pub editCells : Outcome Summary → ℕ → List ℕ
-editCells o moved = answerCells o ++ (moved ∷ [])
+unfoldable pub answerCells : Outcome Summary → ℕ → List ℕ
+answerCells (done s) moved = cellsOf noRefusal s moved
+answerCells (refused r) moved = cellsOf r noSummary moved
 
 -- the answers one after another, from the outcomes and as many numbers of entries moved
 unfoldable pub allCells : List (Outcome Summary) → List ℕ → List ℕ
 allCells [] ms = []
 allCells (o ∷ os) [] = []
-allCells (o ∷ os) (m ∷ ms) = editCells o m ++ allCells os ms
+allCells (o ∷ os) (m ∷ ms) = answerCells o m ++ allCells os ms
 
 -- edit j is slot j of the one list and distance j of the other
 unfoldable pub editsOf : List ℕ → List ℕ → List Edit

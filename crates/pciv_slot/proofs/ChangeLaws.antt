@@ -1,7 +1,7 @@
 -- A slot that moves into or out of overflow, in place: header, primary byte and entries, then index and zeros.
 --   put-in          an entry written where those behind it were moved up
 --   SlotMoves       what follows for an edit that moves a slot:  few  the new file is within the limits;  answer  the
---                   editor's;  space  what the change asks for;  moved  how many entries it moves;  buffer  that its
+--                   editor's;  space  what the change asks for;  entriesMoved  how many entries it moves;  buffer  that its
 --                   steps leave the editor's buffer
 --   slot-moves      an edit where the old and the new distance differ in being in overflow has all of it
 -- Axioms: none.
@@ -30,11 +30,11 @@ use Rattle.pciv_format.proofs.EditLaws.{edited-other, primary-edited, entries-i
 use Rattle.pciv_format.proofs.EditLaws.{count-below, count-inside}
 use Rattle.pciv_format.proofs.FrontLaws.{Holds}
 use Rattle.pciv_format.proofs.EditCaseLaws.{held, buffer-done, replaced-sets}
-use Rattle.pciv_format.proofs.MovedLaws.{after-inline, after-overflow, moved-into, moved-out, moved-done}
+use Rattle.pciv_format.proofs.MovedLaws.{above-inline, above-overflow, moved-into, moved-out, moved-done}
 use Rattle.pciv_map_lookup.specs.Lookup.{entriesBelow}
 use Rattle.pciv_build.specs.Build.{beginOutcome}
 use Rattle.pciv_build.proofs.BuildLaws.{begin-fits, built}
-use Rattle.pciv_slot.specs.Change.{entryAt, newCount, entriesBehind, putIn, takenOut, changed, finished}
+use Rattle.pciv_slot.specs.Change.{entryAt, newCount, aboveCount, putIn, takenOut, changed, finished}
 use Rattle.pciv_slot.specs.Change.{EditAt, Changes}
 use Rattle.pciv_slot.proofs.CaseLaws.{holds, new-at, file-edited, old-inline, old-overflow}
 use Rattle.pciv_slot.proofs.CaseLaws.{below-count, edit-counted}
@@ -105,8 +105,8 @@ pub record SlotMoves (b : List ℕ) (n k : ℕ) (e : Edit) (count : ℕ) : Type 
   pub answer : editOutcome b e ≡ beginOutcome n count (length b)
   pub space : (j : ℕ) → j ≡ entriesBelow (fileParts b n k) (e .slot) → fileLen n count ≤ length b
       → Changes (length b) n k j (e .slot) (e .distance)
-  pub moved : (j : ℕ) → j ≡ entriesBelow (fileParts b n k) (e .slot) → fileLen n count ≤ length b
-      → editMoved b e ≡ entriesBehind k j (e .distance)
+  pub entriesMoved : (j : ℕ) → j ≡ entriesBelow (fileParts b n k) (e .slot) → fileLen n count ≤ length b
+      → editMoved b e ≡ aboveCount k j (e .distance)
   -- d₁: header, byte and entries are changed; d₂: so are the index and what is left behind it
   pub buffer : (j : ℕ) (d₁ d₂ : List ℕ) → j ≡ entriesBelow (fileParts b n k) (e .slot) → fileLen n count ≤ length b
       → d₁ ≡ changed (sets b 0 (header n count)) n k j (e .slot) (e .distance)
@@ -315,9 +315,9 @@ module _ (b : List ℕ) (n k : ℕ) (bytes : Bytes b) (e : Edit) (p : EditAt b n
         }
 
     -- the old entries around the slot
-    moved-behind : (j : ℕ) → j ≡ entriesBelow (fileParts b n k) (e .slot)
-        → movedBy (held b) e ≡ entriesBehind k j (e .distance)
-    moved-behind j found =
+    entries-moved : (j : ℕ) → j ≡ entriesBelow (fileParts b n k) (e .slot)
+        → movedBy (held b) e ≡ aboveCount k j (e .distance)
+    entries-moved j found =
         let low = found ∙ below-count b n k bytes e p in
         let slots = there .slots in
         let inside : e .slot < length (held b) = omega (arith, p .inside) in
@@ -325,10 +325,10 @@ module _ (b : List ℕ) (n k : ℕ) (bytes : Bytes b) (e : Edit) (p : EditAt b n
         by-case
         (λ was h.
         rw (lt-ltb (e .distance) 255 h)
-        (omega (arith, moved-out (held b) e was h, after-overflow (held b) (e .slot) inside was)))
+        (omega (arith, moved-out (held b) e was h, above-overflow (held b) (e .slot) inside was)))
         (λ was h.
         rw (le-ltb (e .distance) 255 h)
-        (omega (arith, moved-into (held b) e was h, after-inline (held b) (e .slot) inside was)))
+        (omega (arith, moved-into (held b) e was h, above-inline (held b) (e .slot) inside was)))
 
     moved-file : (j : ℕ) (d : List ℕ) → j ≡ entriesBelow (fileParts b n k) (e .slot) → fileLen n count ≤ length b
         → d ≡ changed (sets b 0 (header n count)) n k j (e .slot) (e .distance)
@@ -358,7 +358,7 @@ module _ (b : List ℕ) (n k : ℕ) (bytes : Bytes b) (e : Edit) (p : EditAt b n
           few = moved-few;
           answer = answer;
           space = moved-space;
-          moved = λ j found fits. moved-done b e _ (accepted fits) ∙ moved-behind j found;
+          entriesMoved = λ j found fits. moved-done b e _ (accepted fits) ∙ entries-moved j found;
           buffer = λ j d₁ d₂ found fits is-changed finished.
               (finished
               ∙ moved-file j d₁ found fits is-changed

@@ -10,7 +10,7 @@ ghost use Rattle.pciv_format.specs.Layout.{maxSlots, countsOf};
 ghost use Rattle.pciv_format.specs.Refusals.{done, refuse};
 ghost use Rattle.pciv_format.specs.Check.{CheckedMap};
 ghost use Rattle.pciv_format.specs.Edit.{editOutcome, editMoved, editAnswer, editBuffer};
-ghost use Rattle.pciv_slot.specs.Change.{newCount, entriesBehind, EditAt};
+ghost use Rattle.pciv_slot.specs.Change.{newCount, aboveCount, EditAt};
 use crate::change::change_entries;
 use crate::change::finish_change;
 use pciv_build::put_header;
@@ -57,9 +57,9 @@ fn refused(number: usize) -> EditAnswer
 
 // How many of the k old entries have a slot above the one that moves into or out of overflow, by its distance: j have a
 // slot below it, and out of overflow entry j is its own.
-fn entries_behind(k: usize, j: usize, distance: u32) -> usize
+fn above_count(k: usize, j: usize, distance: u32) -> usize
     requires { ⌜ (distance < 255 → j < k) × (255 ≤ distance → j ≤ k) ⌝ }
-    ensures { λ r. ⌜ r ≡ entriesBehind k j distance ⌝ }
+    ensures { λ r. ⌜ r ≡ aboveCount k j distance ⌝ }
 {
     if distance < SENTINEL as u32 {
         return k - j - 1;
@@ -115,7 +115,7 @@ fn move_slot(
     put_header(buffer, n, count);
     change_entries(buffer, n, k, j, slot, distance);
     finish_change(buffer, n, k, count);
-    edited(n, count, entries_behind(k, j, distance))
+    edited(n, count, above_count(k, j, distance))
 }
 
 // One edit, with no check of the file: refusals 9, then 12.

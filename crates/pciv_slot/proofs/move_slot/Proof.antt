@@ -89,8 +89,8 @@ finish-change-requires c κs =
     let map = entry .pre .0 .checked in
     ((map .header .small, map .header .few, law known .few), (omega (arith, map .fits), omega (arith, fits fit)))
 
-entries-behind-requires : tie.Need-entries-behind-requires
-entries-behind-requires c κs =
+above-count-requires : tie.Need-above-count-requires
+above-count-requires c κs =
     let changed = c .before .before .before .before .before .before in
     let found = changed .before .before .before .before .before .before in
     let fit = found .before .before in
@@ -109,8 +109,8 @@ same-length c = search needs
 
 returns-2 : tie.Need-returns-2
 returns-2 c =
-    let behind = c .before in
-    let finished = behind .before .before .before in
+    let counted = c .before in
+    let finished = counted .before .before .before in
     let changed = finished .before .before .before .before in
     let put = changed .before .before .before .before in
     let found = put .before .before in
@@ -120,8 +120,8 @@ returns-2 c =
     let is = law known .answer ∙ begin-fits (a .n) (a .count) (a .buffer .now) (fits fit) .0 in (
       c .edited .ensures
           ∙ ap₂ editAnswer (sym is)
-          (behind .entries-behind .ensures
-          ∙ sym (law known .moved (found .entry-of .result) (found .entry-of .ensures) (fits fit))),
+          (counted .above-count .ensures
+          ∙ sym (law known .entriesMoved (found .entry-of .result) (found .entry-of .ensures) (fits fit))),
       law known .buffer (found .entry-of .result) _ _ (found .entry-of .ensures) (fits fit)
           (rw (put .put-header .ensures) at (changed .change-entries .ensures)) (finished .finish-change .ensures),
     )
@@ -137,7 +137,7 @@ move-slot-spec =
     put-header-requires
     change-entries-requires
     finish-change-requires
-    entries-behind-requires
+    above-count-requires
     edited-requires
     same-length
     returns-2)

@@ -4,7 +4,6 @@ use mathlib.Core.Path.{_≡_, refl, sym, _∙_}
 use Prim.Native.Nat.{ℕ, _+_, _-_, _≤_}
 use native.Mathlib.Nat.{add-zero}
 use native.Mathlib.Omega.{arith}
-use mathlib.Core.List.{[], _∷_, _++_}
 use lib.ListN.{length, drop, length-set}
 use lib.Seq.{sets}
 use Rattle.pciv_bytes.proofs.WriteLaws.{sets-copy-more, sets-copy-end}
@@ -52,7 +51,7 @@ loop-again c =
     let a = c .before .before .args in
     let here : ℕ = a .at + l .j in
     let next : ℕ = a .at + (l .j + 1) in
-    let more = sets-copy-more (cellsOf (a .r) (a .s) ++ (a .moved ∷ [])) (l .answers) 0 here (l .j) next (omega arith) (omega arith) in
+    let more = sets-copy-more (cellsOf (a .r) (a .s) (a .moved)) (l .answers) 0 here (l .j) next (omega arith) (omega arith) in
     (search needs, simp length-set (l .inv .1), l .inv .2 ∙ more)
 
 same-length : tie.Need-same-length Inv-loop μ-loop
@@ -62,7 +61,7 @@ returns : tie.Need-returns Inv-loop μ-loop
 returns c =
     let l = c .before .loop in
     let a = c .before .before .args in
-    sym (l .inv .2 ∙ sets-copy-end (cellsOf (a .r) (a .s) ++ (a .moved ∷ [])) (l .answers) (a .at + l .j) (l .j) (c .loop-test .left))
+    sym (l .inv .2 ∙ sets-copy-end (cellsOf (a .r) (a .s) (a .moved)) (l .answers) (a .at + l .j) (l .j) (c .loop-test .left))
 
 pub put-cells-spec : {M : Type 1} → statement M
 put-cells-spec =

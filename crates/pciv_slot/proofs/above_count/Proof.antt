@@ -1,9 +1,9 @@
--- Proves pciv_slot::entries_behind.
+-- Proves pciv_slot::above_count.
 use native.Mathlib.Omega.{arith}
 use borrow.Author.Tests.{lt-ltb, le-ltb}
 use borrow.Author.Needs.{needs}
-use Rattle.pciv_slot.proofs.entries_behind.Statement.{statement}
-use Rattle.pciv_slot.proofs.entries_behind.Tie as tie
+use Rattle.pciv_slot.proofs.above_count.Statement.{statement}
+use Rattle.pciv_slot.proofs.above_count.Tie as tie
 
 cast-if1 : tie.Need-cast-if1
 cast-if1 c = search needs
@@ -23,5 +23,5 @@ sub-result-3 c = omega (arith, c .before .pre .1 (c .if1 .left))
 returns-2 : tie.Need-returns-2
 returns-2 c = rw (le-ltb _ 255 (c .if1 .left))
 
-pub entries-behind-spec : {M : Type 1} → statement M
-entries-behind-spec = tie.close (tie.spec cast-if1 sub-result sub-result-2 returns sub-result-3 returns-2)
+pub above-count-spec : {M : Type 1} → statement M
+above-count-spec = tie.close (tie.spec cast-if1 sub-result sub-result-2 returns sub-result-3 returns-2)
