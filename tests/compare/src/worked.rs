@@ -137,6 +137,23 @@ const A_SLOT_3_AT_400: &str = "
     02 00 00 00 00 00 00 00   FF 00 00 00
     03 00 00 00 00 00 00 00   90 01 00 00";
 
+/// 300, 0, 300.
+const ENDS_IN_OVERFLOW: &str = "
+    50 43 49 56 00 00 00 00   03 00 00 00 00 00 00 00
+    02 00 00 00 00 00 00 00   00 00 00 00 00 00 00 00
+    00 00 00 00 00 00 00 00   FF 00 FF
+    00 00 00 00 00 00 00 00   2C 01 00 00
+    02 00 00 00 00 00 00 00   2C 01 00 00";
+
+/// 300, 255, 300.
+const ALL_IN_OVERFLOW: &str = "
+    50 43 49 56 00 00 00 00   03 00 00 00 00 00 00 00
+    03 00 00 00 00 00 00 00   00 00 00 00 00 00 00 00
+    00 00 00 00 00 00 00 00   FF FF FF
+    00 00 00 00 00 00 00 00   2C 01 00 00
+    01 00 00 00 00 00 00 00   FF 00 00 00
+    02 00 00 00 00 00 00 00   2C 01 00 00";
+
 fn bytes(hexadecimal: &str) -> Vec<u8> {
     let digits = hexadecimal.split_whitespace();
     digits
@@ -162,7 +179,7 @@ const fn row(case: &'static str, calls: fn(&mut Judge)) -> Row {
     Row { case, calls }
 }
 
-const ROWS: [Row; 23] = [
+const ROWS: [Row; 24] = [
     row("empty map", empty_map),
     row("primary array of A", primary_of_a),
     row("overflow entries of A", entries_of_a),
@@ -267,6 +284,19 @@ const ROWS: [Row; 23] = [
     row(
         "overflow entries that edits of A move: slot 2 to 254; 1 to 255 in 80 / 79 bytes; 3 to 7; 3 to 400",
         entries_moved_in_a,
+    ),
+    row(
+        "overflow entries that an edit of (300, 0, 300) moves: slot 1 to 255",
+        |judge| {
+            let summary = length(3, 3, 0, 0, 79);
+            edits(
+                judge,
+                &buffer(ENDS_IN_OVERFLOW, 79),
+                (1, 255),
+                edited(summary, 1),
+                &bytes(ALL_IN_OVERFLOW),
+            )
+        },
     ),
 ];
 
@@ -567,7 +597,7 @@ const LENGTHS: [Summary; 5] = [
     length(1_048_576, 1_048_576, 512, 2_048, 13_664_296),
 ];
 
-/// A row of it, in its order.
+/// The summary of a file, in the order of a row.
 const fn length(n: u64, k: u64, step: u64, m: u64, len: u64) -> Summary {
     Summary { n, k, m, step, len }
 }
