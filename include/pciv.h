@@ -421,10 +421,10 @@ uint64_t pciv_jaccard(const uint8_t *a, size_t a_len, const uint8_t *b, size_t b
  * A buffer to be edited has a file at its front and any bytes behind it. One of
  * PCIV_LONGEST_FILE(n) bytes has space for whatever edits make of a file of n slots.
  *
- * Each edit tells how many overflow entries it has moved: those of other slots whose number, 0 for the
- * first entry, is another one than before. An edit that takes its slot into or out of overflow moves
- * the entries of all larger slots, at most the k entries that there were; every other edit, and one
- * that is refused, moves none. The slot's own entry does not count, nor do index entries.
+ * Each edit tells how many overflow entries it has moved: those of other slots whose number (entries
+ * count from 0) is another one than before. An edit that takes its slot into or out of overflow
+ * moves the entries of all larger slots, at most the k entries that there were; every other edit,
+ * and one that is refused, moves none. The slot's own entry does not count, nor do index entries.
  */
 
 /* Sets a slot of the file at the front of buffer to a distance, in place.

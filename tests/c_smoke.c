@@ -800,7 +800,7 @@ static void test_null_write(const uint8_t *file)
     uint8_t out[100];
     int64_t change;
     double figure;
-    uint64_t answers[2 * PCIV_ANSWER_LEN], count;
+    uint64_t answers[2 * PCIV_ANSWER_LEN], count = 7, moved = 7;
     pciv_summary summary;
     pciv_refusal why;
     EXPECT(pciv_write(NULL, 0, out, 40, &summary, &why) == PCIV_OK && summary.len == 40);
@@ -837,8 +837,8 @@ static void test_null_write(const uint8_t *file)
     EXPECT(pciv_jaccard(NULL, 0, file, MAP_LEN, 1, &figure, &why) == PCIV_TRUNCATED_HEADER);
     EXPECT(pciv_jaccard(file, MAP_LEN, NULL, 0, 1, &figure, &why) == PCIV_TRUNCATED_HEADER);
     memcpy(out, file, MAP_LEN);
-    EXPECT(pciv_edit(NULL, 0, 1, 1, &summary, &count, &why) == PCIV_TRUNCATED_HEADER);
-    EXPECT(count == 0);
+    EXPECT(pciv_edit(NULL, 0, 1, 1, &summary, &moved, &why) == PCIV_TRUNCATED_HEADER);
+    EXPECT(moved == 0);
     EXPECT(pciv_edit_list(NULL, 0, slots, 2, distances, 2, answers, 18, &count, &why) ==
            PCIV_TRUNCATED_HEADER);
     EXPECT(pciv_edit_list(out, MAP_LEN, NULL, 0, distances, 2, answers, 18, &count, &why) ==

@@ -124,7 +124,7 @@ module _ (b : List ℕ) (e : Edit) where
 
 -- an accepted edit of a buffer of bytes
 module _ (b : List ℕ) (bytes : Bytes b) (e : Edit) (s : Summary) (is : editOutcome b e ≡ done s) where
-  -- the counts in its header, the list that it holds, and the plain editor's outcome
+  -- its counts, that it is a checked map with them, and the plain editor's outcome
   accepted : (c : Summary) × CheckedMap b (c .n) (c .k) × (plainOutcome (held b) (length b) e ≡ done s)
   unfolding editOutcome
   accepted =
@@ -157,6 +157,10 @@ hasEntry f i = ltb (entryNumber f i) (kField f)
 -- slot i is not s and has an entry in f and in g, and their numbers differ
 abbrev pub renumbered : List ℕ → List ℕ → ℕ → ℕ → Bool
 renumbered f g s i = not (eqb i s) && hasEntry f i && hasEntry g i && not (eqb (entryNumber f i) (entryNumber g i))
+
+and-false : (o : Bool) → o && false ≡ false
+and-false true = refl
+and-false false = refl
 
 module _ (x : List ℕ) (l : Limits x) where
   k-field : kField (fileOf x) ≡ overflowCount (length x) (at x)
@@ -209,11 +213,7 @@ module _ (x : List ℕ) (e : Edit) (l : Limits x) (small : e .distance ≤ maxDi
       ])
 
   other-same : (i : ℕ) → (i ≡ e .slot → ⊥) → overflowCount i v ≡ overflowCount i w → other i ≡ false
-  other-same i ne same = other-is i ne ∙ rw (eq-eqb _ _ same) (go (inOverflow (v i)))
-    where
-      go : (o : Bool) → o && false ≡ false
-      go true = refl
-      go false = refl
+  other-same i ne same = other-is i ne ∙ rw (eq-eqb _ _ same) (and-false (inOverflow (v i)))
 
   other-differs : (i : ℕ) → (i ≡ e .slot → ⊥) → (overflowCount i v ≡ overflowCount i w → ⊥)
       → other i ≡ inOverflow (v i)
@@ -312,11 +312,7 @@ edit-renumbered b bytes e small = go (editOutcome b e) refl
         ap length
         (positions-none (renumbered f f (e .slot)) 0 m
         (λ i h₁ h₂.
-        rw (eq-eqb (entryNumber f i) (entryNumber f i) refl) (never (not (eqb i (e .slot)) && hasEntry f i && hasEntry f i))))
-      where
-        never : (o : Bool) → o && false ≡ false
-        never true = refl
-        never false = refl
+        rw (eq-eqb (entryNumber f i) (entryNumber f i) refl) (and-false (not (eqb i (e .slot)) && hasEntry f i && hasEntry f i))))
 
     go : (o : Outcome Summary) → editOutcome b e ≡ o
         → editMoved b e ≡ count (editedFile b) (editedFile (editBuffer b e)) (nField b)

@@ -8,7 +8,7 @@
 --   entryPlace x s, limitsBy    where the entry of slot s stands, or would; the bytes that may change, case by case
 --   MayChange x e i           byte i of the buffer may change when x is edited by e, which is accepted
 --   entriesAbove x s          how many slots above s are in overflow in x
---   movedBy x e               the overflow entries that edit e of x moves: those above its slot where that goes into or
+--   movedBy x e               how many overflow entries edit e of x moves: those above its slot where that goes into or
 --                             out of overflow, else none
 --   plainMoved, editMoved     that number for the plain editor and for the editor: 0 where they refuse
 --   editAnswer o moved        the editor's answer as its type: outcome and number

@@ -37,7 +37,7 @@ fn edited(n: usize, k: usize, moved: usize) -> EditAnswer
     }
 }
 
-// The same where the slot stays inline or in overflow, as every entry stays where it is.
+// The same where the slot stays inline or in overflow: no entry gets another number.
 fn stayed(n: usize, k: usize) -> EditAnswer
     requires { ⌜ (n ≤ maxSlots) × (k ≤ n) ⌝ }
     ensures { λ r. ⌜ r ≡ editAnswer (done (countsOf n k)) 0 ⌝ }
@@ -55,8 +55,8 @@ fn refused(number: usize) -> EditAnswer
     }
 }
 
-// How many of the k old entries have a slot above the one that moves into or out of overflow, by its distance: j have a
-// slot below it, and out of overflow entry j is its own.
+// How many of the k old entries have a larger slot than the edited one, which goes into or out of overflow: j have a
+// smaller one, and where the new distance is inline, entry j is the slot's own.
 fn above_count(k: usize, j: usize, distance: u32) -> usize
     requires { ⌜ (distance < 255 → j < k) × (255 ≤ distance → j ≤ k) ⌝ }
     ensures { λ r. ⌜ r ≡ aboveCount k j distance ⌝ }

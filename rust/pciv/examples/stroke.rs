@@ -69,7 +69,8 @@ fn stroke(map: &OsStr, distance: u32, out: &OsStr) -> Result<(), Box<dyn Error>>
         let _ = fs::remove_file(&copy);
     }
     let pciv::Edited { summary, moved } = painted?;
-    let (edits, pciv::Summary { k, len, .. }) = (slots.len(), summary);
+    let pciv::Summary { k, len, .. } = summary;
+    let edits = slots.len();
     println!("{edits} edits: {k} in overflow, {len} bytes, {moved} entries moved");
     Ok(())
 }

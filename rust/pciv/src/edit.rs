@@ -7,8 +7,8 @@ use crate::{answer, count, raw, Refusal, Summary};
 pub struct Edited {
     /// The file after the edit.
     pub summary: Summary,
-    /// How many overflow entries have moved: those of other slots whose number, 0 for the first
-    /// entry, is another one than before.
+    /// How many overflow entries have moved: those of other slots whose number (entries count from
+    /// 0) is another one than before.
     pub moved: u64,
 }
 

@@ -1,7 +1,7 @@
 //! The functions of `include/pciv.h` over slices, one to one.
 //!
 //! Each answers the refusal's number and writes its outcome to the places passed to it, as the
-//! header says: `refusal` always, and `moved` of an edit, every other place only when the call is
+//! header says: `refusal`, and `moved` of an edit, always; every other place only when the call is
 //! done. The functions of the crate's root are the convenient form.
 
 #![allow(unsafe_code)]

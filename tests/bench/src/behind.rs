@@ -59,7 +59,7 @@ const FAMILIES: [Family; 17] = [
         name: "edit_list, into and out of overflow",
         calls: &["edit_list, 1,000 into and out"],
         often: Often::Stroke,
-        why: "each edit moves the entries behind it and makes a new index; the independent program edits a list, counts, and writes the file once.",
+        why: "each edit moves the entries behind its slot and makes the index again; the independent program edits a list and writes the file once.",
     },
     Family {
         name: "lookup, edit",

@@ -106,8 +106,11 @@ impl Dirty for Edited {
     }
 
     fn refused() -> Edited {
-        let summary = Summary::dirty(0);
-        Edited { summary, moved: 0 }
+        let moved = 0;
+        Edited {
+            moved,
+            ..Edited::dirty(0)
+        }
     }
 }
 

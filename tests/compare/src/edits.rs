@@ -140,7 +140,7 @@ pub fn compare_edit(judge: &mut Judge, buffer: &[u8], slot: u64, distance: u32) 
     });
     judge.same_guarded(&call, "buffer", &wanted, &got);
     let done = answer.map(|Edited { summary, moved }| (summary.k, moved));
-    judge.moves(call.routine, buffer, [done.ok()].into_iter());
+    judge.moves(call.routine, buffer, [(distance, done.ok())].into_iter());
     got.contents().to_vec()
 }
 
@@ -183,7 +183,11 @@ pub fn compare_list(
     judge.moves(
         call.routine,
         buffer,
-        done.take(answer.unwrap_or(0) as usize),
+        distances
+            .iter()
+            .copied()
+            .zip(done)
+            .take(answer.unwrap_or(0) as usize),
     );
 }
 

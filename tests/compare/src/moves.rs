@@ -1,4 +1,4 @@
-//! How many overflow entries edits move: what is told apart of it, and which edits a run has to meet.
+//! How many overflow entries edits move: the kinds of edits that a run has to meet.
 
 use crate::damage::le64;
 use crate::judge::Judge;
@@ -9,8 +9,10 @@ use std::cmp::Ordering;
 pub enum Moves {
     /// None: the edit is refused.
     Refused,
-    /// None: the slot is inline before and after, or in overflow.
-    SameOrigin,
+    /// None: the slot is inline before and after.
+    StaysInline,
+    /// None: the slot is in overflow before and after.
+    StaysInOverflow,
     IntoOverflow(Share),
     OutOfOverflow(Share),
 }
@@ -26,15 +28,16 @@ pub enum Share {
 }
 
 impl Moves {
-    /// What an edit of a file with `k` entries does: so many there are afterwards, and so many have
-    /// moved, where it is not refused.
-    fn of(k: u64, done: Option<(u64, u64)>) -> Moves {
+    /// What an edit to a distance does in a file with `k` entries; `done` is how many entries there
+    /// are afterwards and how many have moved, `None` where the edit is refused.
+    fn of(k: u64, distance: u32, done: Option<(u64, u64)>) -> Moves {
         let Some((new, moved)) = done else {
             return Moves::Refused;
         };
         match new.cmp(&k) {
             Ordering::Less => Moves::OutOfOverflow(Share::of(moved, new)),
-            Ordering::Equal => Moves::SameOrigin,
+            Ordering::Equal if distance < 255 => Moves::StaysInline,
+            Ordering::Equal => Moves::StaysInOverflow,
             Ordering::Greater => Moves::IntoOverflow(Share::of(moved, k)),
         }
     }
@@ -55,7 +58,7 @@ impl Share {
 pub fn all_moves() -> impl Iterator<Item = (&'static str, Moves)> {
     let shares = [Share::NoOthers, Share::None, Share::Some, Share::All];
     let moves = [
-        vec![Moves::Refused, Moves::SameOrigin],
+        vec![Moves::Refused, Moves::StaysInline, Moves::StaysInOverflow],
         shares.map(Moves::IntoOverflow).to_vec(),
         shares.map(Moves::OutOfOverflow).to_vec(),
     ];
@@ -64,17 +67,17 @@ pub fn all_moves() -> impl Iterator<Item = (&'static str, Moves)> {
 }
 
 impl Judge {
-    /// Notes what edits of the file at the front of a buffer have to do, each told by the number of
-    /// entries afterwards and how many have moved, a refused one by `None`.
+    /// Notes what edits of the file at the front of a buffer have to do, each told by its distance,
+    /// the number of entries afterwards and how many have moved, a refused one by `None`.
     pub fn moves(
         &mut self,
         routine: &'static str,
         buffer: &[u8],
-        edits: impl Iterator<Item = Option<(u64, u64)>>,
+        edits: impl Iterator<Item = (u32, Option<(u64, u64)>)>,
     ) {
         let mut k = buffer.get(16..24).map_or(0, le64);
-        for done in edits {
-            self.moves.insert((routine, Moves::of(k, done)));
+        for (distance, done) in edits {
+            self.moves.insert((routine, Moves::of(k, distance, done)));
             k = done.map_or(k, |(new, _)| new);
         }
     }

@@ -33,15 +33,13 @@ pub fn edit(buffer: &mut [u8], slot: u64, distance: u32) -> Result<Edited, Refus
         }
         (false, true) => {
             let mut entries: Vec<Entry> = map.entries().collect();
-            let slots = slots_of(&entries);
             entries.insert(entries_before(), Entry { slot, distance });
-            return rewrite(buffer, &old, &slots, slot, SENTINEL, &entries);
+            return rewrite(buffer, old, slot, SENTINEL, &entries);
         }
         (true, false) => {
             let mut entries: Vec<Entry> = map.entries().collect();
-            let slots = slots_of(&entries);
             entries.remove(entries_before());
-            return rewrite(buffer, &old, &slots, slot, distance as u8, &entries);
+            return rewrite(buffer, old, slot, distance as u8, &entries);
         }
     }
     Ok(Edited {
@@ -50,45 +48,41 @@ pub fn edit(buffer: &mut [u8], slot: u64, distance: u32) -> Result<Edited, Refus
     })
 }
 
-fn slots_of(entries: &[Entry]) -> Vec<u64> {
-    entries.iter().map(|entry| entry.slot).collect()
-}
-
-/// Writes the file with one other primary byte and other entries in the place of the old one, whose
-/// entries had these slots.
+/// Writes the file with one other primary byte and other entries in the place of the old one.
 fn rewrite(
     buffer: &mut [u8],
-    old: &Summary,
-    old_slots: &[u64],
+    old: Summary,
     slot: u64,
     byte: u8,
     entries: &[Entry],
 ) -> Result<Edited, Refusal> {
+    let old_slots = entry_slots(buffer, old);
     let mut primary = buffer[HEADER_LEN..HEADER_LEN + old.n as usize].to_vec();
     primary[slot as usize] = byte;
     let new = write_parts(&primary, entries.iter().copied(), buffer)?;
     if new.len < old.len {
         buffer[new.len as usize..old.len as usize].fill(0);
     }
-    let file = Map::split(&buffer[..new.len as usize], new);
-    let new_slots = file.entries().map(|entry| entry.slot);
     Ok(Edited {
         summary: new,
-        moved: moved(old_slots.iter().copied(), new_slots),
+        moved: count_moved(&old_slots, &entry_slots(buffer, new)),
     })
+}
+
+/// The slots of the entries of the file at the front of a buffer.
+fn entry_slots(buffer: &[u8], counts: Summary) -> Vec<u64> {
+    let file = Map::split(&buffer[..counts.len as usize], counts);
+    file.entries().map(|entry| entry.slot).collect()
 }
 
 /// How many entries of other slots have another number than before: a walk over the slots of all
 /// entries, those of the old file and those of the new one. The edited slot is in one of the lists
 /// alone. So the shorter list has the other slots and no more; those that stand at the same place in
 /// both lists have kept their number.
-fn moved<S: PartialEq>(
-    old: impl ExactSizeIterator<Item = S>,
-    new: impl ExactSizeIterator<Item = S>,
-) -> u64 {
-    let others = old.len().min(new.len()) as u64;
-    let kept: u32 = old.zip(new).map(|(old, new)| u32::from(old == new)).sum();
-    others - u64::from(kept)
+fn count_moved(old: &[u64], new: &[u64]) -> u64 {
+    let others = old.len().min(new.len());
+    let kept = old.iter().zip(new).filter(|(old, new)| old == new).count();
+    (others - kept) as u64
 }
 
 /// How many numbers tell the answer to one edit of a list: those of the refusal, then those of the
@@ -177,17 +171,20 @@ impl PlainEditor {
         Ok(Edited { summary, moved })
     }
 
-    /// Takes a slot to the slots in overflow, or away from them. Answers how many entries have moved.
+    /// Takes a slot to the slots in overflow, or away from them. Answers how many of them are larger.
     fn renumber(&mut self, slot: u64) -> u64 {
-        let mut new = self.overflow.clone();
         let slot = slot as u32;
-        match new.binary_search(&slot) {
-            Ok(place) => drop(new.remove(place)),
-            Err(place) => new.insert(place, slot),
-        }
-        let moved = moved(self.overflow.iter(), new.iter());
-        self.overflow = new;
-        moved
+        let larger = match self.overflow.binary_search(&slot) {
+            Ok(place) => {
+                self.overflow.remove(place);
+                self.overflow.len() - place
+            }
+            Err(place) => {
+                self.overflow.insert(place, slot);
+                self.overflow.len() - place - 1
+            }
+        };
+        larger as u64
     }
 
     /// Gives a buffer what it has to hold: the list's file, then zeros up to the length of the
@@ -268,12 +265,12 @@ mod tests {
 
     #[test]
     fn moved_entries_have_other_numbers() {
-        assert_eq!(moved([2, 3, 5].iter(), [2, 3, 4, 5].iter()), 1);
-        assert_eq!(moved([2, 3, 5].iter(), [0, 2, 3, 5].iter()), 3);
-        assert_eq!(moved([2, 3, 5].iter(), [2, 3, 5, 9].iter()), 0);
-        assert_eq!(moved([2, 3, 5].iter(), [3, 5].iter()), 2);
-        assert_eq!(moved([2, 3, 5].iter(), [2, 5].iter()), 1);
-        assert_eq!(moved([2, 3, 5].iter(), [2, 3].iter()), 0);
+        assert_eq!(count_moved(&[2, 3, 5], &[2, 3, 4, 5]), 1);
+        assert_eq!(count_moved(&[2, 3, 5], &[0, 2, 3, 5]), 3);
+        assert_eq!(count_moved(&[2, 3, 5], &[2, 3, 5, 9]), 0);
+        assert_eq!(count_moved(&[2, 3, 5], &[3, 5]), 2);
+        assert_eq!(count_moved(&[2, 3, 5], &[2, 5]), 1);
+        assert_eq!(count_moved(&[2, 3, 5], &[2, 3]), 0);
         assert_eq!(moved([7].iter(), [].iter()), 0);
         assert_eq!(moved([].iter(), [7].iter()), 0);
     }
