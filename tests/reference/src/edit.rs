@@ -271,8 +271,8 @@ mod tests {
         assert_eq!(count_moved(&[2, 3, 5], &[3, 5]), 2);
         assert_eq!(count_moved(&[2, 3, 5], &[2, 5]), 1);
         assert_eq!(count_moved(&[2, 3, 5], &[2, 3]), 0);
-        assert_eq!(moved([7].iter(), [].iter()), 0);
-        assert_eq!(moved([].iter(), [7].iter()), 0);
+        assert_eq!(count_moved(&[7], &[]), 0);
+        assert_eq!(count_moved(&[], &[7]), 0);
     }
 
     #[test]
