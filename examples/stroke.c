@@ -99,11 +99,15 @@ int main(int count, char **arguments)
     must(buffer != MAP_FAILED, copy, NULL);
     memcpy(buffer, file, len);
     must_not_refuse(pciv_edit_all(buffer, capacity, slots, distances, answers, edits, &why), &why);
-    for (size_t i = 0; i < edits; summary = answers[i++].summary)
+    uint64_t moved = 0;
+    for (size_t i = 0; i < edits; summary = answers[i++].summary) {
         must_not_refuse(answers[i].refusal.number, &answers[i].refusal);
+        moved += answers[i].moved;
+    }
     must(munmap(buffer, capacity) == 0 && ftruncate(fd, (off_t)summary.len) == 0 &&
              fsync(fd) == 0 && rename(copy, out) == 0,
          out, NULL);
-    printf("%zu edits: %lu in overflow, %lu bytes\n", edits, summary.k, summary.len);
+    printf("%zu edits: %lu in overflow, %lu bytes, %lu entries moved\n", edits, summary.k,
+           summary.len, moved);
     return 0;
 }

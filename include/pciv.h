@@ -19,8 +19,8 @@
  *   - *refusal is always written: all zero when done, else the same number, the map at fault and
  *     the place.
  *   - Results are written only when the call is done. After a refusal every other byte of the
- *     caller is unchanged. What follows a result in a longer buffer is unchanged too, and so is
- *     what a call only reads.
+ *     caller is unchanged, but for *moved of pciv_edit, which is 0 then. What follows a result in a
+ *     longer buffer is unchanged too, and so is what a call only reads.
  *   - A call checks each whole file it is given, which must be exactly as long as its header says;
  *     bytes may follow it only in a buffer to be edited. A fault of a file is refused before a fault
  *     of the call.
@@ -41,10 +41,10 @@
 /* The version of this header and of the library that it belongs to. The number is made of the three,
    with 1,000 for each MINOR and 1,000,000 for each MAJOR, and is for comparisons by #if. */
 #define PCIV_VERSION_MAJOR 0
-#define PCIV_VERSION_MINOR 4
+#define PCIV_VERSION_MINOR 5
 #define PCIV_VERSION_PATCH 0
-#define PCIV_VERSION_NUMBER 4000
-#define PCIV_VERSION "0.4.0"
+#define PCIV_VERSION_NUMBER 5000
+#define PCIV_VERSION "0.5.0"
 
 #ifdef __cplusplus
 extern "C" {
@@ -420,6 +420,11 @@ uint64_t pciv_jaccard(const uint8_t *a, size_t a_len, const uint8_t *b, size_t b
  *
  * A buffer to be edited has a file at its front and any bytes behind it. One of
  * PCIV_LONGEST_FILE(n) bytes has space for whatever edits make of a file of n slots.
+ *
+ * Each edit tells how many overflow entries it has moved: those of other slots whose number (entries
+ * count from 0) is another one than before. An edit that takes its slot into or out of overflow
+ * moves the entries of all larger slots, at most the k entries that there were; every other edit,
+ * and one that is refused, moves none. The slot's own entry does not count, nor do index entries.
  */
 
 /* Sets a slot of the file at the front of buffer to a distance, in place.
@@ -428,19 +433,21 @@ uint64_t pciv_jaccard(const uint8_t *a, size_t a_len, const uint8_t *b, size_t b
    When done the front of buffer is the file of the edited list, byte for byte the one that
    pciv_write writes, and *summary is its summary. Where it is shorter than before, the bytes up to
    the old length are 0; bytes past both lengths are unchanged. After a refusal buffer and *summary
-   are unchanged. */
+   are unchanged. *moved is always written: how many overflow entries have moved, 0 after a
+   refusal. */
 uint64_t pciv_edit(uint8_t *buffer, size_t buffer_len, uint64_t slot, uint32_t distance,
-                   pciv_summary *summary, pciv_refusal *refusal);
+                   pciv_summary *summary, uint64_t *moved, pciv_refusal *refusal);
 
 /* The answer to one edit of a list: the refusal is all zero where the edit was made, and the summary
-   where it was refused. */
+   and moved where it was refused. */
 typedef struct {
     pciv_refusal refusal;
     pciv_summary summary;
+    uint64_t moved; /* how many overflow entries have moved */
 } pciv_edit_answer;
 
 /* How many numbers of 64 bits a pciv_edit_answer has. */
-#define PCIV_ANSWER_LEN 8
+#define PCIV_ANSWER_LEN 9
 
 /* Makes a list of edits on one buffer, in order: slots[j] gets distances[j]. The file is checked
    once. An edit that is refused (9 or 12, with place 0) changes nothing, and those after it are

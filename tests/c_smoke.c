@@ -540,18 +540,26 @@ static void test_edit(const uint8_t *file)
     static const uint8_t zeros[12];
     uint8_t buffer[MAP_LEN + 4];
     pciv_summary summary;
+    uint64_t moved;
     pciv_refusal refusal;
     memset(buffer, DIRTY, sizeof buffer);
     memcpy(buffer, file, MAP_LEN);
     memset(&summary, DIRTY, sizeof summary);
-    EXPECT(pciv_edit(buffer, MAP_LEN - 1, 2, 254, &summary, &refusal) == PCIV_BAD_LENGTH);
-    EXPECT(is_refusal(&refusal, PCIV_BAD_LENGTH, 1, 0));
-    EXPECT(pciv_edit(buffer, sizeof buffer, N, 254, &summary, &refusal) == PCIV_SLOT_OUT_OF_RANGE);
-    EXPECT(pciv_edit(buffer, sizeof buffer, 1, 255, &summary, &refusal) == PCIV_BUFFER_TOO_SMALL);
-    EXPECT(is_refusal(&refusal, PCIV_BUFFER_TOO_SMALL, 0, 0));
+    memset(&moved, DIRTY, sizeof moved);
+    EXPECT(pciv_edit(buffer, MAP_LEN - 1, 2, 254, &summary, &moved, &refusal) == PCIV_BAD_LENGTH);
+    EXPECT(is_refusal(&refusal, PCIV_BAD_LENGTH, 1, 0) && moved == 0);
+    memset(&moved, DIRTY, sizeof moved);
+    EXPECT(pciv_edit(buffer, sizeof buffer, N, 254, &summary, &moved, &refusal) ==
+           PCIV_SLOT_OUT_OF_RANGE);
+    EXPECT(is_refusal(&refusal, PCIV_SLOT_OUT_OF_RANGE, 0, 0) && moved == 0);
+    memset(&moved, DIRTY, sizeof moved);
+    EXPECT(pciv_edit(buffer, sizeof buffer, 1, 255, &summary, &moved, &refusal) ==
+           PCIV_BUFFER_TOO_SMALL);
+    EXPECT(is_refusal(&refusal, PCIV_BUFFER_TOO_SMALL, 0, 0) && moved == 0);
     EXPECT(memcmp(buffer, file, MAP_LEN) == 0 && is_dirty(&summary, sizeof summary));
-    EXPECT(pciv_edit(buffer, sizeof buffer, 2, 254, &summary, &refusal) == PCIV_OK);
-    EXPECT(is_refusal(&refusal, PCIV_OK, 0, 0) && is_summary(&summary, N, 1, 56));
+    memset(&moved, DIRTY, sizeof moved);
+    EXPECT(pciv_edit(buffer, sizeof buffer, 2, 254, &summary, &moved, &refusal) == PCIV_OK);
+    EXPECT(is_refusal(&refusal, PCIV_OK, 0, 0) && is_summary(&summary, N, 1, 56) && moved == 1);
     EXPECT(is_file_of(buffer, 56, &summary, shorter));
     EXPECT(memcmp(buffer + 56, zeros, 12) == 0 && is_dirty(buffer + MAP_LEN, 4));
 }
@@ -573,16 +581,19 @@ static void test_edit_capacity(const uint8_t *file)
     };
     uint8_t buffer[80];
     pciv_summary summary;
+    uint64_t moved;
     pciv_refusal refusal;
     memset(buffer, DIRTY, sizeof buffer);
     memcpy(buffer, file, MAP_LEN);
     memset(&summary, DIRTY, sizeof summary);
-    EXPECT(pciv_edit(buffer, 79, 1, 255, &summary, &refusal) == PCIV_BUFFER_TOO_SMALL);
-    EXPECT(is_refusal(&refusal, 12, 0, 0) && is_dirty(&summary, sizeof summary));
+    memset(&moved, DIRTY, sizeof moved);
+    EXPECT(pciv_edit(buffer, 79, 1, 255, &summary, &moved, &refusal) == PCIV_BUFFER_TOO_SMALL);
+    EXPECT(is_refusal(&refusal, 12, 0, 0) && is_dirty(&summary, sizeof summary) && moved == 0);
     EXPECT(memcmp(buffer, file, MAP_LEN) == 0 && is_dirty(buffer + MAP_LEN, 80 - MAP_LEN));
-    EXPECT(pciv_edit(buffer, 80, 1, 255, &summary, &refusal) == PCIV_OK);
-    EXPECT(is_refusal(&refusal, 0, 0, 0) && is_summary(&summary, 4, 3, 80));
+    EXPECT(pciv_edit(buffer, 80, 1, 255, &summary, &moved, &refusal) == PCIV_OK);
+    EXPECT(is_refusal(&refusal, 0, 0, 0) && is_summary(&summary, 4, 3, 80) && moved == 2);
     EXPECT(memcmp(buffer, edited, 80) == 0);
+    EXPECT(pciv_edit(buffer, 80, 3, 400, &summary, &moved, &refusal) == PCIV_OK && moved == 0);
 }
 
 static void test_edit_list(const uint8_t *file)
@@ -602,14 +613,15 @@ static void test_edit_list(const uint8_t *file)
     EXPECT(pciv_edit_list(buffer, MAP_LEN, slots, 3, distances, 2, numbers, 0, &count, &refusal) ==
            PCIV_SLOT_OUT_OF_RANGE);
     EXPECT(is_refusal(&refusal, PCIV_SLOT_OUT_OF_RANGE, 0, 2));
-    EXPECT(pciv_edit_list(buffer, MAP_LEN, slots, 3, distances, 3, numbers, 23, &count, &refusal) ==
+    EXPECT(pciv_edit_list(buffer, MAP_LEN, slots, 3, distances, 3, numbers, 26, &count, &refusal) ==
            PCIV_BUFFER_TOO_SMALL);
     EXPECT(is_refusal(&refusal, PCIV_BUFFER_TOO_SMALL, 0, 0));
     EXPECT(memcmp(buffer, file, MAP_LEN) == 0);
     EXPECT(is_dirty(answers, sizeof answers) && is_dirty(&count, sizeof count));
-    EXPECT(pciv_edit_list(buffer, MAP_LEN, slots, 3, distances, 3, numbers, 32, &count, &refusal) ==
+    EXPECT(pciv_edit_list(buffer, MAP_LEN, slots, 3, distances, 3, numbers, 36, &count, &refusal) ==
            PCIV_OK);
     EXPECT(is_refusal(&refusal, PCIV_OK, 0, 0) && count == 3);
+    EXPECT(answers[0].moved == 1 && answers[1].moved == 0 && answers[2].moved == 0);
     EXPECT(is_refusal(&answers[0].refusal, PCIV_OK, 0, 0));
     EXPECT(is_summary(&answers[0].summary, N, 1, 56));
     EXPECT(is_refusal(&answers[1].refusal, PCIV_SLOT_OUT_OF_RANGE, 0, 0));
@@ -652,8 +664,8 @@ static void test_damage(const uint8_t *map, size_t at, uint8_t byte, uint64_t nu
 /* The string and the number say what the three numbers say; #if can compare them. */
 static void test_version(void)
 {
-#if PCIV_VERSION_NUMBER < 4000
-#error "this header is older than 0.4.0"
+#if PCIV_VERSION_NUMBER < 5000
+#error "this header is older than 0.5.0"
 #endif
     char text[32];
     snprintf(text, sizeof text, "%d.%d.%d", PCIV_VERSION_MAJOR, PCIV_VERSION_MINOR,
@@ -728,6 +740,7 @@ static void test_edit_all(const uint8_t *file)
     EXPECT(is_summary(&answers[0].summary, N, 1, 56));
     EXPECT(is_refusal(&answers[1].refusal, PCIV_SLOT_OUT_OF_RANGE, 0, 0));
     EXPECT(is_refusal(&answers[2].refusal, PCIV_OK, 0, 0));
+    EXPECT(answers[0].moved == 1 && answers[1].moved == 0 && answers[2].moved == 0);
     EXPECT(is_file_of(buffer, 56, &answers[2].summary, expected));
     EXPECT(is_dirty(&answers[3], sizeof answers[3]));
     EXPECT(pciv_edit_all(buffer, MAP_LEN, NULL, NULL, NULL, 0, &refusal) == PCIV_OK);
@@ -787,7 +800,7 @@ static void test_null_write(const uint8_t *file)
     uint8_t out[100];
     int64_t change;
     double figure;
-    uint64_t answers[2 * PCIV_ANSWER_LEN], count;
+    uint64_t answers[2 * PCIV_ANSWER_LEN], count = 7, moved = 7;
     pciv_summary summary;
     pciv_refusal why;
     EXPECT(pciv_write(NULL, 0, out, 40, &summary, &why) == PCIV_OK && summary.len == 40);
@@ -824,12 +837,13 @@ static void test_null_write(const uint8_t *file)
     EXPECT(pciv_jaccard(NULL, 0, file, MAP_LEN, 1, &figure, &why) == PCIV_TRUNCATED_HEADER);
     EXPECT(pciv_jaccard(file, MAP_LEN, NULL, 0, 1, &figure, &why) == PCIV_TRUNCATED_HEADER);
     memcpy(out, file, MAP_LEN);
-    EXPECT(pciv_edit(NULL, 0, 1, 1, &summary, &why) == PCIV_TRUNCATED_HEADER);
-    EXPECT(pciv_edit_list(NULL, 0, slots, 2, distances, 2, answers, 16, &count, &why) ==
+    EXPECT(pciv_edit(NULL, 0, 1, 1, &summary, &moved, &why) == PCIV_TRUNCATED_HEADER);
+    EXPECT(moved == 0);
+    EXPECT(pciv_edit_list(NULL, 0, slots, 2, distances, 2, answers, 18, &count, &why) ==
            PCIV_TRUNCATED_HEADER);
-    EXPECT(pciv_edit_list(out, MAP_LEN, NULL, 0, distances, 2, answers, 16, &count, &why) ==
+    EXPECT(pciv_edit_list(out, MAP_LEN, NULL, 0, distances, 2, answers, 18, &count, &why) ==
            PCIV_SLOT_OUT_OF_RANGE);
-    EXPECT(pciv_edit_list(out, MAP_LEN, slots, 2, NULL, 0, answers, 16, &count, &why) ==
+    EXPECT(pciv_edit_list(out, MAP_LEN, slots, 2, NULL, 0, answers, 18, &count, &why) ==
            PCIV_SLOT_OUT_OF_RANGE);
     EXPECT(pciv_edit_list(out, MAP_LEN, slots, 2, distances, 2, NULL, 0, &count, &why) ==
            PCIV_BUFFER_TOO_SMALL);

@@ -14,6 +14,7 @@
 #define lookup_list_writes_behind 8
 #define lookup_list_inline_zero 9
 #define lookup_list_one_length 10
+#define edit_counts_own_entry 11
 
 static uint64_t field(const uint8_t *file, size_t at)
 {
@@ -96,19 +97,26 @@ uint64_t pciv_write(const uint32_t *distances, size_t distances_len, uint8_t *ou
     return number;
 }
 
-#elif FAULT == edit_byte_left
-/* A byte that a shorter file has left free is not 0, where more than an entry is free. */
-uint64_t exact_pciv_edit(uint8_t *, size_t, uint64_t, uint32_t, pciv_summary *, pciv_refusal *);
+#elif FAULT == edit_byte_left || FAULT == edit_counts_own_entry
+/* Two faults of one function, each at its place. */
+uint64_t exact_pciv_edit(uint8_t *, size_t, uint64_t, uint32_t, pciv_summary *, uint64_t *,
+                         pciv_refusal *);
 
 uint64_t pciv_edit(uint8_t *buffer, size_t buffer_len, uint64_t slot, uint32_t distance,
-                   pciv_summary *summary, pciv_refusal *refusal)
+                   pciv_summary *summary, uint64_t *moved, pciv_refusal *refusal)
 {
-    uint64_t len = 0;
-    if (buffer_len >= 40)
-        len = 40 + field(buffer, 8) + 12 * field(buffer, 16) + 16 * field(buffer, 24);
-    uint64_t number = exact_pciv_edit(buffer, buffer_len, slot, distance, summary, refusal);
-    if (number == PCIV_OK && summary->len + 12 < len)
+    uint64_t k = 0, len = 0;
+    if (buffer_len >= 40) {
+        k = field(buffer, 16);
+        len = 40 + field(buffer, 8) + 12 * k + 16 * field(buffer, 24);
+    }
+    uint64_t number = exact_pciv_edit(buffer, buffer_len, slot, distance, summary, moved, refusal);
+    /* A byte that a shorter file has left free is not 0, where more than an entry is free. */
+    if (number == PCIV_OK && FAULT == edit_byte_left && summary->len + 12 < len)
         buffer[len - 1] = 1;
+    /* The slot's own entry counts as moved where it is gone and others have moved. */
+    if (number == PCIV_OK && FAULT == edit_counts_own_entry && summary->k < k && *moved > 0)
+        ++*moved;
     return number;
 }
 

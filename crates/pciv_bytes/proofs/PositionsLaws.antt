@@ -3,7 +3,7 @@
 --   Among l s                  s is an element of l
 --   positions-count, -at       how many they are at most, and what each one is
 --   positions-rise, -all       they rise, and every number with p is among them
---   positions-cong             of properties that agree
+--   positions-cong, -none      of properties that agree; of one that no number has
 --   positions-append, -around    a range in two, and around a number
 --   rises                      a function that rises step by step rises from any place to any later one
 --   Rising p f i c a t         t values of f from a on are the numbers with p, rising
@@ -99,6 +99,14 @@ positions-cong p q i zero same = refl
 positions-cong p q i (suc c) same =
     ap₂ (λ (b : Bool) (l : List ℕ). keepIf b i l) (same i (le-refl i) (omega arith))
     (positions-cong p q (suc i) c (λ j h₁ h₂. same j (omega arith) (omega arith)))
+
+-- none has p
+pub positions-none : (p : ℕ → Bool) (i c : ℕ) → ((j : ℕ) → i ≤ j → j < i + c → p j ≡ false) → positions p i c ≡ []
+unfolding positions
+positions-none p i zero none = refl
+positions-none p i (suc c) none =
+    rw (none i (le-refl i) (omega arith))
+    (positions-none p (suc i) c (λ j h₁ h₂. none j (omega arith) (omega arith)))
 
 -- a range in two
 pub positions-append : (p : ℕ → Bool) (i c d : ℕ) → positions p i (c + d) ≡ positions p i c ++ positions p (i + c) d

@@ -2,6 +2,7 @@
 --   Left b₀ out₀ es b out to rest
 --                        what is left of a run of es, begun with buffer b₀ and answers out₀: the edits `rest`, from b
 --                        and out on, the next answer going to place `to`
+--   runCells b es        the answers of a run as numbers
 --   left-start, -more, -end    before, between and after its edits
 --   editAt, editsFrom    the edits of a list of slots and a list of distances;  edits-more, -end  those from i on
 --   cells-refused, -done    the numbers of one answer
@@ -23,9 +24,9 @@ use Rattle.pciv_bytes.proofs.WriteLaws.{sets-append, sets-front}
 use Rattle.pciv_format.specs.Layout.{maxDistance, at}
 use Rattle.pciv_format.specs.Refusals.{Outcome, done, refused, refuse, numberAnswer}
 use Rattle.pciv_format.specs.Check.{checkBuffer}
-use Rattle.pciv_format.specs.Edit.{Edit, editOutcome, editBuffer, editRun, editOutcomes, answerLen, cellsOf}
-use Rattle.pciv_format.specs.Edit.{noRefusal, noSummary, answerCells, allCells, editsOf, editListOutcome}
-use Rattle.pciv_format.specs.Edit.{editListBuffer, editListAnswers}
+use Rattle.pciv_format.specs.Edit.{Edit, editOutcome, editMoved, editBuffer, editRun, editOutcomes, editMoves}
+use Rattle.pciv_format.specs.Edit.{answerLen, cellsOf, noRefusal, noSummary, answerCells, allCells}
+use Rattle.pciv_format.specs.Edit.{editsOf, editListOutcome, editListBuffer, editListAnswers}
 use Rattle.pciv_format.specs.declared.NumberAnswer.{NumberAnswer}
 use Rattle.pciv_format.specs.declared.Summary.{Summary}
 use Rattle.pciv_format.specs.declared.Refusal.{Refusal}
@@ -33,44 +34,50 @@ use Rattle.pciv_format.proofs.PartsLaws.{eqb-not}
 use Rattle.pciv_format.proofs.CheckLaws.{done-buffer}
 use Rattle.pciv_format.proofs.RunLaws.{Distances}
 use Rattle.pciv_format.proofs.EditCaseLaws.{checked-run}
+use Rattle.pciv_format.proofs.MovedLaws.{checked-moves}
 
 -- ---- what is left of a run
+
+-- the answers of a run as numbers
+abbrev pub runCells : List ℕ → List Edit → List ℕ
+runCells b es = allCells (editOutcomes b es) (editMoves b es)
 
 -- all edits es from the start do what the rest does from here
 pub record Left (b₀ out₀ : List ℕ) (es : List Edit) (b out : List ℕ) (to : ℕ) (rest : List Edit) : Type 0 where
   pub buffer : editRun b₀ es ≡ editRun b rest
-  pub answers : sets out₀ 0 (allCells (editOutcomes b₀ es)) ≡ sets out to (allCells (editOutcomes b rest))
+  pub answers : sets out₀ 0 (runCells b₀ es) ≡ sets out to (runCells b rest)
 
-length-cells : (o : Outcome Summary) → length (answerCells o) ≡ answerLen
+length-cells : (o : Outcome Summary) (moved : ℕ) → length (answerCells o moved) ≡ answerLen
 unfolding answerCells
-length-cells (done s) = refl
-length-cells (refused r) = refl
+length-cells (done s) moved = refl
+length-cells (refused r) moved = refl
 
 module _ (b₀ out₀ : List ℕ) (es : List Edit) (b out : List ℕ) where
   pub left-more : (to : ℕ) (rest : List Edit) (e : Edit) (next : List Edit) → rest ≡ e ∷ next
       → Left b₀ out₀ es b out to rest
-      → (b' out' : List ℕ) → b' ≡ editBuffer b e → out' ≡ sets out to (answerCells (editOutcome b e))
+      → (b' out' : List ℕ) → b' ≡ editBuffer b e
+      → out' ≡ sets out to (answerCells (editOutcome b e) (editMoved b e))
       → (to' : ℕ) → to' ≡ to + answerLen → Left b₀ out₀ es b' out' to' next
-  unfolding editRun editOutcomes allCells
+  unfolding editRun editOutcomes editMoves allCells
   left-more to rest e next is l b' out' eb eo to' et =
-      let cells : List ℕ = answerCells (editOutcome b e) in
-      let more : List ℕ = allCells (editOutcomes (editBuffer b e) next) in
+      let cells : List ℕ = answerCells (editOutcome b e) (editMoved b e) in
+      let more : List ℕ = runCells (editBuffer b e) next in
       rw (eb, eo, et)
       (record {
         buffer = l .buffer ∙ ap (editRun b) is;
         answers =
             l .answers
-            ∙ ap (λ (r : List Edit). sets out to (allCells (editOutcomes b r))) is
+            ∙ ap (λ (r : List Edit). sets out to (runCells b r)) is
             ∙ sets-append cells more out to
-            ∙ ap (λ (m : ℕ). sets (sets out to cells) (to + m) more) (length-cells (editOutcome b e));
+            ∙ ap (λ (m : ℕ). sets (sets out to cells) (to + m) more) (length-cells (editOutcome b e) (editMoved b e));
       })
 
   pub left-end : (to : ℕ) (rest : List Edit) → rest ≡ [] → Left b₀ out₀ es b out to rest
-      → (b ≡ editRun b₀ es) × (out ≡ sets out₀ 0 (allCells (editOutcomes b₀ es)))
-  unfolding editRun editOutcomes allCells
+      → (b ≡ editRun b₀ es) × (out ≡ sets out₀ 0 (runCells b₀ es))
+  unfolding editRun editOutcomes editMoves allCells
   left-end to rest is l = (
     sym (l .buffer ∙ ap (editRun b) is),
-    sym (l .answers ∙ ap (λ (r : List Edit). sets out to (allCells (editOutcomes b r))) is),
+    sym (l .answers ∙ ap (λ (r : List Edit). sets out to (runCells b r)) is),
   )
 
 -- ---- the edits of two lists
@@ -105,22 +112,27 @@ module _ (slots distances : List ℕ) where
 
 -- ---- the numbers of one answer
 
-module _ (o : Outcome Summary) where
-  pub cells-refused : (r : Refusal) → o ≡ refused r → cellsOf r noSummary ≡ answerCells o
+module _ (o : Outcome Summary) (m moved : ℕ) (same : m ≡ moved) where
+  pub cells-refused : (r : Refusal) → o ≡ refused r → cellsOf r noSummary m ≡ answerCells o moved
   unfolding answerCells
-  cells-refused r is = rw is
+  cells-refused r is = rw (is, same)
 
-  pub cells-done : (s : Summary) → o ≡ done s → cellsOf noRefusal s ≡ answerCells o
+  pub cells-done : (s : Summary) → o ≡ done s → cellsOf noRefusal s m ≡ answerCells o moved
   unfolding answerCells
-  cells-done s is = rw is
+  cells-done s is = rw (is, same)
 
 -- ---- a run in one call
 
-length-allCells : (b : List ℕ) (es : List Edit) → length (allCells (editOutcomes b es)) ≡ answerLen * length es
-unfolding allCells editOutcomes
-length-allCells b [] = refl
-length-allCells b (e ∷ es) =
-    simp (length-append, length-cells, length-allCells (editBuffer b e) es) (omega arith)
+length-runCells : (b : List ℕ) (es : List Edit) → length (runCells b es) ≡ answerLen * length es
+unfolding allCells editOutcomes editMoves
+length-runCells b [] = refl
+length-runCells b (e ∷ es) =
+    omega (
+      arith,
+      length-append (answerCells (editOutcome b e) (editMoved b e)) (runCells (editBuffer b e) es),
+      length-cells (editOutcome b e) (editMoved b e),
+      length-runCells (editBuffer b e) es,
+    )
 
 module _ (b slots distances : List ℕ) where
   -- the run is refused: nothing changes
@@ -170,14 +182,17 @@ module _ (b slots distances : List ℕ) where
       (same : length slots ≡ length distances) (out : List ℕ) (fits : answerLen * length slots ≤ length out) where
     -- the run is made: the editor's run is the plain editor's
     pub made-run : (b' out' : List ℕ) → b' ≡ editRun b (editsOf slots distances)
-        → out' ≡ sets out 0 (allCells (editOutcomes b (editsOf slots distances)))
+        → out' ≡ sets out 0 (runCells b (editsOf slots distances))
         → (numberAnswer (done (length slots)) ≡ numberAnswer (editListOutcome b slots distances (length out)))
         × ((b' ≡ editListBuffer b slots distances (length out)) × (out' ≡ editListAnswers b slots distances out))
     unfolding editListBuffer editListAnswers
     made-run b' out' buffer answers =
         let es : List Edit = editsOf slots distances in
-        let r = checked-run b (s .n) (s .k) bytes (done-buffer 1 b s is) es (edits-distances slots distances small) in
-        let cells : length (allCells (editOutcomes b es)) ≤ length out =
-        omega (arith, length-allCells b es, length-edits slots distances) in
-        rw (list-done s is (length out) same fits, ← r .0)
-        (refl, (buffer ∙ r .1, answers ∙ sets-front (allCells (editOutcomes b es)) out cells))
+        let map = done-buffer 1 b s is in
+        let limited = edits-distances slots distances small in
+        let r = checked-run b (s .n) (s .k) bytes map es limited in
+        let moves = checked-moves b (s .n) (s .k) bytes map es limited in
+        let cells : length (runCells b es) ≤ length out =
+        omega (arith, length-runCells b es, length-edits slots distances) in
+        rw (list-done s is (length out) same fits, ← r .0, ← moves)
+        (refl, (buffer ∙ r .1, answers ∙ sets-front (runCells b es) out cells))

@@ -6,8 +6,8 @@ ghost use lib.ListN.{length};
 ghost use lib.Seq.{sets};
 ghost use Rattle.pciv_format.specs.Refusals.{numberAnswer};
 ghost use Rattle.pciv_format.specs.Check.{CheckedMap};
-ghost use Rattle.pciv_format.specs.Edit.{editOutcome, editBuffer, editRun, editOutcomes, answerLen};
-ghost use Rattle.pciv_format.specs.Edit.{cellsOf, answerCells, allCells, editsOf, editListOutcome};
+ghost use Rattle.pciv_format.specs.Edit.{editOutcome, editMoved, editBuffer, editRun, editOutcomes, editMoves};
+ghost use Rattle.pciv_format.specs.Edit.{answerLen, cellsOf, answerCells, allCells, editsOf, editListOutcome};
 ghost use Rattle.pciv_format.specs.Edit.{editListBuffer, editListAnswers};
 use pciv_check::check_buffer;
 use pciv_format::ANSWER_LEN;
@@ -21,11 +21,21 @@ use pciv_layout::refusals::refuse_number;
 use pciv_slot::edit_checked;
 
 // Writes the numbers of one answer.
-fn put_cells(answers: &mut [usize], at: usize, r: Refusal, s: Summary)
+fn put_cells(answers: &mut [usize], at: usize, r: Refusal, s: Summary, moved: usize)
     requires { ⌜ at + answerLen ≤ length (now answers) ⌝ }
-    ensures { λ _. ⌜ now (answers .exit) ≡ sets (now (answers .entry)) at (cellsOf r s) ⌝ }
+    ensures { λ _. ⌜ now (answers .exit) ≡ sets (now (answers .entry)) at (cellsOf r s moved) ⌝ }
 {
-    let cells = [r.number, r.map, r.place, s.n, s.k, s.m, s.step, s.len];
+    let cells = [
+        r.number,
+        r.map,
+        r.place,
+        s.n,
+        s.k,
+        s.m,
+        s.step,
+        s.len,
+        moved,
+    ];
     let mut j = 0;
     while j < ANSWER_LEN {
         answers[at + j] = cells[j];
@@ -47,9 +57,12 @@ fn edit_next(
     requires { ⌜ at + answerLen ≤ length (now answers) ⌝ }
     ensures map { λ r. ⌜ CheckedMap (now (buffer .exit)) n r ⌝ }
     ensures buffer { λ _. ⌜ now (buffer .exit) ≡ editBuffer (now (buffer .entry)) (record { slot = slot; distance = distance }) ⌝ }
-    ensures answers { λ _. ⌜ now (answers .exit) ≡ sets (now (answers .entry)) at (answerCells (editOutcome (now (buffer .entry)) (record { slot = slot; distance = distance }))) ⌝ }
+    ensures answers { λ _. ⌜ now (answers .exit) ≡ sets (now (answers .entry)) at (answerCells (editOutcome (now (buffer .entry)) (record { slot = slot; distance = distance }))
+        (editMoved (now (buffer .entry)) (record { slot = slot; distance = distance }))) ⌝ }
 {
-    let told = edit_checked(buffer, n, k, slot, distance).outcome;
+    let edited = edit_checked(buffer, n, k, slot, distance);
+    let moved = edited.moved;
+    let told = edited.outcome;
     match told {
         FileAnswer::Refused(r) => {
             let no_summary = Summary {
@@ -59,7 +72,7 @@ fn edit_next(
                 step: 0,
                 len: 0,
             };
-            put_cells(answers, at, r, no_summary);
+            put_cells(answers, at, r, no_summary, moved);
             k
         }
         FileAnswer::Done(s) => {
@@ -68,7 +81,7 @@ fn edit_next(
                 map: 0,
                 place: 0,
             };
-            put_cells(answers, at, no_refusal, s);
+            put_cells(answers, at, no_refusal, s, moved);
             s.k
         }
     }
@@ -87,7 +100,8 @@ fn edit_all(
     requires { ⌜ length (now slots) ≡ length (now distances) ⌝ }
     requires { ⌜ answerLen * length (now slots) ≤ length (now answers) ⌝ }
     ensures buffer { λ _. ⌜ now (buffer .exit) ≡ editRun (now (buffer .entry)) (editsOf (now (slots .entry)) (now (distances .entry))) ⌝ }
-    ensures answers { λ _. ⌜ now (answers .exit) ≡ sets (now (answers .entry)) 0 (allCells (editOutcomes (now (buffer .entry)) (editsOf (now (slots .entry)) (now (distances .entry))))) ⌝ }
+    ensures answers { λ _. ⌜ now (answers .exit) ≡ sets (now (answers .entry)) 0 (allCells (editOutcomes (now (buffer .entry)) (editsOf (now (slots .entry)) (now (distances .entry))))
+        (editMoves (now (buffer .entry)) (editsOf (now (slots .entry)) (now (distances .entry))))) ⌝ }
 {
     let mut i = 0;
     let mut count = k;
@@ -106,8 +120,9 @@ fn edit_all(
 }
 
 // Makes a run of edits on the file at the front of the buffer: edit j sets slot `slots[j]` to `distances[j]`.
-// Its answer is ANSWER_LEN numbers from `answers[ANSWER_LEN * j]` on: refusal number, map and place, then n, k, m,
-// step and length; 0 where it is the other. A refused edit changes no byte, and the run goes on. Answers how many edits.
+// Its answer is ANSWER_LEN numbers from `answers[ANSWER_LEN * j]` on: refusal number, map and place, 0 where it is
+// made; then n, k, m, step and length of the new file, and how many overflow entries the edit moved, 0 where it is
+// refused. A refused edit changes no byte, and the run goes on. Answers how many edits.
 // Refusals of the run: 1 to 8, with map 1; then 9 where the lists differ in length, with the least position that has
 // no edit; then 12 where `answers` is too short. A refused run changes nothing. The 9 for lists of unequal length is
 // chosen here: the format's source has no such case.

@@ -39,9 +39,9 @@ use Rattle.pciv_format.specs.Arith.{shiftBuffer, signedDifferences, sign
 use Rattle.pciv_format.specs.Arith.{signedDifferenceList}
 use Rattle.pciv_format.specs.Figures.{quotient, distanceBetween, brayCurtisOutcome, countAt, jaccardOutcome}
 use Rattle.pciv_format.specs.Edit.{Edit, plainOutcome, editedFile, editOutcome, replaced, editBuffer}
-use Rattle.pciv_format.specs.Edit.{plainStart, plainStep, plainRun, plainOutcomes, bufferOf}
-use Rattle.pciv_format.specs.Edit.{answerCells, allCells, editsOf, editListOutcome, editListBuffer}
-use Rattle.pciv_format.specs.Edit.{editListAnswers}
+use Rattle.pciv_format.specs.Edit.{entriesAbove, movedBy, plainMoved, editMoved, plainStart, plainStep}
+use Rattle.pciv_format.specs.Edit.{plainRun, plainOutcomes, plainMoves, bufferOf, answerCells, allCells}
+use Rattle.pciv_format.specs.Edit.{editsOf, editListOutcome, editListBuffer, editListAnswers}
 use Rattle.pciv_format.specs.Report.{digits, decimal, field, line, mapLines, refusedLine, reportText}
 use Rattle.pciv_format.specs.declared.Summary.{Summary}
 use Rattle.pciv_format.specs.declared.Origin.{Origin}
@@ -51,6 +51,7 @@ use Rattle.pciv_format.specs.declared.SlotOp.{SlotOp}
 use Rattle.pciv_format.specs.declared.SlotOp.the-variants.{Minimum, Maximum, Sum, Difference}
 use Rattle.pciv_format.specs.declared.Comparison.the-variants.{Below, AtMost, Above, AtLeast}
 use Rattle.pciv_format.specs.declared.MaskOp.the-variants.{And, Or, Xor}
+use Rattle.pciv_format.proofs.MovedLaws.{renumbered}
 
 abbrev pub A : List ℕ
 A = 0 ∷ 254 ∷ 255 ∷ 300 ∷ []
@@ -228,14 +229,24 @@ pub further :
     × (editBuffer (fileOf A ++ replicate 3 7) (setTo 2 254)
     ≡ fileOf (0 ∷ 254 ∷ 254 ∷ 300 ∷ []) ++ (replicate 12 0 ++ replicate 3 7))
     -- edits of A in 69 bytes: slot 2 to 254, slot 4, slot 0 to 7
-    × (editListOutcome (fileOf A ++ (7 ∷ [])) (2 ∷ 4 ∷ 0 ∷ []) (254 ∷ 1 ∷ 7 ∷ []) 25 ≡ done 3)
-    × (editListBuffer (fileOf A ++ (7 ∷ [])) (2 ∷ 4 ∷ 0 ∷ []) (254 ∷ 1 ∷ 7 ∷ []) 25
+    × (editListOutcome (fileOf A ++ (7 ∷ [])) (2 ∷ 4 ∷ 0 ∷ []) (254 ∷ 1 ∷ 7 ∷ []) 28 ≡ done 3)
+    × (editListBuffer (fileOf A ++ (7 ∷ [])) (2 ∷ 4 ∷ 0 ∷ []) (254 ∷ 1 ∷ 7 ∷ []) 28
     ≡ fileOf (7 ∷ 254 ∷ 254 ∷ 300 ∷ []) ++ (replicate 12 0 ++ (7 ∷ [])))
-    × (editListAnswers (fileOf A ++ (7 ∷ [])) (2 ∷ 4 ∷ 0 ∷ []) (254 ∷ 1 ∷ 7 ∷ []) (replicate 25 7)
-    ≡ 0 ∷ 0 ∷ 0 ∷ 4 ∷ 1 ∷ 0 ∷ 0 ∷ 56
-    ∷ 9 ∷ 0 ∷ 0 ∷ 0 ∷ 0 ∷ 0 ∷ 0 ∷ 0
-    ∷ 0 ∷ 0 ∷ 0 ∷ 4 ∷ 1 ∷ 0 ∷ 0 ∷ 56 ∷ 7 ∷ [])
-    × (editListOutcome (fileOf A) (2 ∷ 4 ∷ []) (254 ∷ []) 25 ≡ refuse 9 0 1)
+    × (editListAnswers (fileOf A ++ (7 ∷ [])) (2 ∷ 4 ∷ 0 ∷ []) (254 ∷ 1 ∷ 7 ∷ []) (replicate 28 7)
+    ≡ 0 ∷ 0 ∷ 0 ∷ 4 ∷ 1 ∷ 0 ∷ 0 ∷ 56 ∷ 1
+    ∷ 9 ∷ 0 ∷ 0 ∷ 0 ∷ 0 ∷ 0 ∷ 0 ∷ 0 ∷ 0
+    ∷ 0 ∷ 0 ∷ 0 ∷ 4 ∷ 1 ∷ 0 ∷ 0 ∷ 56 ∷ 0 ∷ 7 ∷ [])
+    × (editListOutcome (fileOf A) (2 ∷ 4 ∷ []) (254 ∷ []) 28 ≡ refuse 9 0 1)
+    -- entries moved in A: slot 2 to 254; slot 1 to 255 in 80 bytes and, refused, in 79; slot 3 to 7; slot 3 to 400; slot 4.
+    -- In 300, 0, 300 slot 1 to 255. The two entries, in the files of A and of A with slot 1 at 255
+    × ((editMoved (fileOf A) (setTo 2 254) ≡ 1)
+    × (editMoved (fileOf A ++ replicate 12 7) (setTo 1 255) ≡ 2)
+    × (editMoved (fileOf A ++ replicate 11 7) (setTo 1 255) ≡ 0)
+    × (editMoved (fileOf A) (setTo 3 7) ≡ 0)
+    × (editMoved (fileOf A) (setTo 3 400) ≡ 0)
+    × (editMoved (fileOf A) (setTo 4 255) ≡ 0))
+    × (editMoved (fileOf (300 ∷ 0 ∷ 300 ∷ []) ++ replicate 12 7) (setTo 1 255) ≡ 1)
+    × (positions (renumbered (fileOf A) (fileOf (0 ∷ 255 ∷ 255 ∷ 300 ∷ [])) 1) 0 4 ≡ 2 ∷ 3 ∷ [])
     -- masks of M: below 300, above 299
     × (thresholdWords Below (fileOf M) 300 (7 ∷ 7 ∷ 7 ∷ []) ≡ ones ∷ 0 ∷ 7 ∷ [])
     × (thresholdWords Above (fileOf M) 299 (7 ∷ 7 ∷ 7 ∷ []) ≡ 0 ∷ 1 ∷ 7 ∷ [])
@@ -288,8 +299,8 @@ unfolding
     signedDifferences signedDifferenceOutcome signedDifferenceList xor
     lookupOutcome lookupListOutcome lookupListBuffer lookupListEntries scanOutcome scanBuffer
     writeOutcome writeBuffer closeOutcome closeBuffer
-    plainOutcome editedFile editOutcome replaced editBuffer
-    plainStart plainStep plainRun plainOutcomes bufferOf answerCells allCells editsOf
+    plainOutcome editedFile editOutcome replaced editBuffer entriesAbove movedBy plainMoved editMoved
+    plainStart plainStep plainRun plainOutcomes plainMoves bufferOf answerCells allCells editsOf
     editListOutcome editListBuffer editListAnswers
 further = (
   (refl, refl),
@@ -312,6 +323,9 @@ further = (
   refl,
   refl,
   refl,
+  refl,
+  refl,
+  (refl, refl, refl, refl, refl, refl),
   refl,
   refl,
   refl,

@@ -6,6 +6,7 @@
 --   file-inline        both inline: so it is of the file
 --   file-overflow      both in overflow: the four distance bytes of the slot's entry are set
 --   entries-in, -out   into overflow: the entry of s is put in behind p entries;  out of it: it is taken out
+--   count-overflow, -inline    the entries around s, which is in overflow or inline
 --   count-in, -stays   how many entries there are after a move into overflow, and where s stays inline or in overflow
 --   count-below        p is at most the number of entries;  count-inside  less, where s is in overflow
 --   below-count        p is the same of v and of w
@@ -75,17 +76,16 @@ module _ (n : ℕ) (v w : ℕ → ℕ) (s : ℕ) (inside : s < n) (same : (i : �
       positions-cong (λ (i : ℕ). inOverflow (v i)) (λ (i : ℕ). inOverflow (w i)) 0 s
       (λ j h₁ h₂. overflow-same j (λ q. omega arith))
 
-  above : (ℕ → ℕ) → List ℕ
+  abbrev pub above : (ℕ → ℕ) → List ℕ
   above u = positions (λ (i : ℕ). inOverflow (u i)) (suc s) (n - suc s)
 
   above-same : above v ≡ above w
-  unfolding above
   above-same =
       positions-cong (λ (i : ℕ). inOverflow (v i)) (λ (i : ℕ). inOverflow (w i)) (suc s) (n - suc s)
       (λ j h₁ h₂. overflow-same j (λ q. omega arith))
 
   around : (u : ℕ → ℕ) → overflowSlots n u ≡ overflowSlots s u ++ keepIf (inOverflow (u s)) s (above u)
-  unfolding overflowSlots above
+  unfolding overflowSlots
   around u = positions-around (λ (i : ℕ). inOverflow (u i)) n s inside
 
   -- ---- their entries
@@ -104,7 +104,6 @@ module _ (n : ℕ) (v w : ℕ → ℕ) (s : ℕ) (inside : s < n) (same : (i : �
       ∙ ap (joined (overflowEntry w)) below-same
 
   after-same : joined (overflowEntry v) (above v) ≡ joined (overflowEntry w) (above w)
-  unfolding above
   after-same =
       joined-cong (overflowEntry v) (overflowEntry w) (above v)
       (λ j h.
@@ -278,11 +277,20 @@ module _ (n : ℕ) (v w : ℕ → ℕ) (s : ℕ) (inside : s < n) (same : (i : �
       ∙ drop-at (overflowEntry v s) after 12 (length-overflowEntry v s) in
       rw (part-with-v hv, take-at before r q length-before, past) (part-without-w hw)
 
+  -- those below s, its own, and those above it
+  pub count-overflow : 255 ≤ v s → overflowCount n v ≡ overflowCount s v + suc (length (above v))
+  unfolding overflowCount
+  count-overflow hv =
+      ap length (around v) ∙ rw (le-leb 255 (v s) hv) (length-append (overflowSlots s v) (s ∷ above v))
+
+  pub count-inline : v s < 255 → overflowCount n v ≡ overflowCount s v + length (above v)
+  unfolding overflowCount
+  count-inline hv = ap length (around v) ∙ rw (lt-leb 255 (v s) hv) (length-append (overflowSlots s v) (above v))
+
   pub count-in : v s < 255 → 255 ≤ w s → overflowCount n w ≡ overflowCount n v + 1
   unfolding overflowCount
   count-in hv hw =
-      let old : length (overflowSlots n v) ≡ length (overflowSlots s v) + length (above v) =
-      ap length (around v) ∙ rw (lt-leb 255 (v s) hv) (length-append (overflowSlots s v) (above v)) in
+      let old = count-inline hv in
       let new : length (overflowSlots n w) ≡ length (overflowSlots s v) + suc (length (above v)) =
       ap length (around w)
       ∙ rw (le-leb 255 (w s) hw, ← below-same, ← above-same) (length-append (overflowSlots s v) (s ∷ above v)) in
@@ -298,11 +306,7 @@ module _ (n : ℕ) (v w : ℕ → ℕ) (s : ℕ) (inside : s < n) (same : (i : �
 
   -- in overflow, the entry of s is one of them
   pub count-inside : 255 ≤ v s → overflowCount s v < overflowCount n v
-  unfolding overflowCount
-  count-inside hv =
-      let all : length (overflowSlots n v) ≡ length (overflowSlots s v) + suc (length (above v)) =
-      ap length (around v) ∙ rw (le-leb 255 (v s) hv) (length-append (overflowSlots s v) (s ∷ above v)) in
-      omega arith
+  count-inside hv = omega (arith, count-overflow hv)
 
   pub below-count : overflowCount s v ≡ overflowCount s w
   unfolding overflowCount

@@ -1,6 +1,7 @@
 -- A file at the front of a longer buffer is checked and read as it is by itself.
 --   front-checked              a file that is a checked map by itself is one in the buffer
---   front-check, front-list    a buffer with the file of a list at its front is accepted, and edited as that list
+--   front-check, front-file, front-list
+--                              a buffer with the file of a list at its front is accepted, and edited as that file and list
 --   Holds b n k x              b holds the file of the list x at its front
 --   checked-front              a checked buffer holds the list that it is read as
 -- Axioms: none.
@@ -113,7 +114,7 @@ module _ (xs t : List ℕ) (l : Limits xs) where
       let c : CheckedMap b (length xs) k = front-checked (fileOf xs) t (length xs) k (counted .fits) counted in
       checkWith-done ltb mp b (length xs) k c (le-ltb (length b) (fileLen (length xs) k) (c .fits))
 
-  front-file : editedFile (fileOf xs ++ t) ≡ fileOf xs
+  pub front-file : editedFile (fileOf xs ++ t) ≡ fileOf xs
   unfolding editedFile
   front-file =
       let k : ℕ = overflowCount (length xs) (at xs) in

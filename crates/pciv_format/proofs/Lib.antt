@@ -19,6 +19,7 @@ pub mod RunLaws
 pub mod EditLaws
 pub mod LimitLaws
 pub mod EditCaseLaws
+pub mod MovedLaws
 pub mod ListLaws
 pub mod EntryLaws
 pub mod PatchLaws

@@ -58,9 +58,9 @@ use Rattle.pciv_format.specs.Arith.{shiftedBy, shiftOutcome, shiftBuffer
 use Rattle.pciv_format.specs.Arith.{signedDifferenceOutcome, signedDifferenceList}
 use Rattle.pciv_format.specs.Figures.{quotient, distanceBetween, brayCurtisOutcome, countAt, jaccardOutcome}
 use Rattle.pciv_format.specs.Edit.{Edit, edited, plainOutcome, editOutcome, replaced, ifAccepted}
-use Rattle.pciv_format.specs.Edit.{editBuffer, plainStart, plainRun, plainOutcomes, bufferOf}
-use Rattle.pciv_format.specs.Edit.{answerLen, allCells, editsOf, editListOutcome, editListBuffer}
-use Rattle.pciv_format.specs.Edit.{editListAnswers}
+use Rattle.pciv_format.specs.Edit.{editBuffer, plainMoved, editMoved, plainStart, plainRun, plainOutcomes}
+use Rattle.pciv_format.specs.Edit.{plainMoves, bufferOf, answerLen, allCells, editsOf, editListOutcome}
+use Rattle.pciv_format.specs.Edit.{editListBuffer, editListAnswers}
 use Rattle.pciv_format.specs.Report.{textOf, reportText, reportOutcome, reportBuffer}
 use Rattle.pciv_format.specs.declared.Summary.{Summary}
 use Rattle.pciv_format.specs.declared.SlotOp.{SlotOp}
@@ -274,15 +274,19 @@ module _ (xs t : List ℕ) (l : Limits xs) where
   pub front-edit : (e : Edit)
       → (let b = fileOf xs ++ t in
       (editOutcome b e ≡ plainOutcome xs (length b) e)
-      × (editBuffer b e ≡ ifAccepted (plainOutcome xs (length b) e) (replaced b xs (edited xs e)) b))
-  unfolding editBuffer
-  front-edit e = (edit-plain xs t l e, rw (edit-plain xs t l e, front-list xs t l))
+      × (editBuffer b e ≡ ifAccepted (plainOutcome xs (length b) e) (replaced b xs (edited xs e)) b)
+      × (editMoved b e ≡ plainMoved xs (length b) e))
+  unfolding editBuffer editMoved plainMoved
+  front-edit e =
+      let is = edit-plain xs t l e in
+      let list = front-list xs t l in
+      (is, rw (is, list), rw (is, list))
 
   pub front-editList : (slots distances : List ℕ)
       → (let b = fileOf xs ++ t in
       let es = editsOf slots distances in
       Writes (editListOutcome b slots distances) (editListAnswers b slots distances) (runInto slots distances)
-      (allCells (plainOutcomes (length b) (plainStart xs) es))
+      (allCells (plainOutcomes (length b) (plainStart xs) es) (plainMoves (length b) (plainStart xs) es))
       × ((c : ℕ) → editListBuffer b slots distances c
       ≡ ifAccepted (runInto slots distances c) (bufferOf (plainRun (length b) (plainStart xs) es) b) b))
   unfolding editListOutcome editListAnswers editListBuffer

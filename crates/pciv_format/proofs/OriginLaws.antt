@@ -79,7 +79,7 @@ abbrev pub originIn : List ℕ → ℕ → Origin
 originIn xs i = cond (inOverflow (at xs i)) (Overflow (overflowCount i (at xs))) Inline
 
 -- a slot of a list that is in overflow is one of its slots
-overflow-inside : (xs : List ℕ) (i : ℕ) → 255 ≤ at xs i → i < length xs
+pub overflow-inside : (xs : List ℕ) (i : ℕ) → 255 ≤ at xs i → i < length xs
 overflow-inside xs i h =
     elim (decLe (length xs) i) [
       | yes past ↦ absurd (omega (arith, List·getD-eq-default xs 0 past))

@@ -4,9 +4,10 @@
 -- and of each edit, on the plain editor's list and the buffer that it finds, all that docs/FORMAT.md, "The editor",
 -- says of the bytes just after it (a field of `StepLimits` for each sentence).
 --   Reached b₀ z           a state z that the plain editor may reach on a buffer b₀
---   length-there           what the buffer holds in such a state is as long as b₀
+--   list-there, length-there    the list that the buffer holds in such a state, and how long the buffer is
 --   edit-answer, -buffer   one edit there: the editor's answer and buffer are the plain editor's
 --   next-reached           the state after it is reached too
+--   start-there, -reached  the state at the start
 --   Distances es           every distance of the edits es is one
 --   edit-run               the theorem
 -- Axioms: none.
@@ -97,7 +98,7 @@ abbrev after : State → Edit → State
 after z e = record { list = edited (z .list) e; filled = max (z .filled) (length (fileOf (edited (z .list) e))) }
 
 module _ (b₀ : List ℕ) (z : State) (at : Reached b₀ z) where
-  list-there : listOf (editedFile (bufferOf z b₀)) ≡ z .list
+  pub list-there : listOf (editedFile (bufferOf z b₀)) ≡ z .list
   unfolding bufferOf
   list-there = front-list (z .list) _ (at .limits)
 
@@ -178,19 +179,25 @@ module _ (b₀ : List ℕ) where
         (edit-limited b₀ z at e, rw q (r .2)),
       )
 
+module _ (x t : List ℕ) where
+  pub start-there : bufferOf (plainStart x) (fileOf x ++ t) ≡ fileOf x ++ t
+  unfolding bufferOf plainStart
+  start-there = rw (sub-self, drop-at (fileOf x) t (length (fileOf x)) refl)
+
+  pub start-reached : Limits x → Reached (fileOf x ++ t) (plainStart x)
+  unfolding plainStart
+  start-reached l = record { limits = l; low = le-refl _; high = simp length-append (omega arith) }
+
 -- a buffer with x's file at its front and any bytes t behind it
 pub edit-run : (x t : List ℕ) (es : List Edit) → Limits x → Distances es
     → (let b = fileOf x ++ t in
     (editOutcomes b es ≡ plainOutcomes (length b) (plainStart x) es)
     × (editRun b es ≡ bufferOf (plainRun (length b) (plainStart x) es) b)
     × RunLimits (length b) (plainStart x) b es)
-unfolding bufferOf plainStart
 edit-run x t es l small =
     let b : List ℕ = fileOf x ++ t in
-    let start : bufferOf (plainStart x) b ≡ b = rw (sub-self, drop-at (fileOf x) t (length (fileOf x)) refl) in
-    let reached : Reached b (plainStart x) =
-    record { limits = l; low = le-refl _; high = simp length-append (omega arith) } in
-    let r = run-from b es (plainStart x) reached small in (
+    let start = start-there x t in
+    let r = run-from b es (plainStart x) (start-reached x t l) small in (
       ap (λ (c : List ℕ). editOutcomes c es) (sym start) ∙ r .0,
       ap (λ (c : List ℕ). editRun c es) (sym start) ∙ r .1,
       rw start at (r .2),

@@ -2,31 +2,38 @@
 --   Edit, edited x e          a slot and the distance that it gets; the list x afterwards
 --   editedFile b              the file at the front of a buffer b, by the counts in its header
 --   plainOutcome x R e        the plain editor's answer to edit e, from the list x and a buffer of R bytes
---   editOutcome, editBuffer   the editor's answer, and the buffer afterwards; editAnswer, the answer as its type
+--   editOutcome, editBuffer   the editor's outcome, and the buffer afterwards
 --   replaced b x y            the file of y in the place of the file of x, at the front of b
 --   ifAccepted o new old      the new state where o is done, the old one where it refuses
 --   entryPlace x s, limitsBy    where the entry of slot s stands, or would; the bytes that may change, case by case
 --   MayChange x e i           byte i of the buffer may change when x is edited by e, which is accepted
+--   entriesAbove x s          how many slots above s are in overflow in x
+--   movedBy x e               how many overflow entries edit e of x moves: those above its slot where that goes into or
+--                             out of overflow, else none
+--   plainMoved, editMoved     that number for the plain editor and for the editor: 0 where they refuse
+--   editAnswer o moved        the editor's answer as its type: outcome and number
 --   State, plainStart, plainStep    the plain editor's list and the longest file so far, its start, and an edit
 --   plainRun, plainOutcomes   the plain editor's state after a list of edits, and its answers in order
 --   bufferOf z b₀             what the buffer holds in state z, where it was b₀ at the start
 --   editRun, editOutcomes     the editor's buffer after a list of edits, and its answers in order
+--   plainMoves, editMoves     the numbers of entries that the edits of a run move, in order
 --   StepLimits R x b e        what an edit of a buffer b of R bytes does to its bytes, x being the plain editor's list
 --   RunLimits R z b es        the same of every edit of a run, from the plain editor's state z
---   answerCells o, allCells   an answer of a run as answerLen numbers, and all of them; cellsOf, noRefusal, noSummary
+--   answerCells o moved       an answer of a run as answerLen numbers; cellsOf, noRefusal, noSummary
+--   allCells                  all answers of a run
 --   editsOf                   the edits of a list of slots and a list of distances
 --   startOf b                 the plain editor's start on a buffer
 --   editListOutcome, editListBuffer, editListAnswers
 --                             the answer of a run of edits in one call, the buffer and the list of answers afterwards
 -- The plain editor is given the starting list, R and the edits, and nothing else. Axioms: none.
 use mathlib.Core.Path.{_≡_}
-use Prim.Native.Nat.{ℕ, _+_, _-_, _*_, _≤_, _<_, max, min}
-use mathlib.Core.Bool.{Bool, true, false, not}
+use Prim.Native.Nat.{ℕ, suc, _+_, _-_, _*_, _≤_, _<_, max, min}
+use mathlib.Core.Bool.{Bool, true, false, not, xor, cond}
 use mathlib.Core.List.{List, [], _∷_, _++_}
 use mathlib.Core.Logic.{_⊎_}
 use lib.ListN.{length, getD, take, drop, set, replicate}
 use lib.Dec.{ltb, leb, eqb}
-use Rattle.pciv_bytes.specs.Ranges.{table}
+use Rattle.pciv_bytes.specs.Ranges.{table, positions}
 use Rattle.pciv_format.specs.Layout.{fileLen, inOverflow, overflowCount, at, fileOf, summaryOf}
 use Rattle.pciv_format.specs.Refusals.{Outcome, done, refused, refuse, refuseIf, andThen, written, fileAnswer}
 use Rattle.pciv_format.specs.Check.{nField, kField, checkBuffer}
@@ -55,10 +62,6 @@ editedFile b = take (fileLen (nField b) (kField b)) b
 
 unfoldable pub editOutcome : List ℕ → Edit → Outcome Summary
 editOutcome b e = andThen (checkBuffer 1 b) (λ s. plainOutcome (listOf (editedFile b)) (length b) e)
-
--- the editor's answer as its type
-abbrev pub editAnswer : Outcome Summary → EditAnswer
-editAnswer o = record { outcome = fileAnswer o }
 
 -- the file of y in the place of the file of x: what it leaves free becomes 0, and bytes past both stay
 unfoldable pub replaced : List ℕ → List ℕ → List ℕ → List ℕ
@@ -93,6 +96,26 @@ limitsBy false true x s i = ((16 ≤ i) × (i < 40)) ⊎ ((i ≡ 40 + s) ⊎ (en
 abbrev pub MayChange : List ℕ → Edit → ℕ → Type 0
 MayChange x e i = limitsBy (inOverflow (at x (e .slot))) (inOverflow (e .distance)) x (e .slot) i
 
+-- ---- the overflow entries that an edit moves
+
+unfoldable pub entriesAbove : List ℕ → ℕ → ℕ
+entriesAbove x s = length (positions (λ (i : ℕ). inOverflow (at x i)) (suc s) (length x - suc s))
+
+-- none unless exactly one of the old and the new distance is in overflow; else the entries with larger slots
+unfoldable pub movedBy : List ℕ → Edit → ℕ
+movedBy x e =
+    cond (xor (inOverflow (at x (e .slot))) (inOverflow (e .distance))) (entriesAbove x (e .slot)) 0
+
+unfoldable pub plainMoved : List ℕ → ℕ → Edit → ℕ
+plainMoved x R e = ifAccepted (plainOutcome x R e) (movedBy x e) 0
+
+unfoldable pub editMoved : List ℕ → Edit → ℕ
+editMoved b e = ifAccepted (editOutcome b e) (movedBy (listOf (editedFile b)) e) 0
+
+-- the editor's answer as its type
+abbrev pub editAnswer : Outcome Summary → ℕ → EditAnswer
+editAnswer o moved = record { outcome = fileAnswer o; moved = moved }
+
 -- ---- a run of edits: each edit gets the buffer as the one before left it
 
 unfoldable pub editRun : List ℕ → List Edit → List ℕ
@@ -102,6 +125,10 @@ editRun b (e ∷ es) = editRun (editBuffer b e) es
 unfoldable pub editOutcomes : List ℕ → List Edit → List (Outcome Summary)
 editOutcomes b [] = []
 editOutcomes b (e ∷ es) = editOutcome b e ∷ editOutcomes (editBuffer b e) es
+
+unfoldable pub editMoves : List ℕ → List Edit → List ℕ
+editMoves b [] = []
+editMoves b (e ∷ es) = editMoved b e ∷ editMoves (editBuffer b e) es
 
 -- ---- the plain editor's run
 
@@ -125,6 +152,10 @@ plainRun R z (e ∷ es) = plainRun R (plainStep R z e) es
 unfoldable pub plainOutcomes : ℕ → State → List Edit → List (Outcome Summary)
 plainOutcomes R z [] = []
 plainOutcomes R z (e ∷ es) = plainOutcome (z .list) R e ∷ plainOutcomes R (plainStep R z e) es
+
+unfoldable pub plainMoves : ℕ → State → List Edit → List ℕ
+plainMoves R z [] = []
+plainMoves R z (e ∷ es) = plainMoved (z .list) R e ∷ plainMoves R (plainStep R z e) es
 
 -- x's file, zeros up to the longest file so far, then the bytes that stood there at the start
 unfoldable pub bufferOf : State → List ℕ → List ℕ
@@ -166,11 +197,11 @@ RunLimits R z b (e ∷ es) = StepLimits R (z .list) b e × RunLimits R (plainSte
 
 -- how many numbers an answer is
 abbrev pub answerLen : ℕ
-answerLen = 8
+answerLen = 9
 
--- a refusal and a summary, one of which is all 0
-abbrev pub cellsOf : Refusal → Summary → List ℕ
-cellsOf r s = r .number ∷ r .map ∷ r .place ∷ s .n ∷ s .k ∷ s .m ∷ s .step ∷ s .len ∷ []
+-- a refusal and a summary, one of which is all 0, and the number of entries moved
+abbrev pub cellsOf : Refusal → Summary → ℕ → List ℕ
+cellsOf r s moved = r .number ∷ r .map ∷ r .place ∷ s .n ∷ s .k ∷ s .m ∷ s .step ∷ s .len ∷ moved ∷ []
 
 abbrev pub noRefusal : Refusal
 noRefusal = record { number = 0; map = 0; place = 0 }
@@ -178,14 +209,15 @@ noRefusal = record { number = 0; map = 0; place = 0 }
 abbrev pub noSummary : Summary
 noSummary = record { n = 0; k = 0; m = 0; step = 0; len = 0 }
 
-unfoldable pub answerCells : Outcome Summary → List ℕ
-answerCells (done s) = cellsOf noRefusal s
-answerCells (refused r) = cellsOf r noSummary
+unfoldable pub answerCells : Outcome Summary → ℕ → List ℕ
+answerCells (done s) moved = cellsOf noRefusal s moved
+answerCells (refused r) moved = cellsOf r noSummary moved
 
--- the answers one after another
-unfoldable pub allCells : List (Outcome Summary) → List ℕ
-allCells [] = []
-allCells (o ∷ os) = answerCells o ++ allCells os
+-- the answers one after another, from the outcomes and as many numbers of entries moved
+unfoldable pub allCells : List (Outcome Summary) → List ℕ → List ℕ
+allCells [] ms = []
+allCells (o ∷ os) [] = []
+allCells (o ∷ os) (m ∷ ms) = answerCells o m ++ allCells os ms
 
 -- edit j is slot j of the one list and distance j of the other
 unfoldable pub editsOf : List ℕ → List ℕ → List Edit
@@ -214,4 +246,5 @@ editListBuffer b slots distances capacity =
 unfoldable pub editListAnswers : List ℕ → List ℕ → List ℕ → List ℕ → List ℕ
 editListAnswers b slots distances out =
     written (editListOutcome b slots distances (length out))
-    (allCells (plainOutcomes (length b) (startOf b) (editsOf slots distances))) out
+    (allCells (plainOutcomes (length b) (startOf b) (editsOf slots distances))
+    (plainMoves (length b) (startOf b) (editsOf slots distances))) out

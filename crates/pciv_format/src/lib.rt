@@ -16,7 +16,7 @@ pub const MAX_DISTANCE: u32 = 4294967295;
 // Up to this many overflow entries a file has no sparse index.
 pub const UNINDEXED_MAX: usize = 2048;
 // How many numbers an answer of a run of edits is.
-pub const ANSWER_LEN: usize = 8;
+pub const ANSWER_LEN: usize = 9;
 
 // The refusals' numbers.
 pub const TRUNCATED_HEADER: usize = 1;
@@ -97,9 +97,10 @@ pub enum FigureAnswer {
     Refused(Refusal),
 }
 
-// The answer of the editor: a struct, so that it can carry more beside the summary.
+// The answer of the editor: the new file's summary or a refusal, and how many overflow entries the edit moved.
 pub struct EditAnswer {
     pub outcome: FileAnswer,
+    pub moved: usize,
 }
 
 // An overflow entry: a slot and the distance there. It goes to C as it is.

@@ -5,7 +5,7 @@
 --   edit-counted           the answer is that of beginning a file with the new number of overflow entries
 --   old-inline, -overflow  the slot's old distance, by its primary byte
 --   below-count            how many entries stand before the slot's;  entry-inside  in overflow, the slot has one
---   stays-inline, -overflow    answer and buffer where the slot stays inline, or in overflow
+--   stays-inline, -overflow    answer and buffer where the slot stays inline, or in overflow, and no entry is moved
 -- Axioms: none.
 use mathlib.Core.Path.{_≡_, sym, ap, ap₂, _∙_}
 use Prim.Native.Nat.{ℕ, _+_, _*_, _≤_, _<_}
@@ -20,7 +20,7 @@ use Rattle.pciv_format.specs.Layout.{fileLen, overflowCount, file, countsOf, su
 use Rattle.pciv_format.specs.Refusals.{done, refuse, refuseIf}
 use Rattle.pciv_format.specs.Parts.{valueOf}
 use Rattle.pciv_format.specs.Check.{fileParts}
-use Rattle.pciv_format.specs.Edit.{Edit, edited, plainOutcome, editOutcome, editBuffer, entryPlace}
+use Rattle.pciv_format.specs.Edit.{Edit, edited, plainOutcome, editOutcome, editMoved, editBuffer, entryPlace}
 use Rattle.pciv_format.specs.declared.Summary.{Summary}
 use Rattle.pciv_format.proofs.PartsLaws.{valueOf-inline, entry-good}
 use Rattle.pciv_format.proofs.LayoutLaws.{length-file, overflowCount-cong}
@@ -28,6 +28,7 @@ use Rattle.pciv_format.proofs.FrontLaws.{Holds, checked-front}
 use Rattle.pciv_format.proofs.EditLaws.{edited-at, edited-other, length-edited, count-stays}
 use Rattle.pciv_format.proofs.LimitLaws.{edit-stays-inline, edit-stays-overflow}
 use Rattle.pciv_format.proofs.EditCaseLaws.{held, edit-checked}
+use Rattle.pciv_format.proofs.MovedLaws.{moved-done, moved-stays}
 use Rattle.pciv_map_lookup.specs.Lookup.{entriesBelow}
 use Rattle.pciv_map_lookup.proofs.LookupLaws.{valueOf-entry, entriesBelow-count}
 use Rattle.pciv_build.specs.Build.{beginOutcome}
@@ -90,15 +91,17 @@ module _ (b : List ℕ) (n k : ℕ) (bytes : Bytes b) (e : Edit) (p : EditAt b n
 
   -- ---- stays inline, or in overflow
 
-  -- as many entries as before
-  stays : leb 255 (at (held b) (e .slot)) ≡ leb 255 (e .distance) → editOutcome b e ≡ done (countsOf n k)
+  -- as many entries as before, each with its number
+  stays : leb 255 (at (held b) (e .slot)) ≡ leb 255 (e .distance)
+      → (editOutcome b e ≡ done (countsOf n k)) × (editMoved b e ≡ 0)
   stays same =
       let count : k ≡ overflowCount n (at (edited (held b) e)) =
       sym
       (count-stays n (at (held b)) (at (edited (held b) e)) (e .slot) (p .inside) (edited-other (held b) e)
       (same ∙ ap (leb 255) (sym new-at))
       ∙ holds .count) in
-      edit-counted k count ∙ begin-fits n k b (p .checked .fits) .0
+      let is = edit-counted k count ∙ begin-fits n k b (p .checked .fits) .0 in
+      (is, moved-done b e _ is ∙ moved-stays (held b) e same)
 
   -- the same of the buffer taken apart
   apart-done : (s : Summary) → editOutcome b e ≡ done s
@@ -106,27 +109,33 @@ module _ (b : List ℕ) (n k : ℕ) (bytes : Bytes b) (e : Edit) (p : EditAt b n
   apart-done s is = ap (λ (l : List ℕ). editOutcome l e) (sym (holds .apart)) ∙ is
 
   pub stays-inline : getD b (40 + e .slot) 0 < 255 → e .distance < 255
-      → (editOutcome b e ≡ done (countsOf n k)) × (editBuffer b e ≡ set b (40 + e .slot) (e .distance))
+      → (editOutcome b e ≡ done (countsOf n k))
+      × (editMoved b e ≡ 0)
+      × (editBuffer b e ≡ set b (40 + e .slot) (e .distance))
   stays-inline old new =
       let was = old-inline old in
       let is = stays (lt-leb 255 (at (held b) (e .slot)) was ∙ sym (lt-leb 255 (e .distance) new)) in (
-        is,
+        is .0,
+        is .1,
         ap (λ (l : List ℕ). editBuffer l e) (holds .apart)
-            ∙ edit-stays-inline (held b) (drop (fileLen n k) b) (holds .limits) e _ (apart-done _ is) was new
+            ∙ edit-stays-inline (held b) (drop (fileLen n k) b) (holds .limits) e _ (apart-done _ (is .0)) was new
             ∙ ap (λ (l : List ℕ). set l (40 + e .slot) (e .distance)) (sym (holds .apart)),
       )
 
   pub stays-overflow : getD b (40 + e .slot) 0 ≡ 255 → 255 ≤ e .distance
       → (j : ℕ) → j ≡ entriesBelow (fileParts b n k) (e .slot)
-      → (editOutcome b e ≡ done (countsOf n k)) × (editBuffer b e ≡ sets b (40 + n + 12 * j + 8) (le 4 (e .distance)))
+      → (editOutcome b e ≡ done (countsOf n k))
+      × (editMoved b e ≡ 0)
+      × (editBuffer b e ≡ sets b (40 + n + 12 * j + 8) (le 4 (e .distance)))
   stays-overflow old new j at-j =
       let was = old-overflow old in
       let is = stays (le-leb 255 (at (held b) (e .slot)) was ∙ sym (le-leb 255 (e .distance) new)) in
       let place : entryPlace (held b) (e .slot) + 8 ≡ 40 + n + 12 * j + 8 =
       omega (arith, holds .slots, at-j, below-count) in (
-        is,
+        is .0,
+        is .1,
         ap (λ (l : List ℕ). editBuffer l e) (holds .apart)
-            ∙ edit-stays-overflow (held b) (drop (fileLen n k) b) (holds .limits) e _ (apart-done _ is) was new
+            ∙ edit-stays-overflow (held b) (drop (fileLen n k) b) (holds .limits) e _ (apart-done _ (is .0)) was new
             ∙ ap₂ (λ (l : List ℕ) (i : ℕ). sets l i (le 4 (e .distance))) (sym (holds .apart)) place,
       )
 

@@ -1,7 +1,8 @@
 -- A slot that moves into or out of overflow, in place: header, primary byte and entries, then index and zeros.
 --   put-in          an entry written where those behind it were moved up
 --   SlotMoves       what follows for an edit that moves a slot:  few  the new file is within the limits;  answer  the
---                   editor's;  space  what the change asks for;  buffer  that its steps leave the editor's buffer
+--                   editor's;  space  what the change asks for;  entriesMoved  how many entries it moves;  buffer  that its
+--                   steps leave the editor's buffer
 --   slot-moves      an edit where the old and the new distance differ in being in overflow has all of it
 -- Axioms: none.
 use mathlib.Core.Path.{_≡_, refl, sym, ap, ap₂, _∙_}
@@ -18,9 +19,10 @@ use Rattle.pciv_bytes.specs.LittleEndian.{le, Bytes}
 use Rattle.pciv_bytes.proofs.LittleEndianLaws.{length-le}
 use Rattle.pciv_bytes.proofs.WriteLaws.{sets-append, set-behind, sets-behind, sets-first, sets-swap}
 use Rattle.pciv_format.specs.Layout.{fileLen, primaryByte, primary, overflowSlots, overflowCount}
-use Rattle.pciv_format.specs.Layout.{overflowEntry, overflowPart, indexPart, header, file, at, fileOf}
+use Rattle.pciv_format.specs.Layout.{overflowEntry, overflowPart, indexPart, header, file, countsOf, at, fileOf}
+use Rattle.pciv_format.specs.Refusals.{done}
 use Rattle.pciv_format.specs.Check.{fileParts}
-use Rattle.pciv_format.specs.Edit.{Edit, edited, replaced, editOutcome, editBuffer}
+use Rattle.pciv_format.specs.Edit.{Edit, edited, replaced, editOutcome, movedBy, editMoved, editBuffer}
 use Rattle.pciv_format.proofs.PartsLaws.{primaryByte-inline, primaryByte-overflow}
 use Rattle.pciv_format.proofs.LayoutLaws.{fileLen-is, length-header, length-primary, length-overflowPart}
 use Rattle.pciv_format.proofs.LayoutLaws.{length-file, overflowCount-le}
@@ -28,10 +30,12 @@ use Rattle.pciv_format.proofs.EditLaws.{edited-other, primary-edited, entries-i
 use Rattle.pciv_format.proofs.EditLaws.{count-below, count-inside}
 use Rattle.pciv_format.proofs.FrontLaws.{Holds}
 use Rattle.pciv_format.proofs.EditCaseLaws.{held, buffer-done, replaced-sets}
+use Rattle.pciv_format.proofs.MovedLaws.{above-inline, above-overflow, moved-into, moved-out, moved-done}
 use Rattle.pciv_map_lookup.specs.Lookup.{entriesBelow}
 use Rattle.pciv_build.specs.Build.{beginOutcome}
 use Rattle.pciv_build.proofs.BuildLaws.{begin-fits, built}
-use Rattle.pciv_slot.specs.Change.{entryAt, newCount, putIn, takenOut, changed, finished, EditAt, Changes}
+use Rattle.pciv_slot.specs.Change.{entryAt, newCount, aboveCount, putIn, takenOut, changed, finished}
+use Rattle.pciv_slot.specs.Change.{EditAt, Changes}
 use Rattle.pciv_slot.proofs.CaseLaws.{holds, new-at, file-edited, old-inline, old-overflow}
 use Rattle.pciv_slot.proofs.CaseLaws.{below-count, edit-counted}
 
@@ -101,6 +105,8 @@ pub record SlotMoves (b : List ℕ) (n k : ℕ) (e : Edit) (count : ℕ) : Type 
   pub answer : editOutcome b e ≡ beginOutcome n count (length b)
   pub space : (j : ℕ) → j ≡ entriesBelow (fileParts b n k) (e .slot) → fileLen n count ≤ length b
       → Changes (length b) n k j (e .slot) (e .distance)
+  pub entriesMoved : (j : ℕ) → j ≡ entriesBelow (fileParts b n k) (e .slot) → fileLen n count ≤ length b
+      → editMoved b e ≡ aboveCount k j (e .distance)
   -- d₁: header, byte and entries are changed; d₂: so are the index and what is left behind it
   pub buffer : (j : ℕ) (d₁ d₂ : List ℕ) → j ≡ entriesBelow (fileParts b n k) (e .slot) → fileLen n count ≤ length b
       → d₁ ≡ changed (sets b 0 (header n count)) n k j (e .slot) (e .distance)
@@ -308,6 +314,22 @@ module _ (b : List ℕ) (n k : ℕ) (bytes : Bytes b) (e : Edit) (p : EditAt b n
               (omega (arith, low-le), omega arith));
         }
 
+    -- the old entries around the slot
+    entries-moved : (j : ℕ) → j ≡ entriesBelow (fileParts b n k) (e .slot)
+        → movedBy (held b) e ≡ aboveCount k j (e .distance)
+    entries-moved j found =
+        let low = found ∙ below-count b n k bytes e p in
+        let slots = there .slots in
+        let inside : e .slot < length (held b) = omega (arith, p .inside) in
+        let all : overflowCount (length (held b)) v ≡ k = rw slots (there .count) in
+        by-case
+        (λ was h.
+        rw (lt-ltb (e .distance) 255 h)
+        (omega (arith, moved-out (held b) e was h, above-overflow (held b) (e .slot) inside was)))
+        (λ was h.
+        rw (le-ltb (e .distance) 255 h)
+        (omega (arith, moved-into (held b) e was h, above-inline (held b) (e .slot) inside was)))
+
     moved-file : (j : ℕ) (d : List ℕ) → j ≡ entriesBelow (fileParts b n k) (e .slot) → fileLen n count ≤ length b
         → d ≡ changed (sets b 0 (header n count)) n k j (e .slot) (e .distance)
         → finished d n k count ≡ replaced b (held b) (edited (held b) e)
@@ -330,12 +352,15 @@ module _ (b : List ℕ) (n k : ℕ) (bytes : Bytes b) (e : Edit) (p : EditAt b n
     pub slot-moves : SlotMoves b n k e count
     slot-moves =
         let answer = edit-counted b n k bytes e p count moved-count in
+        let accepted : fileLen n count ≤ length b → editOutcome b e ≡ done (countsOf n count) =
+        λ fits. answer ∙ begin-fits n count b fits .0 in
         record {
           few = moved-few;
           answer = answer;
           space = moved-space;
+          entriesMoved = λ j found fits. moved-done b e _ (accepted fits) ∙ entries-moved j found;
           buffer = λ j d₁ d₂ found fits is-changed finished.
               (finished
               ∙ moved-file j d₁ found fits is-changed
-              ∙ sym (buffer-done b e _ (answer ∙ begin-fits n count b fits .0)));
+              ∙ sym (buffer-done b e _ (accepted fits)));
         }

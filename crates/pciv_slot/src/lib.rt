@@ -9,8 +9,8 @@ ghost use lib.Dec.{eqb, ltb};
 ghost use Rattle.pciv_format.specs.Layout.{maxSlots, countsOf};
 ghost use Rattle.pciv_format.specs.Refusals.{done, refuse};
 ghost use Rattle.pciv_format.specs.Check.{CheckedMap};
-ghost use Rattle.pciv_format.specs.Edit.{editOutcome, editAnswer, editBuffer};
-ghost use Rattle.pciv_slot.specs.Change.{newCount, EditAt};
+ghost use Rattle.pciv_format.specs.Edit.{editOutcome, editMoved, editAnswer, editBuffer};
+ghost use Rattle.pciv_slot.specs.Change.{newCount, aboveCount, EditAt};
 use crate::change::change_entries;
 use crate::change::finish_change;
 use pciv_build::put_header;
@@ -26,46 +26,70 @@ use pciv_layout::refusals::refuse_file;
 use pciv_layout::summary_of;
 use pciv_map_lookup::entry_of;
 
-// The slot is changed, and the file has n slots and k overflow entries now.
-fn edited(n: usize, k: usize) -> EditAnswer
+// The slot is changed, the file has n slots and k overflow entries now, and `moved` entries have another number.
+fn edited(n: usize, k: usize, moved: usize) -> EditAnswer
     requires { ⌜ (n ≤ maxSlots) × (k ≤ n) ⌝ }
-    ensures { λ r. ⌜ r ≡ editAnswer (done (countsOf n k)) ⌝ }
+    ensures { λ r. ⌜ r ≡ editAnswer (done (countsOf n k)) moved ⌝ }
 {
     EditAnswer {
         outcome: FileAnswer::Done(summary_of(n, k)),
+        moved,
     }
 }
 
-// A refusal, which concerns no map.
+// The same where the slot stays inline or in overflow: no entry gets another number.
+fn stayed(n: usize, k: usize) -> EditAnswer
+    requires { ⌜ (n ≤ maxSlots) × (k ≤ n) ⌝ }
+    ensures { λ r. ⌜ r ≡ editAnswer (done (countsOf n k)) 0 ⌝ }
+{
+    edited(n, k, 0)
+}
+
+// A refusal, which concerns no map; no entry is moved.
 fn refused(number: usize) -> EditAnswer
-    ensures { λ r. ⌜ r ≡ editAnswer (refuse number 0 0) ⌝ }
+    ensures { λ r. ⌜ r ≡ editAnswer (refuse number 0 0) 0 ⌝ }
 {
     EditAnswer {
         outcome: refuse_file(number, 0, 0),
+        moved: 0,
     }
+}
+
+// How many of the k old entries have a larger slot than the edited one, which goes into or out of overflow: j have a
+// smaller one, and where the new distance is inline, entry j is the slot's own.
+fn above_count(k: usize, j: usize, distance: u32) -> usize
+    requires { ⌜ (distance < 255 → j < k) × (255 ≤ distance → j ≤ k) ⌝ }
+    ensures { λ r. ⌜ r ≡ aboveCount k j distance ⌝ }
+{
+    if distance < SENTINEL as u32 {
+        return k - j - 1;
+    }
+    k - j
 }
 
 // Inline before and after: one byte.
 fn stay_inline(buffer: &mut [u8], n: usize, k: usize, slot: usize, distance: u32) -> EditAnswer
     requires { ⌜ EditAt (now buffer) n k slot ⌝ }
     requires { ⌜ (getD (now buffer) (40 + slot) 0 < 255) × (distance < 255) ⌝ }
-    ensures answer { λ r. ⌜ r ≡ editAnswer (editOutcome (now (buffer .entry)) (record { slot = slot; distance = distance })) ⌝ }
+    ensures answer { λ r. ⌜ r ≡ editAnswer (editOutcome (now (buffer .entry)) (record { slot = slot; distance = distance }))
+        (editMoved (now (buffer .entry)) (record { slot = slot; distance = distance })) ⌝ }
     ensures buffer { λ _. ⌜ now (buffer .exit) ≡ editBuffer (now (buffer .entry)) (record { slot = slot; distance = distance }) ⌝ }
 {
     buffer[HEADER_LEN + slot] = distance as u8;
-    edited(n, k)
+    stayed(n, k)
 }
 
 // In overflow before and after: the four distance bytes of its entry.
 fn stay_in_overflow(buffer: &mut [u8], n: usize, k: usize, slot: usize, distance: u32) -> EditAnswer
     requires { ⌜ EditAt (now buffer) n k slot ⌝ }
     requires { ⌜ (getD (now buffer) (40 + slot) 0 ≡ 255) × (255 ≤ distance) ⌝ }
-    ensures answer { λ r. ⌜ r ≡ editAnswer (editOutcome (now (buffer .entry)) (record { slot = slot; distance = distance })) ⌝ }
+    ensures answer { λ r. ⌜ r ≡ editAnswer (editOutcome (now (buffer .entry)) (record { slot = slot; distance = distance }))
+        (editMoved (now (buffer .entry)) (record { slot = slot; distance = distance })) ⌝ }
     ensures buffer { λ _. ⌜ now (buffer .exit) ≡ editBuffer (now (buffer .entry)) (record { slot = slot; distance = distance }) ⌝ }
 {
     let j = entry_of(buffer, n, k, slot);
     put32(buffer, HEADER_LEN + n + 12 * j + 8, distance);
-    edited(n, k)
+    stayed(n, k)
 }
 
 // The slot moves into or out of overflow, after which there are `count` entries: refusal 12, or the header, the slot's
@@ -80,7 +104,8 @@ fn move_slot(
 ) -> EditAnswer
     requires { ⌜ EditAt (now buffer) n k slot ⌝ }
     requires { ⌜ (eqb (getD (now buffer) (40 + slot) 0) 255 ≡ ltb distance 255) × (count ≡ newCount k distance) ⌝ }
-    ensures answer { λ r. ⌜ r ≡ editAnswer (editOutcome (now (buffer .entry)) (record { slot = slot; distance = distance })) ⌝ }
+    ensures answer { λ r. ⌜ r ≡ editAnswer (editOutcome (now (buffer .entry)) (record { slot = slot; distance = distance }))
+        (editMoved (now (buffer .entry)) (record { slot = slot; distance = distance })) ⌝ }
     ensures buffer { λ _. ⌜ now (buffer .exit) ≡ editBuffer (now (buffer .entry)) (record { slot = slot; distance = distance }) ⌝ }
 {
     if buffer.len() < file_len(n, count) {
@@ -90,13 +115,14 @@ fn move_slot(
     put_header(buffer, n, count);
     change_entries(buffer, n, k, j, slot, distance);
     finish_change(buffer, n, k, count);
-    edited(n, count)
+    edited(n, count, above_count(k, j, distance))
 }
 
 // One edit, with no check of the file: refusals 9, then 12.
 pub fn edit_checked(buffer: &mut [u8], n: usize, k: usize, slot: usize, distance: u32) -> EditAnswer
     requires { ⌜ CheckedMap (now buffer) n k ⌝ }
-    ensures answer { λ r. ⌜ r ≡ editAnswer (editOutcome (now (buffer .entry)) (record { slot = slot; distance = distance })) ⌝ }
+    ensures answer { λ r. ⌜ r ≡ editAnswer (editOutcome (now (buffer .entry)) (record { slot = slot; distance = distance }))
+        (editMoved (now (buffer .entry)) (record { slot = slot; distance = distance })) ⌝ }
     ensures buffer { λ _. ⌜ now (buffer .exit) ≡ editBuffer (now (buffer .entry)) (record { slot = slot; distance = distance }) ⌝ }
 {
     if n <= slot {

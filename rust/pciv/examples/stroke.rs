@@ -61,15 +61,17 @@ fn stroke(map: &OsStr, distance: u32, out: &OsStr) -> Result<(), Box<dyn Error>>
     let mut options = fs::File::options();
     options.read(true).write(true).create_new(true);
     let target = options.open(&copy).map_err(|error| named(&copy, error))?;
-    let painted = paint(&target, n, &file, &slots).and_then(|summary| {
+    let painted = paint(&target, n, &file, &slots).and_then(|edited| {
         fs::rename(&copy, out)?;
-        Ok(summary)
+        Ok(edited)
     });
     if painted.is_err() {
         let _ = fs::remove_file(&copy);
     }
-    let pciv::Summary { k, len, .. } = painted?;
-    println!("{} edits: {k} in overflow, {len} bytes", slots.len());
+    let pciv::Edited { summary, moved } = painted?;
+    let pciv::Summary { k, len, .. } = summary;
+    let edits = slots.len();
+    println!("{edits} edits: {k} in overflow, {len} bytes, {moved} entries moved");
     Ok(())
 }
 
@@ -77,26 +79,28 @@ fn named(file: &OsStr, what: impl std::fmt::Display) -> String {
     format!("{}: {what}", file.display())
 }
 
-/// Copies the map of `n` slots to a file, and edits it there.
+/// Copies the map of `n` slots to a file, and edits it there. Answers what all edits have done.
 fn paint(
     target: &fs::File,
     n: u64,
     file: &[u8],
     slots: &[u64],
-) -> Result<pciv::Summary, Box<dyn Error>> {
+) -> Result<pciv::Edited, Box<dyn Error>> {
     let mut mapping = Mapping::new(target, pciv::longest_file(n))?;
     let buffer = mapping.bytes();
     buffer[..file.len()].copy_from_slice(file);
     let mut answers = vec![pciv::EditAnswer::default(); slots.len()];
     pciv::edit_list(buffer, slots, &vec![400; slots.len()], &mut answers)?;
-    let mut summary = pciv::check(file)?;
+    let (mut summary, mut moved) = (pciv::check(file)?, 0);
     for answer in &answers {
-        summary = answer.result()?;
+        let edited = answer.result()?;
+        summary = edited.summary;
+        moved += edited.moved;
     }
     drop(mapping);
     target.set_len(summary.len)?;
     target.sync_all()?;
-    Ok(summary)
+    Ok(pciv::Edited { summary, moved })
 }
 
 /// The front of a file as memory, written back to it.

@@ -6,7 +6,7 @@
 /// let map = include_bytes!("../../../examples/map-a.pciv");
 /// let mut buffer = map.to_vec();
 /// buffer.resize(pciv::longest_file(pciv::check(map)?.n), 0);
-/// assert_eq!(pciv::edit(&mut buffer, 0, 1000)?.len, 80);
+/// assert_eq!(pciv::edit(&mut buffer, 0, 1000)?.summary.len, 80);
 /// # Ok::<(), pciv::Refusal>(())
 /// ```
 pub const fn longest_file(n: u64) -> usize {

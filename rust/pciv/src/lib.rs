@@ -8,7 +8,7 @@
 //! What measures a caller's slice is a `usize`: how many elements a call has written to it, how many
 //! it needs ([`mask_len`], [`file_len`], [`longest_file`]). What is said of a map is a `u64`, as in
 //! its file and in C: slots, overflow entries, their number, sums, places, and the fields of the
-//! structs with C's layout, which are all but [`Located`]. Distances are `u32`.
+//! structs with C's layout, which are all but [`Located`] and [`Edited`]. Distances are `u32`.
 //!
 //! ```
 //! let file = include_bytes!("../../../examples/map-a.pciv");
@@ -42,7 +42,7 @@ mod refusal;
 mod write;
 
 pub use arith::{difference, maximum, minimum, shift, signed_difference, sum_maps};
-pub use edit::{edit, edit_list, EditAnswer, ANSWER_LEN};
+pub use edit::{edit, edit_list, EditAnswer, Edited, ANSWER_LEN};
 pub use figures::{bray_curtis, jaccard};
 pub use length::{file_len, longest_file};
 pub use mask::{

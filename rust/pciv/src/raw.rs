@@ -1,8 +1,8 @@
 //! The functions of `include/pciv.h` over slices, one to one.
 //!
 //! Each answers the refusal's number and writes its outcome to the places passed to it, as the
-//! header says: `refusal` always, every other place only when the call is done. The functions of
-//! the crate's root are the convenient form.
+//! header says: `refusal`, and `moved` of an edit, always; every other place only when the call is
+//! done. The functions of the crate's root are the convenient form.
 
 #![allow(unsafe_code)]
 
@@ -158,6 +158,7 @@ mod c {
             slot: u64,
             distance: u32,
             summary: *mut Summary,
+            moved: *mut u64,
             refusal: *mut Refusal,
         ) -> u64;
         pub fn pciv_edit_list(
@@ -659,6 +660,7 @@ pub fn edit(
     slot: u64,
     distance: u32,
     summary: &mut Summary,
+    moved: &mut u64,
     refusal: &mut Refusal,
 ) -> u64 {
     unsafe {
@@ -668,6 +670,7 @@ pub fn edit(
             slot,
             distance,
             summary,
+            moved,
             refusal,
         )
     }

@@ -3,7 +3,7 @@
 
 use crate::judge::Judge;
 use compare::rng::Rng;
-use pciv::{Located, Origin, Refusal, Summary};
+use pciv::{Edited, Located, Origin, Refusal, Summary};
 use std::fmt::{self, Debug, Display};
 use std::ops::Range;
 
@@ -36,8 +36,13 @@ impl Display for Call {
 }
 
 /// What stands in results and buffers before a call; no two neighbours are the same.
-pub trait Dirty: PartialEq + Debug {
+pub trait Dirty: PartialEq + Debug + Sized {
     fn dirty(i: usize) -> Self;
+
+    /// What a refused call leaves of a result: what stood there.
+    fn refused() -> Self {
+        Self::dirty(0)
+    }
 }
 
 impl Dirty for u8 {
@@ -93,6 +98,22 @@ impl Dirty for Located {
     }
 }
 
+/// Of an edit the number of entries moved is always written.
+impl Dirty for Edited {
+    fn dirty(i: usize) -> Edited {
+        let (summary, moved) = (Summary::dirty(i), u64::dirty(i + 5));
+        Edited { summary, moved }
+    }
+
+    fn refused() -> Edited {
+        let moved = 0;
+        Edited {
+            moved,
+            ..Edited::dirty(0)
+        }
+    }
+}
+
 /// An answer of the reference, or one that is written down.
 pub type Answer<T> = Result<T, reference::Refusal>;
 
@@ -100,6 +121,12 @@ pub type Answer<T> = Result<T, reference::Refusal>;
 pub fn summary_of(summary: reference::Summary) -> Summary {
     let reference::Summary { n, k, m, step, len } = summary;
     Summary { n, k, m, step, len }
+}
+
+/// What an edit of the reference has done in the library's type.
+pub fn edited_of(edited: reference::Edited) -> Edited {
+    let (summary, moved) = (summary_of(edited.summary), edited.moved);
+    Edited { summary, moved }
 }
 
 /// The reference's distance with its origin in the library's type.
@@ -166,7 +193,7 @@ fn expected<T: Dirty>(answer: Answer<T>) -> Outcome<T> {
         Err(reference::Refusal { number, map, place }) => Outcome {
             number,
             refusal: Refusal { number, map, place },
-            result: T::dirty(0),
+            result: T::refused(),
         },
     }
 }

@@ -1,13 +1,15 @@
 //! Cases about edits: runs of edits one by one and as a list, against the reference's editor, which
 //! rewrites the file, and against the plain editor, which keeps a list.
 
-use crate::call::{summary_of, Call, Dirty, Guarded};
+use crate::call::{edited_of, Call, Dirty, Guarded};
+use crate::damage::ends_and_middle;
 use crate::files::encode;
 use crate::judge::Judge;
+use crate::routines::and_beside;
 use crate::run::{Run, Subject};
 use compare::lists::{self, Spread};
 use compare::rng::Rng;
-use pciv::raw;
+use pciv::{raw, Edited};
 use reference::{file_len, PlainEditor, ANSWER_LEN, HEADER_LEN};
 
 /// All groups of such cases.
@@ -17,6 +19,7 @@ pub fn run_all(run: &mut Run) {
     long_runs(run);
     overflow_counts(run);
     shorter_needs_more(run);
+    moved_entries(run);
     lists_of_unequal_length(run);
     largest_map(run);
 }
@@ -130,11 +133,14 @@ pub fn compare_edit(judge: &mut Judge, buffer: &[u8], slot: u64, distance: u32) 
     let call = Call::new("edit", format!(" of slot {slot} to {distance}"));
     let mut wanted = Guarded::with(buffer);
     let mut got = wanted.clone();
-    let answer = reference::edit(wanted.contents_mut(), slot, distance).map(summary_of);
-    judge.value(&call, answer, |summary, refusal| {
-        raw::edit(got.contents_mut(), slot, distance, summary, refusal)
+    let answer = reference::edit(wanted.contents_mut(), slot, distance).map(edited_of);
+    judge.value(&call, answer, |Edited { summary, moved }, refusal| {
+        let buffer = got.contents_mut();
+        raw::edit(buffer, slot, distance, summary, moved, refusal)
     });
     judge.same_guarded(&call, "buffer", &wanted, &got);
+    let done = answer.map(|Edited { summary, moved }| (summary.k, moved));
+    judge.moves(call.routine, buffer, [(distance, done.ok())].into_iter());
     got.contents().to_vec()
 }
 
@@ -172,6 +178,17 @@ pub fn compare_list(
     });
     judge.same_guarded(&call, "buffer", &wanted.0, &got.0);
     judge.same_guarded(&call, "answers", &wanted.1, &got.1);
+    let answers = wanted.1.contents().chunks_exact(ANSWER_LEN);
+    let done = answers.map(|answer| (answer[0] == 0).then_some((answer[4], answer[8])));
+    judge.moves(
+        call.routine,
+        buffer,
+        distances
+            .iter()
+            .copied()
+            .zip(done)
+            .take(answer.unwrap_or(0) as usize),
+    );
 }
 
 /// A distance to edit to: inline, in overflow, or at a border.
@@ -277,9 +294,7 @@ fn shorter_needs_more(run: &mut Run) {
         for (inner, spread) in lists::SPREADS.into_iter().enumerate() {
             run.case("an entry fewer", 3 * number + inner, |rng| {
                 let list = lists::with_overflow(rng, 5_000, 4_097, spread);
-                let entries: Vec<u64> = (0..5_000)
-                    .filter(|&slot| list[slot as usize] >= 255)
-                    .collect();
+                let entries = overflow_slots(&list);
                 let slot = rng.pick(&entries);
                 Edits {
                     list,
@@ -290,6 +305,59 @@ fn shorter_needs_more(run: &mut Run) {
             });
         }
     }
+}
+
+/// The slots in overflow.
+fn overflow_slots(list: &[u32]) -> Vec<u64> {
+    let slots = (0..).zip(list);
+    slots
+        .filter(|(_, &distance)| distance >= 255)
+        .map(|(slot, _)| slot)
+        .collect()
+}
+
+/// Edits into and out of overflow, there and back, on maps with few and many entries, some without
+/// other slots. In an exact buffer an edit that makes the file longer is refused.
+fn moved_entries(run: &mut Run) {
+    let mut number = 0;
+    for k in [0, 1, 2, 3].into_iter().chain(lists::STEP_BORDERS) {
+        for inline in [0, 1, 300] {
+            for spread in lists::SPREADS {
+                for extra in [0, 40_000] {
+                    run.case("entries that edits move", number, |rng| {
+                        let list = lists::with_overflow(rng, k + inline, k, spread);
+                        let (slots, distances) = there_and_back(&list);
+                        Edits {
+                            capacity: encode(&list).len() + extra,
+                            list,
+                            slots,
+                            distances,
+                        }
+                    });
+                    number += 1;
+                }
+            }
+        }
+    }
+}
+
+/// Both ends of a list, slots in overflow at both ends and in the middle, and those beside them: each
+/// goes into or out of overflow, and back. Then two slots beyond n.
+fn there_and_back(list: &[u32]) -> (Vec<u64>, Vec<u32>) {
+    let n = list.len() as u64;
+    let overflow = overflow_slots(list);
+    let telling = ends_and_middle(overflow.len()).into_iter();
+    let ends = [0, n.saturating_sub(1)].into_iter();
+    let slots = ends.chain(telling.map(|entry| overflow[entry]));
+    let mut slots: Vec<u64> = and_beside(slots, n).collect();
+    slots.sort_unstable();
+    slots.dedup();
+    let there_and_back = slots.into_iter().flat_map(|slot| {
+        let distance = list[slot as usize];
+        let there = if distance < 255 { 255 } else { 254 };
+        [(slot, there), (slot, distance)]
+    });
+    there_and_back.chain([(n, 255), (u64::MAX, 0)]).unzip()
 }
 
 /// Lists of slots and of distances with different lengths.
@@ -332,7 +400,7 @@ impl Subject for Unequal {
         } = self;
         let all = [distances.as_slice(), &[7; 12]].concat();
         for distances in [&distances[..], &all] {
-            let capacity = rng.pick(&[0, 72, 100]);
+            let capacity = rng.pick(&[0, 9 * ANSWER_LEN, 100]);
             compare_list(judge, buffer, slots, distances, capacity);
         }
     }

@@ -1,5 +1,6 @@
 //! Collects the verdicts of a run.
 
+use crate::moves::Moves;
 use crate::origins::Stored;
 use std::collections::HashSet;
 use std::fmt::{Debug, Display};
@@ -17,6 +18,8 @@ pub struct Judge {
     pub outcomes: HashSet<(&'static str, u64, u64)>,
     /// Where distances that were looked up are stored, by routine.
     pub stored: HashSet<(&'static str, Stored)>,
+    /// Which entries edits had to move, by routine.
+    pub moves: HashSet<(&'static str, Moves)>,
     /// Holds any file, for the reference alone.
     scratch: Vec<u8>,
 }

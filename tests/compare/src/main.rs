@@ -10,6 +10,7 @@ mod edits;
 mod files;
 mod judge;
 mod masks;
+mod moves;
 mod origins;
 mod pairs;
 mod parts;

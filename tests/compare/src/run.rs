@@ -1,7 +1,7 @@
 //! A run over all cases: picks them, counts them, concludes.
 
 use crate::judge::Judge;
-use crate::origins;
+use crate::{moves, origins};
 use compare::rng::{case_seed, Rng};
 use std::{env, process};
 
@@ -127,8 +127,12 @@ impl Run {
             return Some(format!("no call of {routine} gave {number} with map {map}"));
         }
         let missing = |stored: &_| !self.judge.stored.contains(stored);
-        let (routine, stored) = origins::all_stored().find(missing)?;
-        Some(format!("no call of {routine} found {stored:?}"))
+        if let Some((routine, stored)) = origins::all_stored().find(missing) {
+            return Some(format!("no call of {routine} found {stored:?}"));
+        }
+        let missing = |moves: &_| !self.judge.moves.contains(moves);
+        let (routine, moves) = moves::all_moves().find(missing)?;
+        Some(format!("no call of {routine} met {moves:?}"))
     }
 }
 

@@ -11,6 +11,7 @@ use crate::read_only::ReadOnly;
 use compare::lists;
 use compare::rng::Rng;
 use pciv::raw;
+use reference::ANSWER_LEN;
 
 /// A file that the library only reads, and the judge of its answers.
 pub struct Trial<'a> {
@@ -238,7 +239,7 @@ impl<'a> Trial<'a> {
         buffer.extend((0..tail).map(u8::dirty));
         edits::compare_edit(self.judge, &buffer, slot, distance);
         let (slots, distances) = ([slot, slot / 2], [distance, 255]);
-        edits::compare_list(self.judge, &buffer, &slots, &distances, 16);
+        edits::compare_list(self.judge, &buffer, &slots, &distances, 2 * ANSWER_LEN);
     }
 
     fn settle(&mut self, call: &Call) {

@@ -8,7 +8,7 @@ use crate::judge::Judge;
 use crate::run::{Run, Subject};
 use compare::lists::{self, SPREADS};
 use compare::rng::Rng;
-use pciv::{raw, Refusal, Summary, ANSWER_LEN};
+use pciv::{raw, Edited, Refusal, Summary, ANSWER_LEN};
 
 /// All groups of such cases.
 pub fn run_all(run: &mut Run) {
@@ -121,11 +121,51 @@ const A_SLOT_1_AT_255: &str = "
     02 00 00 00 00 00 00 00   FF 00 00 00
     03 00 00 00 00 00 00 00   2C 01 00 00";
 
+/// 0, 254, 255, 7, then the twelve zeros that the edit leaves.
+const A_SLOT_3_AT_7: &str = "
+    50 43 49 56 00 00 00 00   04 00 00 00 00 00 00 00
+    01 00 00 00 00 00 00 00   00 00 00 00 00 00 00 00
+    00 00 00 00 00 00 00 00   00 FE FF 07
+    02 00 00 00 00 00 00 00   FF 00 00 00
+    00 00 00 00 00 00 00 00   00 00 00 00";
+
+/// 0, 254, 255, 400.
+const A_SLOT_3_AT_400: &str = "
+    50 43 49 56 00 00 00 00   04 00 00 00 00 00 00 00
+    02 00 00 00 00 00 00 00   00 00 00 00 00 00 00 00
+    00 00 00 00 00 00 00 00   00 FE FF FF
+    02 00 00 00 00 00 00 00   FF 00 00 00
+    03 00 00 00 00 00 00 00   90 01 00 00";
+
+/// 300, 0, 300.
+const ENDS_IN_OVERFLOW: &str = "
+    50 43 49 56 00 00 00 00   03 00 00 00 00 00 00 00
+    02 00 00 00 00 00 00 00   00 00 00 00 00 00 00 00
+    00 00 00 00 00 00 00 00   FF 00 FF
+    00 00 00 00 00 00 00 00   2C 01 00 00
+    02 00 00 00 00 00 00 00   2C 01 00 00";
+
+/// 300, 255, 300.
+const ALL_IN_OVERFLOW: &str = "
+    50 43 49 56 00 00 00 00   03 00 00 00 00 00 00 00
+    03 00 00 00 00 00 00 00   00 00 00 00 00 00 00 00
+    00 00 00 00 00 00 00 00   FF FF FF
+    00 00 00 00 00 00 00 00   2C 01 00 00
+    01 00 00 00 00 00 00 00   FF 00 00 00
+    02 00 00 00 00 00 00 00   2C 01 00 00";
+
 fn bytes(hexadecimal: &str) -> Vec<u8> {
     let digits = hexadecimal.split_whitespace();
     digits
         .map(|byte| u8::from_str_radix(byte, 16).expect("two digits"))
         .collect()
+}
+
+/// A buffer of so many bytes: these, then dirty ones.
+fn buffer(hexadecimal: &str, len: usize) -> Vec<u8> {
+    let mut buffer = bytes(hexadecimal);
+    buffer.extend((buffer.len()..len).map(u8::dirty));
+    buffer
 }
 
 /// A row of the worked examples: its case in the document's words, and its calls.
@@ -139,7 +179,7 @@ const fn row(case: &'static str, calls: fn(&mut Judge)) -> Row {
     Row { case, calls }
 }
 
-const ROWS: [Row; 22] = [
+const ROWS: [Row; 24] = [
     row("empty map", empty_map),
     row("primary array of A", primary_of_a),
     row("overflow entries of A", entries_of_a),
@@ -209,7 +249,7 @@ const ROWS: [Row; 22] = [
             judge,
             &bytes(A),
             (2, 254),
-            Ok(of_four(1, 56)),
+            edited(of_four(1, 56), 1),
             &bytes(A_SLOT_2_AT_254),
         )
     }),
@@ -241,6 +281,23 @@ const ROWS: [Row; 22] = [
         }
     }),
     row("lookup of A at slots 3, 0, 3, 2", lookups_of_a),
+    row(
+        "overflow entries that edits of A move: slot 2 to 254; 1 to 255 in 80 / 79 bytes; 3 to 7; 3 to 400",
+        entries_moved_in_a,
+    ),
+    row(
+        "overflow entries that an edit of (300, 0, 300) moves: slot 1 to 255",
+        |judge| {
+            let summary = length(3, 3, 0, 0, 79);
+            edits(
+                judge,
+                &buffer(ENDS_IN_OVERFLOW, 79),
+                (1, 255),
+                edited(summary, 1),
+                &bytes(ALL_IN_OVERFLOW),
+            )
+        },
+    ),
 ];
 
 fn worked_examples(run: &mut Run) {
@@ -268,6 +325,10 @@ const fn of_four(k: u64, len: u64) -> Summary {
         step: 0,
         len,
     }
+}
+
+fn edited(summary: Summary, moved: u64) -> Answer<Edited> {
+    Ok(Edited { summary, moved })
 }
 
 fn refused<T>(number: u64, map: u64, place: u64) -> Answer<T> {
@@ -363,17 +424,29 @@ fn mask_at_least_255(judge: &mut Judge) {
 }
 
 fn edit_into_overflow(judge: &mut Judge) {
-    let mut buffer = bytes(A);
-    buffer.extend((68..79).map(u8::dirty));
-    edits(judge, &buffer, (1, 255), refused(12, 0, 0), &buffer);
-    buffer.push(u8::dirty(79));
+    let [short, enough] = [79, 80].map(|len| buffer(A, len));
+    edits(judge, &short, (1, 255), refused(12, 0, 0), &short);
     edits(
         judge,
-        &buffer,
+        &enough,
         (1, 255),
-        Ok(of_four(3, 80)),
+        edited(of_four(3, 80), 2),
         &bytes(A_SLOT_1_AT_255),
     );
+}
+
+fn entries_moved_in_a(judge: &mut Judge) {
+    let accepted = [
+        ((2, 254), edited(of_four(1, 56), 1), A_SLOT_2_AT_254),
+        ((1, 255), edited(of_four(3, 80), 2), A_SLOT_1_AT_255),
+        ((3, 7), edited(of_four(1, 56), 0), A_SLOT_3_AT_7),
+        ((3, 400), edited(of_four(2, 68), 0), A_SLOT_3_AT_400),
+    ];
+    for (edit, answer, after) in accepted {
+        edits(judge, &buffer(A, 80), edit, answer, &buffer(after, 80));
+    }
+    let short = buffer(A, 79);
+    edits(judge, &short, (1, 255), refused(12, 0, 0), &short);
 }
 
 fn bray_curtis(judge: &mut Judge) {
@@ -484,7 +557,7 @@ fn edits(
     judge: &mut Judge,
     buffer: &[u8],
     (slot, distance): (u64, u32),
-    answer: Answer<Summary>,
+    answer: Answer<Edited>,
     after: &[u8],
 ) {
     let with = format!(" of slot {slot} to {distance} in {} bytes", buffer.len());
@@ -492,15 +565,19 @@ fn edits(
 
     let call = Call::new("edit", with.clone());
     let mut got = Guarded::with(buffer);
-    judge.value(&call, answer, |summary, refusal| {
-        raw::edit(got.contents_mut(), slot, distance, summary, refusal)
+    judge.value(&call, answer, |Edited { summary, moved }, refusal| {
+        let buffer = got.contents_mut();
+        raw::edit(buffer, slot, distance, summary, moved, refusal)
     });
     judge.same_guarded(&call, "buffer", &wanted, &got);
 
     let call = Call::new("edit_list", with);
     let wanted_answers = Guarded::with(&match answer {
-        Ok(Summary { n, k, m, step, len }) => [0, 0, 0, n, k, m, step, len],
-        Err(reference::Refusal { number, map, place }) => [number, map, place, 0, 0, 0, 0, 0],
+        Ok(Edited { summary, moved }) => {
+            let Summary { n, k, m, step, len } = summary;
+            [0, 0, 0, n, k, m, step, len, moved]
+        }
+        Err(reference::Refusal { number, map, place }) => [number, map, place, 0, 0, 0, 0, 0, 0],
     });
     let (mut got, mut answers) = (Guarded::with(buffer), Guarded::dirty(ANSWER_LEN));
     judge.value(&call, Ok(1), |count, refusal| {
@@ -520,7 +597,7 @@ const LENGTHS: [Summary; 5] = [
     length(1_048_576, 1_048_576, 512, 2_048, 13_664_296),
 ];
 
-/// A row of it, in its order.
+/// The summary of a file, in the order of a row.
 const fn length(n: u64, k: u64, step: u64, m: u64, len: u64) -> Summary {
     Summary { n, k, m, step, len }
 }
@@ -577,20 +654,25 @@ impl Subject for Length {
     }
 }
 
-/// A list of 5,000 slots, 4,097 of them in overflow, and one of these.
+/// A list of 5,000 slots, 4,097 of them in overflow, and one of these, with so many behind it.
 struct EntryFewer {
     list: Vec<u32>,
     slot: usize,
+    behind: u64,
 }
 
 fn an_entry_fewer(run: &mut Run) {
     for (number, spread) in SPREADS.into_iter().enumerate() {
-        for (inner, place) in [0, 1, 2_048, 4_095, 4_096].into_iter().enumerate() {
+        for (inner, behind) in [4_096, 4_095, 2_048, 1, 0].into_iter().enumerate() {
             run.case("an entry fewer, a longer file", 5 * number + inner, |rng| {
                 let list = lists::with_overflow(rng, 5_000, 4_097, spread);
                 let mut slots = (0..5_000).filter(|&slot| list[slot] >= 255);
-                let slot = slots.nth(place).expect("4,097 slots in overflow");
-                EntryFewer { list, slot }
+                let slot = slots.nth_back(behind).expect("4,097 slots in overflow");
+                EntryFewer {
+                    list,
+                    slot,
+                    behind: behind as u64,
+                }
             });
         }
     }
@@ -602,7 +684,8 @@ impl Subject for EntryFewer {
     }
 
     /// 86,959 bytes are too few to go from 4,097 entries to 4,096, and 86,960 are enough. From
-    /// 4,096 to 4,097 the file becomes shorter, and the bytes up to the old length become 0.
+    /// 4,096 to 4,097 the file becomes shorter, and the bytes up to the old length become 0. Both
+    /// ways the entries behind that of the slot move.
     fn compare(&self, judge: &mut Judge, _: &mut Rng) {
         let mut list = self.list.clone();
         let (slot, distance) = (self.slot as u64, list[self.slot]);
@@ -615,7 +698,13 @@ impl Subject for EntryFewer {
         buffer.extend((76_060..86_959).map(u8::dirty));
         edits(judge, &buffer, (slot, 254), refused(12, 0, 0), &buffer);
         buffer.push(u8::dirty(86_959));
-        edits(judge, &buffer, (slot, 254), Ok(summary_4096), &with_4096);
+        edits(
+            judge,
+            &buffer,
+            (slot, 254),
+            edited(summary_4096, self.behind),
+            &with_4096,
+        );
 
         let mut after = with_4097;
         after.resize(86_960, 0);
@@ -623,7 +712,7 @@ impl Subject for EntryFewer {
             judge,
             &with_4096,
             (slot, distance),
-            Ok(summary_4097),
+            edited(summary_4097, self.behind),
             &after,
         );
     }

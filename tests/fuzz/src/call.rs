@@ -5,7 +5,7 @@ use crate::entry;
 use crate::fence::{Fenced, Plain};
 use crate::input::Input;
 use crate::routines::ROUTINES;
-use pciv::{Refusal, Summary};
+use pciv::{Edited, Refusal, Summary};
 use std::env;
 use std::fmt::Debug;
 
@@ -21,6 +21,11 @@ const MARGIN: usize = 8;
 /// What stands in results and buffers before a call.
 pub trait Dirty: PartialEq + Debug + Copy {
     fn dirty(i: usize) -> Self;
+
+    /// What a refused call leaves of a result: what stood there.
+    fn refused() -> Self {
+        Self::dirty(0)
+    }
 }
 
 impl Dirty for u8 {
@@ -58,6 +63,22 @@ impl Dirty for Summary {
 impl Dirty for (u32, u64) {
     fn dirty(i: usize) -> (u32, u64) {
         (u32::dirty(i), u64::dirty(i + 1))
+    }
+}
+
+/// Of an edit the number of entries moved is always written.
+impl Dirty for Edited {
+    fn dirty(i: usize) -> Edited {
+        let (summary, moved) = (Summary::dirty(i), u64::dirty(i + 5));
+        Edited { summary, moved }
+    }
+
+    fn refused() -> Edited {
+        let moved = 0;
+        Edited {
+            moved,
+            ..Edited::dirty(0)
+        }
     }
 }
 
@@ -236,6 +257,12 @@ pub fn summary_of(summary: reference::Summary) -> Summary {
     Summary { n, k, m, step, len }
 }
 
+/// What an edit of the reference has done in the library's type.
+pub fn edited_of(edited: reference::Edited) -> Edited {
+    let (summary, moved) = (summary_of(edited.summary), edited.moved);
+    Edited { summary, moved }
+}
+
 /// What a call writes beside lists, between numbers that must survive it.
 #[derive(Debug, PartialEq)]
 #[repr(C)]
@@ -264,7 +291,7 @@ impl<T: Dirty> Cells<T> {
         let (result, refusal) = match answer {
             Ok(result) => (result, Refusal::default()),
             Err(reference::Refusal { number, map, place }) => {
-                (T::dirty(0), Refusal { number, map, place })
+                (T::refused(), Refusal { number, map, place })
             }
         };
         let cells = Cells {

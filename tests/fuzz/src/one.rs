@@ -1,10 +1,10 @@
 //! The routines on one file.
 
-use crate::call::{dirty, summary_of, Answer, Bench, NONE};
+use crate::call::{dirty, edited_of, summary_of, Answer, Bench, NONE};
 use crate::files::{claimed_slots, file};
 use crate::input::Input;
 use crate::masks::mask;
-use pciv::{raw, Refusal, Summary};
+use pciv::{raw, Edited, Refusal, Summary};
 use reference::{mask_len, Comparison, ANSWER_LEN, HEADER_LEN};
 
 pub fn check(bench: &mut Bench, input: &mut Input) {
@@ -200,8 +200,10 @@ pub fn edit(bench: &mut Bench, input: &mut Input) {
         buffer = bench.call(
             (NONE, NONE, NONE),
             (&buffer, NONE),
-            |_, (buffer, _)| reference::edit(buffer, slot, distance).map(summary_of),
-            |_, (buffer, _), summary, refusal| raw::edit(buffer, slot, distance, summary, refusal),
+            |_, (buffer, _)| reference::edit(buffer, slot, distance).map(edited_of),
+            |_, (buffer, _), Edited { summary, moved }, refusal| {
+                raw::edit(buffer, slot, distance, summary, moved, refusal)
+            },
         );
     }
 }

@@ -6,9 +6,18 @@ use crate::layout::{HEADER_LEN, OVERFLOW_ENTRY_LEN, SENTINEL};
 use crate::write::{encode, is_overflow, write_parts};
 use crate::{file_len, require_capacity, Map, Refusal, Summary};
 
+/// What an edit has done.
+#[derive(Clone, Copy, Debug, PartialEq, Eq)]
+pub struct Edited {
+    /// The summary of the new file.
+    pub summary: Summary,
+    /// How many overflow entries of other slots have another number in it than in the old one.
+    pub moved: u64,
+}
+
 /// Sets `slot` to `distance` in the file at the front of `buffer`. Refusals 1 to 8, then 9, 12.
-/// Answers the new summary. What a shorter file leaves free becomes 0.
-pub fn edit(buffer: &mut [u8], slot: u64, distance: u32) -> Result<Summary, Refusal> {
+/// What a shorter file leaves free becomes 0.
+pub fn edit(buffer: &mut [u8], slot: u64, distance: u32) -> Result<Edited, Refusal> {
     let map = Map::open_front(buffer)?;
     let old = map.summary();
     if slot >= old.n {
@@ -25,37 +34,60 @@ pub fn edit(buffer: &mut [u8], slot: u64, distance: u32) -> Result<Summary, Refu
         (false, true) => {
             let mut entries: Vec<Entry> = map.entries().collect();
             entries.insert(entries_before(), Entry { slot, distance });
-            return rewrite(buffer, &old, slot, SENTINEL, &entries);
+            return rewrite(buffer, old, slot, SENTINEL, &entries);
         }
         (true, false) => {
             let mut entries: Vec<Entry> = map.entries().collect();
             entries.remove(entries_before());
-            return rewrite(buffer, &old, slot, distance as u8, &entries);
+            return rewrite(buffer, old, slot, distance as u8, &entries);
         }
     }
-    Ok(old)
+    Ok(Edited {
+        summary: old,
+        moved: 0,
+    })
 }
 
 /// Writes the file with one other primary byte and other entries in the place of the old one.
 fn rewrite(
     buffer: &mut [u8],
-    old: &Summary,
+    old: Summary,
     slot: u64,
     byte: u8,
     entries: &[Entry],
-) -> Result<Summary, Refusal> {
+) -> Result<Edited, Refusal> {
+    let old_slots = entry_slots(buffer, old);
     let mut primary = buffer[HEADER_LEN..HEADER_LEN + old.n as usize].to_vec();
     primary[slot as usize] = byte;
     let new = write_parts(&primary, entries.iter().copied(), buffer)?;
     if new.len < old.len {
         buffer[new.len as usize..old.len as usize].fill(0);
     }
-    Ok(new)
+    Ok(Edited {
+        summary: new,
+        moved: count_moved(&old_slots, &entry_slots(buffer, new)),
+    })
+}
+
+/// The slots of the entries of the file at the front of a buffer.
+fn entry_slots(buffer: &[u8], counts: Summary) -> Vec<u64> {
+    let file = Map::split(&buffer[..counts.len as usize], counts);
+    file.entries().map(|entry| entry.slot).collect()
+}
+
+/// How many entries of other slots have another number than before: a walk over the slots of all
+/// entries, those of the old file and those of the new one. The edited slot is in one of the lists
+/// alone. So the shorter list has the other slots and no more; those that stand at the same place in
+/// both lists have kept their number.
+fn count_moved(old: &[u64], new: &[u64]) -> u64 {
+    let others = old.len().min(new.len());
+    let kept = old.iter().zip(new).filter(|(old, new)| old == new).count();
+    (others - kept) as u64
 }
 
 /// How many numbers tell the answer to one edit of a list: those of the refusal, then those of the
-/// summary.
-pub const ANSWER_LEN: usize = 8;
+/// summary, then how many entries have moved.
+pub const ANSWER_LEN: usize = 9;
 
 /// Makes the edits `slots[j]` to `distances[j]` in order on the file at the front of `buffer`, by
 /// the plain editor; the answer to each goes to `answers`. Refusals 1 to 8, 9 with the first
@@ -82,17 +114,21 @@ pub fn edit_list(
     Ok(slots.len() as u64)
 }
 
-fn answer_numbers(answer: Result<Summary, Refusal>) -> [u64; ANSWER_LEN] {
+fn answer_numbers(answer: Result<Edited, Refusal>) -> [u64; ANSWER_LEN] {
     match answer {
-        Ok(Summary { n, k, m, step, len }) => [0, 0, 0, n, k, m, step, len],
-        Err(Refusal { number, map, place }) => [number, map, place, 0, 0, 0, 0, 0],
+        Ok(Edited { summary, moved }) => {
+            let Summary { n, k, m, step, len } = summary;
+            [0, 0, 0, n, k, m, step, len, moved]
+        }
+        Err(Refusal { number, map, place }) => [number, map, place, 0, 0, 0, 0, 0, 0],
     }
 }
 
-/// The plain editor: a list, the capacity of the buffer, and the length of the longest file yet.
+/// The plain editor: a list, its slots in overflow in rising order, the capacity of the buffer, and
+/// the length of the longest file yet.
 pub struct PlainEditor {
     list: Vec<u32>,
-    k: u64,
+    overflow: Vec<u32>,
     capacity: usize,
     filled: usize,
 }
@@ -100,12 +136,16 @@ pub struct PlainEditor {
 impl PlainEditor {
     /// An editor that starts from a list of at most 1,048,576 distances.
     pub fn new(list: Vec<u32>, capacity: usize) -> PlainEditor {
-        let k = list.iter().filter(|&&d| is_overflow(d)).count() as u64;
+        let slots = (0u32..).zip(&list);
+        let overflow: Vec<u32> = slots
+            .filter(|(_, &distance)| is_overflow(distance))
+            .map(|(slot, _)| slot)
+            .collect();
         PlainEditor {
-            k,
             capacity,
-            filled: file_len(list.len() as u64, k) as usize,
+            filled: file_len(list.len() as u64, overflow.len() as u64) as usize,
             list,
+            overflow,
         }
     }
 
@@ -115,19 +155,36 @@ impl PlainEditor {
     }
 
     /// One edit. Refusals 9, 12.
-    pub fn edit(&mut self, slot: u64, distance: u32) -> Result<Summary, Refusal> {
+    pub fn edit(&mut self, slot: u64, distance: u32) -> Result<Edited, Refusal> {
         let n = self.list.len() as u64;
         if slot >= n {
             return Err(Refusal::of_call(9, 0));
         }
         let place = &mut self.list[slot as usize];
-        let without = self.k - u64::from(is_overflow(*place));
-        let new = Summary::of(n, without + u64::from(is_overflow(distance)));
-        require_capacity(new.len as usize, self.capacity)?;
+        let [was, is] = [*place, distance].map(is_overflow);
+        let k = self.overflow.len() as u64 - u64::from(was) + u64::from(is);
+        let summary = Summary::of(n, k);
+        require_capacity(summary.len as usize, self.capacity)?;
         *place = distance;
-        self.k = new.k;
-        self.filled = self.filled.max(new.len as usize);
-        Ok(new)
+        self.filled = self.filled.max(summary.len as usize);
+        let moved = if was == is { 0 } else { self.renumber(slot) };
+        Ok(Edited { summary, moved })
+    }
+
+    /// Takes a slot to the slots in overflow, or away from them. Answers how many of them are larger.
+    fn renumber(&mut self, slot: u64) -> u64 {
+        let slot = slot as u32;
+        let larger = match self.overflow.binary_search(&slot) {
+            Ok(place) => {
+                self.overflow.remove(place);
+                self.overflow.len() - place
+            }
+            Err(place) => {
+                self.overflow.insert(place, slot);
+                self.overflow.len() - place - 1
+            }
+        };
+        larger as u64
     }
 
     /// Gives a buffer what it has to hold: the list's file, then zeros up to the length of the
@@ -154,8 +211,8 @@ mod tests {
     #[test]
     fn worked_example_out_of_overflow() {
         let mut buffer = map_a(70);
-        let summary = edit(&mut buffer, 2, 254).unwrap();
-        assert_eq!(summary.len, 56);
+        let edited = edit(&mut buffer, 2, 254).unwrap();
+        assert_eq!(edited.summary.len, 56);
         assert_eq!(buffer[..56], encode(&[0, 254, 254, 300]).unwrap());
         assert_eq!(buffer[56..68], [0; 12]);
         assert_eq!(buffer[68..], [7; 2]);
@@ -168,7 +225,7 @@ mod tests {
         assert_eq!(edit(&mut buffer, 1, 255), Err(Refusal::of_call(12, 0)));
         assert_eq!(buffer, before);
         let mut buffer = map_a(80);
-        assert_eq!(edit(&mut buffer, 1, 255).unwrap().len, 80);
+        assert_eq!(edit(&mut buffer, 1, 255).unwrap().summary.len, 80);
         assert_eq!(buffer, encode(&[0, 255, 255, 300]).unwrap());
     }
 
@@ -183,22 +240,54 @@ mod tests {
         assert_eq!(edit(&mut buffer, 3, 0), Err(Refusal::of_call(12, 0)));
         assert_eq!(buffer, before);
         buffer.push(7);
-        assert_eq!(edit(&mut buffer, 3, 0).unwrap().k, 4_096);
+        let edited = edit(&mut buffer, 3, 0).unwrap();
+        assert_eq!((edited.summary.k, edited.moved), (4_096, 4_093));
+    }
+
+    /// The ninth number of the answer to an edit of A, by each of the editors.
+    fn moved_in_a(capacity: usize, slot: u64, distance: u32) -> u64 {
+        let alone = answer_numbers(edit(&mut map_a(capacity), slot, distance));
+        let mut plain = PlainEditor::new(MAP_A.to_vec(), capacity);
+        assert_eq!(answer_numbers(plain.edit(slot, distance)), alone);
+        alone[8]
+    }
+
+    #[test]
+    fn entries_that_edits_of_map_a_move() {
+        assert_eq!(moved_in_a(80, 2, 254), 1);
+        assert_eq!(moved_in_a(80, 1, 255), 2);
+        assert_eq!(moved_in_a(79, 1, 255), 0);
+        assert_eq!(moved_in_a(80, 3, 7), 0);
+        assert_eq!(moved_in_a(80, 3, 400), 0);
+        assert_eq!(moved_in_a(80, 1, 7), 0);
+        assert_eq!(moved_in_a(80, 4, 400), 0);
+    }
+
+    #[test]
+    fn moved_entries_have_other_numbers() {
+        assert_eq!(count_moved(&[2, 3, 5], &[2, 3, 4, 5]), 1);
+        assert_eq!(count_moved(&[2, 3, 5], &[0, 2, 3, 5]), 3);
+        assert_eq!(count_moved(&[2, 3, 5], &[2, 3, 5, 9]), 0);
+        assert_eq!(count_moved(&[2, 3, 5], &[3, 5]), 2);
+        assert_eq!(count_moved(&[2, 3, 5], &[2, 5]), 1);
+        assert_eq!(count_moved(&[2, 3, 5], &[2, 3]), 0);
+        assert_eq!(count_moved(&[7], &[]), 0);
+        assert_eq!(count_moved(&[], &[7]), 0);
     }
 
     #[test]
     fn a_list_of_edits_is_the_edits_in_turn() {
         let (slots, distances) = ([1, 9, 2, 1], [255, 0, 1, 3]);
         let mut buffer = map_a(81);
-        let mut answers = [7; 33];
+        let mut answers = [7; 37];
         let list = edit_list(&mut buffer, &slots, &distances, &mut answers);
         assert_eq!(list, Ok(4));
         let mut single = map_a(81);
         for (j, (slot, distance)) in slots.into_iter().zip(distances).enumerate() {
             let answer = answer_numbers(edit(&mut single, slot, distance));
-            assert_eq!(answers[8 * j..8 * j + 8], answer);
+            assert_eq!(answers[9 * j..9 * j + 9], answer);
         }
         assert_eq!(buffer, single);
-        assert_eq!(answers[32], 7);
+        assert_eq!([8, 17, 26, 35, 36].map(|at| answers[at]), [2, 0, 1, 1, 7]);
     }
 }

@@ -20,7 +20,7 @@ pub mod vectors;
 mod write;
 
 pub use arith::{difference, maximum, minimum, shift, signed_difference, sum_maps};
-pub use edit::{edit, edit_list, PlainEditor, ANSWER_LEN};
+pub use edit::{edit, edit_list, Edited, PlainEditor, ANSWER_LEN};
 pub use entries::Entry;
 pub use figures::{bray_curtis, bray_curtis_parts, jaccard, jaccard_parts, nearest_quotient};
 pub use layout::{file_len, index_len, index_step, HEADER_LEN, MAX_SLOTS, SENTINEL};

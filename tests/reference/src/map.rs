@@ -70,7 +70,7 @@ impl<'a> Map<'a> {
     }
 
     /// Splits a file of the right length into its parts.
-    fn split(file: &'a [u8], summary: Summary) -> Map<'a> {
+    pub(crate) fn split(file: &'a [u8], summary: Summary) -> Map<'a> {
         let (primary, rest) = file[HEADER_LEN..].split_at(summary.n as usize);
         let (overflow, index) = rest.split_at(OVERFLOW_ENTRY_LEN * summary.k as usize);
         Map {
@@ -95,7 +95,7 @@ impl<'a> Map<'a> {
     }
 
     /// The overflow entries.
-    pub(crate) fn entries(&self) -> impl Iterator<Item = Entry> + 'a {
+    pub(crate) fn entries(&self) -> impl ExactSizeIterator<Item = Entry> + 'a {
         self.overflow.iter().map(|entry| Entry {
             slot: overflow_slot(entry),
             distance: overflow_distance(entry),

@@ -1,10 +1,11 @@
 -- Proves pciv_edit::edit: the check, then the edit.
-use mathlib.Core.Path.{sym, ap, _∙_}
+use mathlib.Core.Path.{sym, ap₂, _∙_}
 use Rattle.pciv_format.specs.Edit.{Edit, editAnswer}
 use Rattle.pciv_format.proofs.RefusalsLaws.{fileAnswer-done, fileAnswer-refused}
 use Rattle.pciv_format.proofs.CheckLaws.{done-buffer}
 use Rattle.pciv_format.proofs.LimitLaws.{buffer-refused}
 use Rattle.pciv_format.proofs.EditCaseLaws.{edit-refused}
+use Rattle.pciv_format.proofs.MovedLaws.{moved-refused}
 use borrow.Author.Needs.{needs}
 use Rattle.pciv_edit.proofs.edit.Statement.{statement}
 use Rattle.pciv_edit.proofs.edit.Tie as tie
@@ -35,7 +36,8 @@ returns c =
     let e : Edit = record { slot = a .slot; distance = a .distance } in
     let why = fileAnswer-refused _ _ (sym (told .checked .given .1) ∙ check .check-buffer .ensures) in
     let is = edit-refused (a .buffer .now) e _ why in
-    (ap editAnswer (sym is), sym (buffer-refused (a .buffer .now) e _ is))
+    let b = a .buffer .now in
+    (ap₂ editAnswer (sym is) (sym (moved-refused b e _ is)), sym (buffer-refused b e _ is))
 
 same-length-2 : tie.Need-same-length-2
 same-length-2 c = search needs

@@ -1,5 +1,5 @@
 -- Proves pciv_slot::edit_checked: which of the four cases it is.
-use mathlib.Core.Path.{_≡_, sym, ap, _∙_}
+use mathlib.Core.Path.{_≡_, sym, ap₂, _∙_}
 use Prim.Native.Nat.{ℕ, _+_, _≤_, _<_}
 use native.Mathlib.Omega.{arith}
 use mathlib.Core.Bool.{false}
@@ -12,6 +12,7 @@ use Rattle.pciv_format.proofs.LayoutLaws.{fileLen-is}
 use Rattle.pciv_slot.specs.Change.{EditAt}
 use Rattle.pciv_format.proofs.LimitLaws.{buffer-refused}
 use Rattle.pciv_format.proofs.EditCaseLaws.{edit-outside}
+use Rattle.pciv_format.proofs.MovedLaws.{moved-refused}
 use Rattle.pciv_slot.proofs.CaseLaws.{entry-inside}
 use borrow.Author.Needs.{needs}
 use Rattle.pciv_slot.proofs.edit_checked.Statement.{statement}
@@ -46,8 +47,10 @@ returns c =
     let a = entry .args in
     let b = a .buffer .now in
     let is =
-    edit-outside b (a .n) (a .k) (bytes known) (entry .pre) (the-edit entry) (c .before .if1 .taken) in
-    (c .refused .ensures ∙ ap editAnswer (sym is), sym (buffer-refused b (the-edit entry) _ is))
+    edit-outside b (a .n) (a .k) (bytes known) (entry .pre) (the-edit entry) (c .before .if1 .taken) in (
+      c .refused .ensures ∙ ap₂ editAnswer (sym is) (sym (moved-refused b (the-edit entry) _ is)),
+      sym (buffer-refused b (the-edit entry) _ is),
+    )
 
 add-byte : tie.Need-add-byte
 add-byte c = search needs

@@ -11,7 +11,7 @@ summary-of-requires : tie.Need-summary-of-requires
 summary-of-requires c κs = search needs
 
 returns : tie.Need-returns
-returns c = ap (λ (s : Summary). editAnswer (done s)) (c .summary-of .ensures)
+returns c = ap (λ (s : Summary). editAnswer (done s) (c .before .args .moved)) (c .summary-of .ensures)
 
 pub edited-spec : {M : Type 1} → statement M
 edited-spec = tie.close (tie.spec summary-of-requires returns)

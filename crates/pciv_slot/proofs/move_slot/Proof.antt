@@ -1,5 +1,5 @@
 -- Proves pciv_slot::move_slot. The reasoning on lists is in ChangeLaws.antt.
-use mathlib.Core.Path.{_≡_, sym, ap, _∙_}
+use mathlib.Core.Path.{_≡_, sym, ap₂, _∙_}
 use Prim.Native.Nat.{_≤_, _<_}
 use native.Mathlib.Omega.{arith}
 use lib.ListN.{length}
@@ -9,6 +9,7 @@ use Rattle.pciv_format.specs.Edit.{Edit, editAnswer}
 use Rattle.pciv_format.proofs.LayoutLaws.{fileLen-is}
 use Rattle.pciv_build.proofs.BuildLaws.{begin-short, begin-fits}
 use Rattle.pciv_format.proofs.LimitLaws.{buffer-refused}
+use Rattle.pciv_format.proofs.MovedLaws.{moved-refused}
 use Rattle.pciv_slot.proofs.ChangeLaws.{SlotMoves, slot-moves}
 use borrow.Author.Needs.{needs}
 use Rattle.pciv_slot.proofs.move_slot.Statement.{statement}
@@ -53,7 +54,10 @@ returns c =
     let short : length b < fileLen (a .n) (a .count) =
     omega (arith, sized .file-len .ensures, c .before .if1 .taken) in
     let is = law known .answer ∙ begin-short (a .n) (a .count) b short .0 in
-    (c .refused .ensures ∙ ap editAnswer (sym is), sym (buffer-refused b (the-edit (known .before)) _ is))
+    let e = the-edit (known .before) in (
+      c .refused .ensures ∙ ap₂ editAnswer (sym is) (sym (moved-refused b e _ is)),
+      sym (buffer-refused b e _ is),
+    )
 
 entry-of-requires : tie.Need-entry-of-requires
 entry-of-requires c κs = search needs
@@ -85,9 +89,17 @@ finish-change-requires c κs =
     let map = entry .pre .0 .checked in
     ((map .header .small, map .header .few, law known .few), (omega (arith, map .fits), omega (arith, fits fit)))
 
+above-count-requires : tie.Need-above-count-requires
+above-count-requires c κs =
+    let changed = c .before .before .before .before .before .before in
+    let found = changed .before .before .before .before .before .before in
+    let fit = found .before .before in
+    let space = law (fit .before .before) .space (found .entry-of .result) (found .entry-of .ensures) (fits fit) in
+    (λ h. omega (arith, space .leaves h .0), λ h. omega (arith, space .enters h .0))
+
 edited-requires : tie.Need-edited-requires
 edited-requires c κs =
-    let changed = c .before .before .before .before .before .before in
+    let changed = c .before .before .before .before .before .before .before in
     let put = changed .before .before .before .before in
     let known = put .before .before .before .before .before .before in
     (known .before .pre .0 .checked .header .small, law known .few)
@@ -97,7 +109,8 @@ same-length c = search needs
 
 returns-2 : tie.Need-returns-2
 returns-2 c =
-    let finished = c .before .before .before in
+    let counted = c .before in
+    let finished = counted .before .before .before in
     let changed = finished .before .before .before .before in
     let put = changed .before .before .before .before in
     let found = put .before .before in
@@ -105,7 +118,10 @@ returns-2 c =
     let known = fit .before .before in
     let a = known .before .args in
     let is = law known .answer ∙ begin-fits (a .n) (a .count) (a .buffer .now) (fits fit) .0 in (
-      c .edited .ensures ∙ ap editAnswer (sym is),
+      c .edited .ensures
+          ∙ ap₂ editAnswer (sym is)
+          (counted .above-count .ensures
+          ∙ sym (law known .entriesMoved (found .entry-of .result) (found .entry-of .ensures) (fits fit))),
       law known .buffer (found .entry-of .result) _ _ (found .entry-of .ensures) (fits fit)
           (rw (put .put-header .ensures) at (changed .change-entries .ensures)) (finished .finish-change .ensures),
     )
@@ -121,6 +137,7 @@ move-slot-spec =
     put-header-requires
     change-entries-requires
     finish-change-requires
+    above-count-requires
     edited-requires
     same-length
     returns-2)

@@ -1,5 +1,5 @@
 -- Proves pciv_slot::stay_in_overflow.
-use mathlib.Core.Path.{sym, ap, _∙_}
+use mathlib.Core.Path.{sym, ap₂, _∙_}
 use Prim.Native.Nat.{_+_, _*_, _≤_}
 use native.Mathlib.Omega.{arith}
 use lib.ListN.{length}
@@ -48,8 +48,8 @@ add-put32-3 c = omega (arith, entry-fits (c .before))
 put32-requires : tie.Need-put32-requires
 put32-requires c κs = omega (arith, entry-fits (c .before))
 
-edited-requires : tie.Need-edited-requires
-edited-requires c κs = search needs
+stayed-requires : tie.Need-stayed-requires
+stayed-requires c κs = search needs
 
 same-length : tie.Need-same-length
 same-length c = search needs
@@ -65,7 +65,7 @@ returns c =
     let is =
     stays-overflow (a .buffer .now) (a .n) (a .k) (bytes known) e (entry .pre .0) (entry .pre .1 .0)
     (entry .pre .1 .1) (found .entry-of .result) (found .entry-of .ensures) in
-    (c .edited .ensures ∙ ap editAnswer (sym (is .0)), put .put32 .ensures ∙ sym (is .1))
+    (c .stayed .ensures ∙ ap₂ editAnswer (sym (is .0)) (sym (is .1)), put .put32 .ensures ∙ sym (is .2))
 
 pub stay-in-overflow-spec : {M : Type 1} → statement M
 stay-in-overflow-spec =
@@ -77,6 +77,6 @@ stay-in-overflow-spec =
     add-put32-2
     add-put32-3
     put32-requires
-    edited-requires
+    stayed-requires
     same-length
     returns)

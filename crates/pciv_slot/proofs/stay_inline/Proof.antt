@@ -1,5 +1,5 @@
 -- Proves pciv_slot::stay_inline.
-use mathlib.Core.Path.{sym, ap, _∙_}
+use mathlib.Core.Path.{sym, ap₂, _∙_}
 use native.Mathlib.Omega.{arith}
 use Rattle.pciv_bytes.specs.LittleEndian.{Bytes}
 use Rattle.pciv_format.specs.Edit.{Edit, editAnswer}
@@ -23,8 +23,8 @@ slice-write-buffer c =
     let entry = c .before in
     omega (arith, entry .pre .0 .inside, entry .pre .0 .checked .fits, fileLen-is (entry .args .n) (entry .args .k))
 
-edited-requires : tie.Need-edited-requires
-edited-requires c κs = search needs
+stayed-requires : tie.Need-stayed-requires
+stayed-requires c κs = search needs
 
 same-length : tie.Need-same-length
 same-length c = search needs
@@ -38,9 +38,9 @@ returns c =
     let is =
     stays-inline (a .buffer .now) (a .n) (a .k) (bytes known) e (entry .pre .0) (entry .pre .1 .0)
     (entry .pre .1 .1) in
-    (c .edited .ensures ∙ ap editAnswer (sym (is .0)), sym (is .1))
+    (c .stayed .ensures ∙ ap₂ editAnswer (sym (is .0)) (sym (is .1)), sym (is .2))
 
 pub stay-inline-spec : {M : Type 1} → statement M
 stay-inline-spec =
     tie.close
-    (tie.spec cast-buffer add-buffer slice-write-buffer edited-requires same-length returns)
+    (tie.spec cast-buffer add-buffer slice-write-buffer stayed-requires same-length returns)

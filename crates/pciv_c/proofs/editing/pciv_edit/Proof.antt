@@ -18,7 +18,8 @@ same-length c = search needs
 returns : tie.Need-returns
 returns c =
     let e = c .before .before .before .before .before .edit .ensures in
-    (told-file (ap (λ (a : EditAnswer). a .outcome) (e .0)) (c .tell-file .ensures), e .1)
+    let moved = ap (λ (a : EditAnswer). a .moved) (e .0) in
+    (told-file (ap (λ (a : EditAnswer). a .outcome) (e .0)) (c .tell-file .ensures), (moved, e .1))
 
 pub pciv-edit-spec : {M : Type 1} → statement M
 pciv-edit-spec = tie.close (tie.spec edit-requires tell-file-requires same-length returns)

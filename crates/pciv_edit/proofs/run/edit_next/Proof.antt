@@ -3,7 +3,7 @@ use mathlib.Core.Path.{_≡_, sym, ap, _∙_}
 use native.Mathlib.Omega.{arith}
 use lib.Seq.{sets}
 use Rattle.pciv_format.specs.Refusals.{done, refused}
-use Rattle.pciv_format.specs.Edit.{Edit, editOutcome}
+use Rattle.pciv_format.specs.Edit.{Edit, editOutcome, editMoved}
 use Rattle.pciv_format.specs.declared.EditAnswer.{EditAnswer}
 use Rattle.pciv_format.proofs.RefusalsLaws.{fileAnswer-done, fileAnswer-refused}
 use Rattle.pciv_format.proofs.LimitLaws.{buffer-refused}
@@ -29,6 +29,11 @@ is-done : (c : tie.After-told2)
 is-done c =
     let answer = c .before .before .before .before .edit-checked .ensures .0 in
     fileAnswer-done _ _ (sym (c .told2 .given .1) ∙ ap (λ (r : EditAnswer). r .outcome) answer)
+
+moved : (c : tie.After-edit-checked)
+    → (let s = c .before .before .before .before in
+    c .edit-checked .result .moved ≡ editMoved (s .args .buffer .now) (the-edit s))
+moved c = ap (λ (r : EditAnswer). r .moved) (c .edit-checked .ensures .0)
 
 edit-checked-requires : tie.Need-edit-checked-requires
 edit-checked-requires c κs = search needs
@@ -63,7 +68,7 @@ returns c =
       rw same (s .pre .0),
       (
         edit .edit-checked .ensures .1,
-        put .put-cells .ensures ∙ ap (sets (a .answers .now) (a .at)) (cells-refused _ _ is),
+        put .put-cells .ensures ∙ ap (sets (a .answers .now) (a .at)) (cells-refused _ _ _ (moved edit) _ is),
       ),
     )
 
@@ -87,7 +92,7 @@ returns-2 c =
           (the-edit s) (omega (arith, s .fits .distance)) _ is),
       (
         edit .edit-checked .ensures .1,
-        put .put-cells2 .ensures ∙ ap (sets (a .answers .now) (a .at)) (cells-done _ _ is),
+        put .put-cells2 .ensures ∙ ap (sets (a .answers .now) (a .at)) (cells-done _ _ _ (moved edit) _ is),
       ),
     )
 

@@ -1,5 +1,5 @@
 -- Proves pciv_edit::run::put_cells. Invariant: writing all cells from `at` on is writing the rest of them from at + j
--- on. Falls: 8 - j.
+-- on. Falls: 9 - j.
 use mathlib.Core.Path.{_≡_, refl, sym, _∙_}
 use Prim.Native.Nat.{ℕ, _+_, _-_, _≤_}
 use native.Mathlib.Nat.{add-zero}
@@ -13,13 +13,13 @@ use Rattle.pciv_edit.proofs.run.put_cells.Statement.{statement}
 use Rattle.pciv_edit.proofs.run.put_cells.Tie as tie
 
 abbrev Inv-loop : tie.InvT-loop
-Inv-loop answers₀ at cells j₀ answers j =
+Inv-loop answers₀ at moved cells j₀ answers j =
     (j ≤ answerLen)
     × (length answers ≡ length answers₀)
     × (sets answers₀ at cells ≡ sets answers (at + j) (drop j cells))
 
 abbrev μ-loop : tie.MeasureT-loop
-μ-loop answers₀ at cells j₀ answers j = answerLen - j
+μ-loop answers₀ at moved cells j₀ answers j = answerLen - j
 
 loop-holds : tie.Need-loop-holds Inv-loop μ-loop
 loop-holds c = (search needs, refl, rw add-zero)
@@ -51,7 +51,7 @@ loop-again c =
     let a = c .before .before .args in
     let here : ℕ = a .at + l .j in
     let next : ℕ = a .at + (l .j + 1) in
-    let more = sets-copy-more (cellsOf (a .r) (a .s)) (l .answers) 0 here (l .j) next (omega arith) (omega arith) in
+    let more = sets-copy-more (cellsOf (a .r) (a .s) (a .moved)) (l .answers) 0 here (l .j) next (omega arith) (omega arith) in
     (search needs, simp length-set (l .inv .1), l .inv .2 ∙ more)
 
 same-length : tie.Need-same-length Inv-loop μ-loop
@@ -61,7 +61,7 @@ returns : tie.Need-returns Inv-loop μ-loop
 returns c =
     let l = c .before .loop in
     let a = c .before .before .args in
-    sym (l .inv .2 ∙ sets-copy-end (cellsOf (a .r) (a .s)) (l .answers) (a .at + l .j) (l .j) (c .loop-test .left))
+    sym (l .inv .2 ∙ sets-copy-end (cellsOf (a .r) (a .s) (a .moved)) (l .answers) (a .at + l .j) (l .j) (c .loop-test .left))
 
 pub put-cells-spec : {M : Type 1} → statement M
 put-cells-spec =
