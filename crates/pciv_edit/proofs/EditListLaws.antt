@@ -33,8 +33,7 @@ use Rattle.pciv_format.specs.declared.Refusal.{Refusal}
 use Rattle.pciv_format.proofs.PartsLaws.{eqb-not}
 use Rattle.pciv_format.proofs.CheckLaws.{done-buffer}
 use Rattle.pciv_format.proofs.RunLaws.{Distances}
-use Rattle.pciv_format.proofs.EditCaseLaws.{checked-run}
-use Rattle.pciv_format.proofs.MovedLaws.{checked-moves}
+use Rattle.pciv_format.proofs.EditCaseLaws.{checked-run, checked-moves}
 
 -- ---- what is left of a run
 

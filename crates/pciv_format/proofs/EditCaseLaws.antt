@@ -5,7 +5,7 @@
 --   edit-outside        the slot is none of the map's
 --   buffer-done         what an accepted edit leaves;  replaced-sets  the same, as writes
 --   accepted-checked    it leaves a checked map, with the counts of its answer
---   checked-run         the theorem on runs (RunLaws.antt), of the file at the front of a checked map
+--   checked-run, checked-moves    the theorems on runs (RunLaws.antt), of the file at the front of a checked map
 -- Axioms: none.
 use mathlib.Core.Path.{_≡_, sym, ap, _∙_}
 use Prim.Native.Nat.{ℕ, _+_, _-_, _≤_, max}
@@ -24,8 +24,8 @@ use Rattle.pciv_format.specs.Refusals.{done, refused, refuse}
 use Rattle.pciv_format.specs.Check.{checkBuffer, CheckedMap}
 use Rattle.pciv_format.specs.Read.{listOf}
 use Rattle.pciv_format.specs.Edit.{Edit, edited, plainOutcome, editedFile, editOutcome, replaced}
-use Rattle.pciv_format.specs.Edit.{editBuffer, plainRun, plainOutcomes, bufferOf, editRun}
-use Rattle.pciv_format.specs.Edit.{editOutcomes, RunLimits, startOf}
+use Rattle.pciv_format.specs.Edit.{editBuffer, plainRun, plainOutcomes, plainMoves, bufferOf, editRun}
+use Rattle.pciv_format.specs.Edit.{editOutcomes, editMoves, RunLimits, startOf}
 use Rattle.pciv_format.specs.declared.Summary.{Summary}
 use Rattle.pciv_format.specs.declared.Refusal.{Refusal}
 use Rattle.pciv_format.proofs.RefusalsLaws.{refuseIf-done}
@@ -33,7 +33,7 @@ use Rattle.pciv_format.proofs.CheckLaws.{checkWith-done}
 use Rattle.pciv_format.proofs.FileLaws.{file-checked}
 use Rattle.pciv_format.proofs.FrontLaws.{Holds, checked-front, front-checked}
 use Rattle.pciv_format.proofs.EditLaws.{length-edited, edited-limits}
-use Rattle.pciv_format.proofs.RunLaws.{Distances, edit-run}
+use Rattle.pciv_format.proofs.RunLaws.{Distances, edit-run, moved-run}
 
 abbrev pub held : List ℕ → List ℕ
 held b = listOf (editedFile b)
@@ -113,3 +113,7 @@ module _ (b : List ℕ) (n k : ℕ) (bytes : Bytes b) (c : CheckedMap b n k) whe
       × RunLimits (length b) (startOf b) b es
   checked-run es small =
       rw (← there .apart) at (edit-run (held b) (drop (fileLen n k) b) es (there .limits) small)
+
+  pub checked-moves : (es : List Edit) → Distances es → editMoves b es ≡ plainMoves (length b) (startOf b) es
+  checked-moves es small =
+      rw (← there .apart) at (moved-run (held b) (drop (fileLen n k) b) es (there .limits) small)

@@ -7,28 +7,25 @@
 --   entries-stay               an edit leaves the other slots with an entry, or without one
 --   moved-renumbered, edit-renumbered
 --                              the number is how many entries of other slots have another number in the new file
---   moved-run, checked-moves   in a run of edits the editor's numbers are the plain editor's
 -- Axioms: none.
 use mathlib.Core.Path.{_≡_, refl, sym, ap, ap₂, _∙_}
 use Prim.Native.Nat.{ℕ, suc, _+_, _-_, _≤_, _<_}
 use native.Mathlib.Omega.{arith}
 use native.Mathlib.Decide.{decLe}
 use mathlib.Core.Bool.{Bool, true, false, not, xor, cond, _&&_}
-use mathlib.Core.List.{List, [], _∷_, _++_}
-use lib.ListN.{length, drop}
+use mathlib.Core.List.{List, []}
+use lib.ListN.{length}
 use lib.Dec.{ltb, leb, eqb}
 use borrow.Author.Tests.{lt-ltb, le-ltb, le-leb, lt-leb, leb-false, eq-eqb, ne-eqb}
 use Rattle.pciv_bytes.specs.Ranges.{positions}
 use Rattle.pciv_bytes.specs.LittleEndian.{Bytes}
 use Rattle.pciv_bytes.proofs.PositionsLaws.{positions-cong, positions-none, positions-around}
 use Rattle.pciv_format.specs.Layout.{maxDistance, inOverflow, overflowCount, at, fileOf, Limits}
-use Rattle.pciv_format.specs.Layout.{fileLen}
 use Rattle.pciv_format.specs.Refusals.{Outcome, done, refused}
 use Rattle.pciv_format.specs.Check.{nField, kField, checkBuffer, CheckedMap}
 use Rattle.pciv_format.specs.Read.{entryNumber}
 use Rattle.pciv_format.specs.Edit.{Edit, edited, plainOutcome, editedFile, editOutcome, replaced, ifAccepted}
-use Rattle.pciv_format.specs.Edit.{editBuffer, entriesAbove, movedBy, plainMoved, editMoved, State}
-use Rattle.pciv_format.specs.Edit.{plainStart, plainStep, bufferOf, editMoves, plainMoves, startOf}
+use Rattle.pciv_format.specs.Edit.{editBuffer, entriesAbove, movedBy, plainMoved, editMoved}
 use Rattle.pciv_format.specs.declared.Summary.{Summary}
 use Rattle.pciv_format.specs.declared.Refusal.{Refusal}
 use Rattle.pciv_format.proofs.RefusalsLaws.{refuseIf-done, andThen-done}
@@ -41,8 +38,6 @@ use Rattle.pciv_format.proofs.EditLaws.{edited-at, edited-other, edited
 use Rattle.pciv_format.proofs.EditLaws.{count-overflow, count-inline, count-in, count-stays}
 use Rattle.pciv_format.proofs.LimitLaws.{buffer-refused}
 use Rattle.pciv_format.proofs.EditCaseLaws.{held, buffer-done}
-use Rattle.pciv_format.proofs.RunLaws.{Reached, list-there, edit-answer, edit-buffer, next-reached}
-use Rattle.pciv_format.proofs.RunLaws.{start-reached, start-there, Distances}
 
 -- ---- the entries around a slot
 
@@ -312,7 +307,8 @@ edit-renumbered b bytes e small = go (editOutcome b e) refl
         ap length
         (positions-none (renumbered f f (e .slot)) 0 m
         (λ i h₁ h₂.
-        rw (eq-eqb (entryNumber f i) (entryNumber f i) refl) (and-false (not (eqb i (e .slot)) && hasEntry f i && hasEntry f i))))
+        rw (eq-eqb (entryNumber f i) (entryNumber f i) refl)
+        (and-false (not (eqb i (e .slot)) && hasEntry f i && hasEntry f i))))
 
     go : (o : Outcome Summary) → editOutcome b e ≡ o
         → editMoved b e ≡ count (editedFile b) (editedFile (editBuffer b e)) (nField b)
@@ -334,35 +330,3 @@ edit-renumbered b bytes e small = go (editOutcome b e) refl
         ∙ sym
         (ap (λ (g : List ℕ). count (editedFile b) (editedFile g) (nField b)) (buffer-refused b e r is)
         ∙ same-file (editedFile b) (nField b))
-
--- ---- a run of edits
-
-module _ (b₀ : List ℕ) where
-  moves-from : (es : List Edit) (z : State) → Reached b₀ z → Distances es
-      → editMoves (bufferOf z b₀) es ≡ plainMoves (length b₀) z es
-  unfolding editMoves plainMoves editMoved plainMoved
-  moves-from [] z at small = refl
-  moves-from (e ∷ es) z at small =
-      let rest =
-      moves-from es (plainStep (length b₀) z e) (next-reached b₀ z at e (small 0 (omega arith)))
-      (λ i h. small (suc i) (omega arith)) in
-      ap₂ (λ (m : ℕ) (l : List ℕ). m ∷ l) (edit-moves e)
-      (ap (λ (b : List ℕ). editMoves b es) (edit-buffer b₀ z at e) ∙ rest)
-    where
-      edit-moves : (e : Edit) → editMoved (bufferOf z b₀) e ≡ plainMoved (z .list) (length b₀) e
-      edit-moves e = rw (edit-answer b₀ z at e, list-there b₀ z at)
-
--- a buffer with x's file at its front and any bytes t behind it
-pub moved-run : (x t : List ℕ) (es : List Edit) → Limits x → Distances es
-    → (let b = fileOf x ++ t in editMoves b es ≡ plainMoves (length b) (plainStart x) es)
-moved-run x t es l small =
-    let b : List ℕ = fileOf x ++ t in
-    ap (λ (c : List ℕ). editMoves c es) (sym (start-there x t))
-    ∙ moves-from b es (plainStart x) (start-reached x t l) small
-
--- the file at the front of a checked map
-pub checked-moves : (b : List ℕ) (n k : ℕ) → Bytes b → CheckedMap b n k → (es : List Edit) → Distances es
-    → editMoves b es ≡ plainMoves (length b) (startOf b) es
-checked-moves b n k bytes c es small =
-    let h = checked-front b n k bytes c in
-    rw (← h .apart) at (moved-run (held b) (drop (fileLen n k) b) es (h .limits) small)

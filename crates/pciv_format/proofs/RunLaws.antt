@@ -4,12 +4,12 @@
 -- and of each edit, on the plain editor's list and the buffer that it finds, all that docs/FORMAT.md, "The editor",
 -- says of the bytes just after it (a field of `StepLimits` for each sentence).
 --   Reached b₀ z           a state z that the plain editor may reach on a buffer b₀
---   list-there, length-there    the list that the buffer holds in such a state, and how long the buffer is
+--   length-there           what the buffer holds in such a state is as long as b₀
 --   edit-answer, -buffer   one edit there: the editor's answer and buffer are the plain editor's
 --   next-reached           the state after it is reached too
---   start-there, -reached  the state at the start
 --   Distances es           every distance of the edits es is one
 --   edit-run               the theorem
+--   moved-run              in such a run the editor's numbers of entries moved are the plain editor's too
 -- Axioms: none.
 use mathlib.Core.Path.{_≡_, refl, sym, ap, ap₂, _∙_}
 use Prim.Native.Nat.{ℕ, suc, _+_, _-_, _≤_, _<_, max}
@@ -26,9 +26,9 @@ use Rattle.pciv_format.specs.Layout.{maxDistance, fileOf, summaryOf, Lim
 use Rattle.pciv_format.specs.Refusals.{Outcome, done, refused, refuse, refuseIf}
 use Rattle.pciv_format.specs.Read.{listOf}
 use Rattle.pciv_format.specs.Edit.{Edit, edited, plainOutcome, editedFile, editOutcome, replaced}
-use Rattle.pciv_format.specs.Edit.{ifAccepted, editBuffer, State, plainStart, plainStep, plainRun}
-use Rattle.pciv_format.specs.Edit.{plainOutcomes, bufferOf, editRun, editOutcomes, StepLimits}
-use Rattle.pciv_format.specs.Edit.{RunLimits}
+use Rattle.pciv_format.specs.Edit.{ifAccepted, editBuffer, plainMoved, editMoved, State, plainStart}
+use Rattle.pciv_format.specs.Edit.{plainStep, plainRun, plainOutcomes, plainMoves, bufferOf, editRun}
+use Rattle.pciv_format.specs.Edit.{editOutcomes, editMoves, StepLimits, RunLimits}
 use Rattle.pciv_format.specs.declared.Summary.{Summary}
 use Rattle.pciv_format.proofs.FrontLaws.{front-list}
 use Rattle.pciv_format.proofs.EditLaws.{edited-limits}
@@ -98,7 +98,7 @@ abbrev after : State → Edit → State
 after z e = record { list = edited (z .list) e; filled = max (z .filled) (length (fileOf (edited (z .list) e))) }
 
 module _ (b₀ : List ℕ) (z : State) (at : Reached b₀ z) where
-  pub list-there : listOf (editedFile (bufferOf z b₀)) ≡ z .list
+  list-there : listOf (editedFile (bufferOf z b₀)) ≡ z .list
   unfolding bufferOf
   list-there = front-list (z .list) _ (at .limits)
 
@@ -110,6 +110,11 @@ module _ (b₀ : List ℕ) (z : State) (at : Reached b₀ z) where
   pub edit-answer : (e : Edit) → editOutcome (bufferOf z b₀) e ≡ plainOutcome (z .list) (length b₀) e
   unfolding bufferOf
   edit-answer e = edit-plain (z .list) _ (at .limits) e ∙ ap (λ (R : ℕ). plainOutcome (z .list) R e) length-there
+
+  -- and moves as many entries
+  moved-there : (e : Edit) → editMoved (bufferOf z b₀) e ≡ plainMoved (z .list) (length b₀) e
+  unfolding editMoved plainMoved
+  moved-there e = rw (edit-answer e, list-there)
 
   replaced-is : (y : List ℕ) → replaced (bufferOf z b₀) (z .list) y
       ≡ bufferOf (record { list = y; filled = max (z .filled) (length (fileOf y)) }) b₀
@@ -167,8 +172,9 @@ module _ (b₀ : List ℕ) where
       → (editOutcomes (bufferOf z b₀) es ≡ plainOutcomes (length b₀) z es)
       × (editRun (bufferOf z b₀) es ≡ bufferOf (plainRun (length b₀) z es) b₀)
       × RunLimits (length b₀) z (bufferOf z b₀) es
-  unfolding editRun plainRun editOutcomes plainOutcomes
-  run-from [] z at small = (refl, refl, tt)
+      × (editMoves (bufferOf z b₀) es ≡ plainMoves (length b₀) z es)
+  unfolding editRun plainRun editOutcomes plainOutcomes editMoves plainMoves
+  run-from [] z at small = (refl, refl, tt, refl)
   run-from (e ∷ es) z at small =
       let z' = plainStep (length b₀) z e in
       let r = run-from es z' (next-reached b₀ z at e (small 0 (omega arith))) (λ i h. small (suc i) (omega arith)) in
@@ -177,14 +183,16 @@ module _ (b₀ : List ℕ) where
             (ap (λ (b : List ℕ). editOutcomes b es) q ∙ r .0),
         ap (λ (b : List ℕ). editRun b es) q ∙ r .1,
         (edit-limited b₀ z at e, rw q (r .2)),
+        ap₂ (λ (m : ℕ) (l : List ℕ). m ∷ l) (moved-there b₀ z at e)
+            (ap (λ (b : List ℕ). editMoves b es) q ∙ r .3),
       )
 
 module _ (x t : List ℕ) where
-  pub start-there : bufferOf (plainStart x) (fileOf x ++ t) ≡ fileOf x ++ t
+  start-there : bufferOf (plainStart x) (fileOf x ++ t) ≡ fileOf x ++ t
   unfolding bufferOf plainStart
   start-there = rw (sub-self, drop-at (fileOf x) t (length (fileOf x)) refl)
 
-  pub start-reached : Limits x → Reached (fileOf x ++ t) (plainStart x)
+  start-reached : Limits x → Reached (fileOf x ++ t) (plainStart x)
   unfolding plainStart
   start-reached l = record { limits = l; low = le-refl _; high = simp length-append (omega arith) }
 
@@ -202,3 +210,10 @@ edit-run x t es l small =
       ap (λ (c : List ℕ). editRun c es) (sym start) ∙ r .1,
       rw start at (r .2),
     )
+
+pub moved-run : (x t : List ℕ) (es : List Edit) → Limits x → Distances es
+    → (let b = fileOf x ++ t in editMoves b es ≡ plainMoves (length b) (plainStart x) es)
+moved-run x t es l small =
+    let b : List ℕ = fileOf x ++ t in
+    ap (λ (c : List ℕ). editMoves c es) (sym (start-there x t))
+    ∙ run-from b es (plainStart x) (start-reached x t l) small .3

@@ -1,7 +1,7 @@
 -- How a buffer changes in place where a slot moves into or out of overflow (docs/FORMAT.md, "The editor").
 --   entryAt n j                      where entry j of a file with n slots starts
 --   newCount k distance              how many entries there are afterwards, of k before
---   aboveCount k j distance          how many of k entries have a larger slot than the edited one, of which j have a smaller one
+--   aboveCount k j distance          how many of k entries have a larger slot than the edited one, where j have a smaller
 --   putIn d n k j slot distance      d with the slot's byte 255, and its entry put in before entry j of k
 --   takenOut d n k j slot distance   d with the distance as the slot's byte, and entry j of k taken out
 --   changed                          the one or the other, by the distance
