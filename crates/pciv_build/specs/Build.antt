@@ -16,7 +16,7 @@ use Rattle.pciv_bytes.specs.Ranges.{table, joined}
 use Rattle.pciv_bytes.specs.LittleEndian.{le, get}
 use Rattle.pciv_format.specs.Layout.{maxDistance, indexStep, indexLen, fileLen, header, countsOf}
 use Rattle.pciv_format.specs.Refusals.{Outcome, done, refuse, refuseIf}
-use Rattle.pciv_format.specs.declared.Summary.{Summary}
+use Rattle.pciv_format.specs.declared.Counts.{Counts}
 
 abbrev pub NoneAbove : ℕ → (ℕ → ℕ) → ℕ → Type 0
 NoneAbove n v x = (i : ℕ) → i < n → v i ≤ x
@@ -24,7 +24,7 @@ NoneAbove n v x = (i : ℕ) → i < n → v i ≤ x
 abbrev pub Fits : ℕ → (ℕ → ℕ) → Type 0
 Fits n v = NoneAbove n v maxDistance
 
-unfoldable pub beginOutcome : ℕ → ℕ → ℕ → Outcome Summary
+unfoldable pub beginOutcome : ℕ → ℕ → ℕ → Outcome Counts
 beginOutcome n k capacity = refuseIf (ltb capacity (fileLen n k)) (refuse 12 0 0) (done (countsOf n k))
 
 unfoldable pub beginBuffer : ℕ → ℕ → List ℕ → List ℕ

@@ -2,7 +2,7 @@
 ghost use mathlib.Core.Path.{_≡_};
 ghost use Rattle.pciv_check.specs.Pair.{pairCounts, pairAnswer};
 use crate::check_with;
-use pciv_format::FileAnswer;
+use pciv_format::CountsAnswer;
 use pciv_format::Refusal;
 use pciv_format::SIZE_MISMATCH;
 
@@ -26,12 +26,12 @@ pub fn check_pair(a: &[u8], b: &[u8]) -> PairAnswer
 {
     let first = check_with(a, 1, true);
     match first {
-        FileAnswer::Refused(r) => PairAnswer::Refused(r),
-        FileAnswer::Done(s) => {
+        CountsAnswer::Refused(r) => PairAnswer::Refused(r),
+        CountsAnswer::Counted(s) => {
             let second = check_with(b, 2, true);
             match second {
-                FileAnswer::Refused(r) => PairAnswer::Refused(r),
-                FileAnswer::Done(t) => {
+                CountsAnswer::Refused(r) => PairAnswer::Refused(r),
+                CountsAnswer::Counted(t) => {
                     if s.n != t.n {
                         return PairAnswer::Refused(Refusal {
                             number: SIZE_MISMATCH,

@@ -21,7 +21,7 @@ use Rattle.pciv_bytes.proofs.WriteLaws.{sets-front, sets-behind}
 use Rattle.pciv_format.specs.Layout.{maxDistance, fileLen, overflowCount, countsOf, summary, at}
 use Rattle.pciv_format.specs.Layout.{fileOf, summaryOf, Limits}
 use Rattle.pciv_format.specs.Refusals.{done, refused, refuse}
-use Rattle.pciv_format.specs.Check.{checkBuffer, CheckedMap}
+use Rattle.pciv_format.specs.Check.{countsBuffer, CheckedMap}
 use Rattle.pciv_format.specs.Read.{listOf}
 use Rattle.pciv_format.specs.Edit.{Edit, edited, plainOutcome, editedFile, editOutcome, replaced}
 use Rattle.pciv_format.specs.Edit.{editBuffer, plainRun, plainOutcomes, plainMoves, bufferOf, editRun}
@@ -41,7 +41,7 @@ held b = listOf (editedFile b)
 -- ---- any buffer
 
 module _ (b : List ℕ) (e : Edit) where
-  pub edit-refused : (r : Refusal) → checkBuffer 1 b ≡ refused r → editOutcome b e ≡ refused r
+  pub edit-refused : (r : Refusal) → countsBuffer 1 b ≡ refused r → editOutcome b e ≡ refused r
   unfolding editOutcome
   edit-refused r is = rw is
 

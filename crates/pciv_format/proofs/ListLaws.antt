@@ -40,11 +40,11 @@ use Rattle.pciv_format.specs.Layout.{overflowCount, header, file, counts
 use Rattle.pciv_format.specs.Layout.{summaryOf, Limits}
 use Rattle.pciv_format.specs.Refusals.{Outcome, done, refuse, refuseIf, refuseFirst, written}
 use Rattle.pciv_format.specs.Parts.{Parts, badEntry, badSlot, valueOf, SoundParts}
-use Rattle.pciv_format.specs.Check.{fileParts, checkFile}
+use Rattle.pciv_format.specs.Check.{fileParts}
 use Rattle.pciv_format.specs.Read.{listOf, primaryPart, behind, primaryPlace, lookupOutcome}
 use Rattle.pciv_format.specs.Read.{entryNumber, itemsInto, lookupListOutcome, lookupListBuffer}
 use Rattle.pciv_format.specs.Read.{lookupListEntries, scanOutcome, scanBuffer, total, readings}
-use Rattle.pciv_format.specs.Read.{sumOutcome, readingsOutcome}
+use Rattle.pciv_format.specs.Read.{checkFile, sumOutcome, readingsOutcome}
 use Rattle.pciv_format.specs.Write.{fileInto, mapInto, writeOutcome, writeBuffer, closeParts}
 use Rattle.pciv_format.specs.Write.{closeOutcome, closeBuffer}
 use Rattle.pciv_format.specs.Mask.{maskLen, maskHas, maskOf, badMask, holds, isNear, selectOutcome}
@@ -71,10 +71,11 @@ use Rattle.pciv_format.proofs.LayoutLaws.{length-header, length-primary
 use Rattle.pciv_format.proofs.PrimaryLaws.{primary-byte}
 use Rattle.pciv_format.proofs.FileLaws.{file-header, file-byte, file-slot, file-distance}
 use Rattle.pciv_format.proofs.FileLaws.{file-checked, file-value}
-use Rattle.pciv_format.proofs.Acceptance.{file-accepted, file-read, file-table, summary-table, table-limits}
+use Rattle.pciv_format.proofs.Acceptance.{file-counted, file-accepted, file-read, file-table, summary-table}
+use Rattle.pciv_format.proofs.Acceptance.{table-limits}
 use Rattle.pciv_format.proofs.OriginLaws.{entryIn, originIn, originOf-entryIn, file-entryNumber}
 use Rattle.pciv_format.proofs.SamePartsLaws.{SameParts, sound-same, same-back, valueOf-same}
-use Rattle.pciv_format.proofs.FrontLaws.{front-check, front-list}
+use Rattle.pciv_format.proofs.FrontLaws.{front-counts, front-list}
 use Rattle.pciv_format.proofs.LimitLaws.{edit-plain}
 
 module _ {A B : Type 0} where
@@ -101,21 +102,21 @@ module _ (xs : List ℕ) (l : Limits xs) where
   pub file-primary : primaryPart (fileOf xs) ≡ primary (length xs) (at xs)
   unfolding primaryPart
   file-primary =
-      rw (file-accepted 1 xs l, file-header (length xs) (at xs) (l .count) (l .each) .nIs)
+      rw (file-counted 1 xs l, file-header (length xs) (at xs) (l .count) (l .each) .nIs)
       (primary-part (length xs) (at xs))
 
   pub file-primaryPlace : (p : ℕ × ℕ) → primaryPlace (fileOf xs) p ≡ behind 40 p
   unfolding primaryPlace
-  file-primaryPlace p = rw (file-accepted 1 xs l)
+  file-primaryPlace p = rw (file-counted 1 xs l)
 
   pub file-lookup : (slot : ℕ)
       → lookupOutcome (fileOf xs) slot
       ≡ refuseIf (leb (length xs) slot) (refuse 9 0 0)
       (done (record { distance = at xs slot; origin = originIn xs slot }))
-  unfolding lookupOutcome summary countsOf
+  unfolding lookupOutcome countsOf
   file-lookup slot =
       rw (
-        file-accepted 1 xs l,
+        file-counted 1 xs l,
         file-read xs l,
         file-entryNumber xs l slot,
         file-header (length xs) (at xs) (l .count) (l .each) .kIs,
@@ -125,30 +126,30 @@ module _ (xs : List ℕ) (l : Limits xs) where
   pub file-lookupList : (slots : List ℕ) (c₂ : ℕ)
       → Writes (λ c₁. lookupListOutcome (fileOf xs) slots c₁ c₂) (lookupListBuffer (fileOf xs) slots c₂)
       (λ c₁. lookupsInto xs slots c₁ c₂) (map (at xs) slots)
-  unfolding lookupListOutcome lookupListBuffer summary countsOf
-  file-lookupList slots c₂ out = rw (file-accepted 1 xs l, file-read xs l) (refl, refl)
+  unfolding lookupListOutcome lookupListBuffer countsOf
+  file-lookupList slots c₂ out = rw (file-counted 1 xs l, file-read xs l) (refl, refl)
 
   pub file-lookupEntries : (slots : List ℕ) (c₁ : ℕ)
       → Writes (lookupListOutcome (fileOf xs) slots c₁) (lookupListEntries (fileOf xs) slots c₁)
       (lookupsInto xs slots c₁) (map (entryIn xs) slots)
-  unfolding lookupListOutcome lookupListEntries summary countsOf
+  unfolding lookupListOutcome lookupListEntries countsOf
   file-lookupEntries slots c₁ out =
       rw (
-        file-accepted 1 xs l,
+        file-counted 1 xs l,
         map-cong (entryNumber (fileOf xs)) (entryIn xs) slots (λ i h. file-entryNumber xs l (getD slots i 0)),
       ) (refl, refl)
 
   pub file-scan : Writes (scanOutcome (fileOf xs)) (scanBuffer (fileOf xs)) (itemsInto (length xs)) xs
-  unfolding scanOutcome scanBuffer summary countsOf
-  file-scan out = rw (file-accepted 1 xs l, file-read xs l) (refl, refl)
+  unfolding scanOutcome scanBuffer countsOf
+  file-scan out = rw (file-counted 1 xs l, file-read xs l) (refl, refl)
 
   pub file-sum : sumOutcome (fileOf xs) ≡ done (total xs)
   unfolding sumOutcome
-  file-sum = rw (file-accepted 1 xs l, file-read xs l)
+  file-sum = rw (file-counted 1 xs l, file-read xs l)
 
   pub file-readings : readingsOutcome (fileOf xs) ≡ done (readings xs)
   unfolding readingsOutcome
-  file-readings = rw (file-accepted 1 xs l, file-read xs l)
+  file-readings = rw (file-counted 1 xs l, file-read xs l)
 
   -- ---- masks of a map
 
@@ -156,8 +157,8 @@ module _ (xs : List ℕ) (l : Limits xs) where
   pub file-select : (p : ℕ → Bool)
       → Writes (selectOutcome (fileOf xs)) (selectWords p (fileOf xs)) (itemsInto (maskLen (length xs)))
       (maskOf (length xs) (λ i. p (at xs i)))
-  unfolding summary countsOf
-  file-select p out = rw (file-accepted 1 xs l, file-read xs l) (refl, refl)
+  unfolding countsOf
+  file-select p out = rw (file-counted 1 xs l, file-read xs l) (refl, refl)
 
   pub file-threshold : (c : Comparison) (t : ℕ)
       → Writes (thresholdOutcome c (fileOf xs) t) (thresholdWords c (fileOf xs) t) (itemsInto (maskLen (length xs)))
@@ -188,14 +189,14 @@ module _ (xs : List ℕ) (l : Limits xs) where
   pub file-shift : (d : ℤ)
       → Writes (shiftOutcome (fileOf xs) d) (shiftBuffer (fileOf xs) d) (mapInto (length xs) (shiftedAt d xs))
       (file (length xs) (shiftedAt d xs))
-  unfolding shiftOutcome shiftBuffer summary countsOf
-  file-shift d out = rw (file-accepted 1 xs l, file-read xs l) (refl, refl)
+  unfolding shiftOutcome shiftBuffer countsOf
+  file-shift d out = rw (file-counted 1 xs l, file-read xs l) (refl, refl)
 
   pub file-masked : (f : Bool → ℕ → ℕ) (ws : List ℕ)
       → Writes (maskedOutcome f (fileOf xs) ws) (maskedBuffer f (fileOf xs) ws) (maskedInto f ws xs)
       (file (length xs) (maskedAt f ws xs))
-  unfolding summary countsOf
-  file-masked f ws out = rw (file-accepted 1 xs l, file-read xs l) (refl, refl)
+  unfolding countsOf
+  file-masked f ws out = rw (file-counted 1 xs l, file-read xs l) (refl, refl)
 
   pub file-keepMasked : (ws : List ℕ)
       → Writes (keepMaskedOutcome (fileOf xs) ws) (keepMaskedBuffer (fileOf xs) ws) (maskedInto keptIf ws xs)
@@ -219,8 +220,8 @@ module _ {A : Type 0} where
 module _ (xs ys : List ℕ) (l : Limits xs) (m : Limits ys) where
   pub file-pair : {A : Type 0} (next : ℕ → Outcome A)
       → pairOutcome (fileOf xs) (fileOf ys) next ≡ refuseSizes xs ys (next (length xs))
-  unfolding summary countsOf
-  file-pair next = rw (file-accepted 1 xs l, file-accepted 2 ys m)
+  unfolding countsOf
+  file-pair next = rw (file-counted 1 xs l, file-counted 2 ys m)
 
   pub file-combineMaps : (o : SlotOp)
       → Writes (combineMapsOutcome o (fileOf xs) (fileOf ys)) (combineMapsBuffer o (fileOf xs) (fileOf ys))
@@ -254,8 +255,8 @@ reportOf xs = textOf (refuseIf (ltb 65536 (summaryOf xs .len)) (refuse 12 0 0) (
 
 module _ (xs : List ℕ) (l : Limits xs) where
   pub file-reportText : reportText (fileOf xs) ≡ reportOf xs
-  unfolding reportText summary countsOf
-  file-reportText = rw (file-accepted 1 xs l, file-read xs l, length-file (length xs) (at xs))
+  unfolding reportText countsOf summary total
+  file-reportText = rw (file-counted 1 xs l, file-read xs l, length-file (length xs) (at xs))
 
   pub file-report :
       Writes (reportOutcome (fileOf xs)) (reportBuffer (fileOf xs)) (itemsInto (length (reportOf xs))) (reportOf xs)
@@ -291,8 +292,8 @@ module _ (xs t : List ℕ) (l : Limits xs) where
       ≡ ifAccepted (runInto slots distances c) (bufferOf (plainRun (length b) (plainStart xs) es) b) b))
   unfolding editListOutcome editListAnswers editListBuffer
   front-editList slots distances = (
-    λ out. rw (front-check xs t l 1, front-list xs t l) (refl, refl),
-    λ c. rw (front-check xs t l 1, front-list xs t l),
+    λ out. rw (front-counts xs t l 1, front-list xs t l) (refl, refl),
+    λ c. rw (front-counts xs t l 1, front-list xs t l),
   )
 
 -- ---- what is read from a written map
@@ -456,7 +457,7 @@ module _ (n : ℕ) (v : ℕ → ℕ) (few : n ≤ maxSlots) (each : (i : ℕ) �
   value : (i : ℕ) → i < n → valueOf parts i ≡ v i
   value i h =
       let inside : i < parts .n = omega (arith, length-primary n v) in
-      sym (valueOf-same parts _ (same-back _ parts same) sound (primary-bytes n v) i inside)
+      sym (valueOf-same parts _ (same-back _ parts same) sound i inside (primary-bytes n v i))
       ∙ file-value n v few each i h
 
   parts-file : file (length (primary n v)) (valueOf parts) ≡ file n v

@@ -25,12 +25,12 @@ use Rattle.pciv_bytes.proofs.WriteLaws.{sets-front}
 use Rattle.pciv_format.specs.Layout.{at}
 use Rattle.pciv_format.specs.Refusals.{done, refused, refuse}
 use Rattle.pciv_format.specs.Parts.{entryOf, valueOf}
-use Rattle.pciv_format.specs.Check.{fileParts, checkFile, CheckedMap}
+use Rattle.pciv_format.specs.Check.{fileParts, countsFile, CheckedMap}
 use Rattle.pciv_format.specs.Read.{listOf, primaryPart, behind, primaryPlace, entryNumber, located}
 use Rattle.pciv_format.specs.Read.{lookupOutcome, itemsInto, lookupListOutcome, lookupListBuffer}
 use Rattle.pciv_format.specs.Read.{lookupListEntries, scanOutcome, scanBuffer, readings, sumOutcome}
 use Rattle.pciv_format.specs.Read.{readingsOutcome}
-use Rattle.pciv_format.specs.declared.Summary.{Summary}
+use Rattle.pciv_format.specs.declared.Counts.{Counts}
 use Rattle.pciv_format.specs.declared.Refusal.{Refusal}
 use Rattle.pciv_format.proofs.RefusalsLaws.{refuseFirst-none, refuseFirst-some}
 use Rattle.pciv_format.proofs.CheckLaws.{done-counts}
@@ -38,7 +38,7 @@ use Rattle.pciv_format.proofs.ReadLaws.{listOf-is, at-list, total-is, i
 
 -- ---- the file is refused
 
-module _ (b : List ℕ) (r : Refusal) (e : checkFile 1 b ≡ refused r) where
+module _ (b : List ℕ) (r : Refusal) (e : countsFile 1 b ≡ refused r) where
   pub primary-refused : primaryPart b ≡ []
   unfolding primaryPart
   primary-refused = rw e
@@ -69,7 +69,7 @@ module _ (b : List ℕ) (r : Refusal) (e : checkFile 1 b ≡ refused r) where
 
 -- ---- the file is a map
 
-module _ (b : List ℕ) (s : Summary) (e : checkFile 1 b ≡ done s) where
+module _ (b : List ℕ) (s : Counts) (e : countsFile 1 b ≡ done s) where
   pub checked : CheckedMap b (s .n) (s .k)
   checked = done-counts 1 b s e .0
 

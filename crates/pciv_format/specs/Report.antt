@@ -14,8 +14,7 @@ use mathlib.Core.List.{List, [], _∷_, _++_}
 use lib.ListN.{length}
 use lib.Dec.{ltb}
 use Rattle.pciv_format.specs.Refusals.{Outcome, done, refused, refuse, refuseIf, written}
-use Rattle.pciv_format.specs.Check.{checkFile}
-use Rattle.pciv_format.specs.Read.{listOf, total, readings, itemsInto}
+use Rattle.pciv_format.specs.Read.{listOf, total, readings, checkFile, itemsInto}
 use Rattle.pciv_format.specs.declared.Summary.{Summary}
 use Rattle.pciv_format.specs.declared.Refusal.{Refusal}
 

@@ -3,7 +3,7 @@ use mathlib.Core.Path.{_≡_, sym, ap, _∙_}
 use mir.Syntax.{w32}
 use mir.Facts.{toZ-ofZ}
 use Rattle.pciv_format.specs.Refusals.{done, refused}
-use Rattle.pciv_format.specs.Check.{checkFile}
+use Rattle.pciv_format.specs.Check.{countsFile}
 use Rattle.pciv_format.proofs.RefusalsLaws.{fileAnswer-done, fileAnswer-refused}
 use Rattle.pciv_arith.specs.Direction.{directionOf}
 use Rattle.pciv_arith.specs.declared.Direction.the-variants.{Down, Up}
@@ -17,11 +17,11 @@ entry c = c .before .before .before
 
 -- what the check has shown: why the file is refused, or its counts
 is-refused : (c : tie.After-checked)
-    → checkFile 1 (entry (c .before .before) .args .file .now) ≡ refused (c .checked .given .0 .0)
+    → countsFile 1 (entry (c .before .before) .args .file .now) ≡ refused (c .checked .given .0 .0)
 is-refused c = fileAnswer-refused _ _ (sym (c .checked .given .1) ∙ c .before .before .check .ensures)
 
 is-map : (c : tie.After-checked2)
-    → checkFile 1 (entry (c .before .before) .args .file .now) ≡ done (c .checked2 .given .0 .0)
+    → countsFile 1 (entry (c .before .before) .args .file .now) ≡ done (c .checked2 .given .0 .0)
 is-map c = fileAnswer-done _ _ (sym (c .checked2 .given .1) ∙ c .before .before .check .ensures)
 
 -- which way it goes

@@ -3,7 +3,7 @@ use mathlib.Core.Path.{_≡_, sym, ap, _∙_}
 use Prim.Native.Nat.{ℕ, _≤_, min}
 use native.Mathlib.Omega.{arith}
 use Rattle.pciv_format.specs.Refusals.{done, refused, numberAnswer}
-use Rattle.pciv_format.specs.Check.{checkFile}
+use Rattle.pciv_format.specs.Check.{countsFile}
 use Rattle.pciv_format.proofs.RefusalsLaws.{fileAnswer-done, fileAnswer-refused}
 use lib.ListN.{length, getD}
 use lib.Dec.{leb}
@@ -19,12 +19,12 @@ use Rattle.pciv_read.proofs.lookup_list.Tie as tie
 -- what the check has shown: why the file is refused, or its counts
 is-refused : (c : tie.After-checked)
     → (let a = c .before .before .before .before .before .before .before .args in
-    checkFile 1 (a .file .now) ≡ refused (c .checked .given .0 .0))
+    countsFile 1 (a .file .now) ≡ refused (c .checked .given .0 .0))
 is-refused c = fileAnswer-refused _ _ (sym (c .checked .given .1) ∙ c .before .before .check .ensures)
 
 is-map : (c : tie.After-checked2)
     → (let a = c .before .before .before .before .before .before .before .args in
-    checkFile 1 (a .file .now) ≡ done (c .checked2 .given .0 .0))
+    countsFile 1 (a .file .now) ≡ done (c .checked2 .given .0 .0))
 is-map c = fileAnswer-done _ _ (sym (c .checked2 .given .1) ∙ c .before .before .check .ensures)
 
 -- every slot of the list is below n

@@ -2,7 +2,7 @@
 use mathlib.Core.Path.{_≡_, sym, _∙_}
 use native.Mathlib.Omega.{arith}
 use Rattle.pciv_format.specs.Refusals.{done, refused}
-use Rattle.pciv_format.specs.Check.{checkFile}
+use Rattle.pciv_format.specs.Check.{countsFile}
 use Rattle.pciv_format.proofs.RefusalsLaws.{fileAnswer-done, fileAnswer-refused}
 use Rattle.pciv_format.proofs.MapLaws.{primary-inside}
 use Rattle.pciv_format.proofs.ReadCaseLaws.{checked, primary-refused, primary-done, place-refused, place-done}
@@ -12,11 +12,11 @@ use Rattle.pciv_read.proofs.primary.Tie as tie
 
 -- what the check has shown
 is-refused : (c : tie.After-enum-told)
-    → checkFile 1 (c .before .before .before .before .args .file .now) ≡ refused (c .enum-told .given .0 .0)
+    → countsFile 1 (c .before .before .before .before .args .file .now) ≡ refused (c .enum-told .given .0 .0)
 is-refused c = fileAnswer-refused _ _ (sym (c .enum-told .given .1) ∙ c .before .before .check .ensures)
 
 is-map : (c : tie.After-checked)
-    → checkFile 1 (c .before .before .before .before .args .file .now) ≡ done (c .checked .given .0 .0)
+    → countsFile 1 (c .before .before .before .before .args .file .now) ≡ done (c .checked .given .0 .0)
 is-map c = fileAnswer-done _ _ (sym (c .checked .given .1) ∙ c .before .before .check .ensures)
 
 check-requires : tie.Need-check-requires

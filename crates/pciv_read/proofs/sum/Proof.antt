@@ -2,7 +2,7 @@
 use mathlib.Core.Path.{_≡_, sym, ap, _∙_}
 use Prim.Native.Nat.{ℕ}
 use Rattle.pciv_format.specs.Refusals.{done, refused, numberAnswer}
-use Rattle.pciv_format.specs.Check.{checkFile}
+use Rattle.pciv_format.specs.Check.{countsFile}
 use Rattle.pciv_format.proofs.RefusalsLaws.{fileAnswer-done, fileAnswer-refused}
 use Rattle.pciv_format.proofs.ReadCaseLaws.{checked, sum-refused, sum-done}
 use borrow.Author.Needs.{needs}
@@ -11,11 +11,11 @@ use Rattle.pciv_read.proofs.sum.Tie as tie
 
 -- what the check has shown: why the file is refused, or its counts
 is-refused : (c : tie.After-checked)
-    → checkFile 1 (c .before .before .before .before .args .file .now) ≡ refused (c .checked .given .0 .0)
+    → countsFile 1 (c .before .before .before .before .args .file .now) ≡ refused (c .checked .given .0 .0)
 is-refused c = fileAnswer-refused _ _ (sym (c .checked .given .1) ∙ c .before .before .check .ensures)
 
 is-map : (c : tie.After-checked2)
-    → checkFile 1 (c .before .before .before .before .args .file .now) ≡ done (c .checked2 .given .0 .0)
+    → countsFile 1 (c .before .before .before .before .args .file .now) ≡ done (c .checked2 .given .0 .0)
 is-map c = fileAnswer-done _ _ (sym (c .checked2 .given .1) ∙ c .before .before .check .ensures)
 
 check-requires : tie.Need-check-requires

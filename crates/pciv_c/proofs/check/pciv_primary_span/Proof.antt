@@ -1,6 +1,6 @@
 -- Proves pciv_c::check::pciv_primary_span.
 use mathlib.Core.Path.{sym, _∙_}
-use Rattle.pciv_format.specs.Check.{checkFile}
+use Rattle.pciv_format.specs.Check.{countsFile}
 use Rattle.pciv_format.proofs.RefusalsLaws.{fileAnswer-done, fileAnswer-refused}
 use borrow.Author.Needs.{needs}
 use Rattle.pciv_c.proofs.check.pciv_primary_span.Statement.{statement}
@@ -19,7 +19,7 @@ returns : tie.Need-returns
 returns c =
     let k = c .before .before in
     let h = k .before .before in
-    let o = checkFile 1 (h .before .before .args .file .now) in
+    let o = countsFile 1 (h .before .before .args .file .now) in
     let e = fileAnswer-done o _ (sym (k .checked .given .1) ∙ h .check .ensures) in
     (rw e, rw e)
 
@@ -27,7 +27,7 @@ returns-2 : tie.Need-returns-2
 returns-2 c =
     let k = c .before in
     let h = k .before .before in
-    let o = checkFile 1 (h .before .before .args .file .now) in
+    let o = countsFile 1 (h .before .before .args .file .now) in
     let e = fileAnswer-refused o _ (sym (k .enum-told .given .1) ∙ h .check .ensures) in
     (rw e, rw e)
 

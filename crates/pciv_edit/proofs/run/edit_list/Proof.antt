@@ -4,7 +4,7 @@ use Prim.Native.Nat.{_*_, _≤_}
 use native.Mathlib.Omega.{arith}
 use lib.ListN.{length}
 use Rattle.pciv_format.specs.Refusals.{done, refused}
-use Rattle.pciv_format.specs.Check.{checkBuffer}
+use Rattle.pciv_format.specs.Check.{countsBuffer}
 use Rattle.pciv_format.specs.Edit.{answerLen}
 use Rattle.pciv_format.proofs.RefusalsLaws.{fileAnswer-done, fileAnswer-refused}
 use Rattle.pciv_format.proofs.CheckLaws.{done-buffer}
@@ -19,11 +19,11 @@ abbrev from-check : tie.After-check-buffer → tie.Start
 from-check c = c .before .before .before .before .before .before
 
 is-refused : (c : tie.After-checked)
-    → checkBuffer 1 (from-check (c .before .before) .args .buffer .now) ≡ refused (c .checked .given .0 .0)
+    → countsBuffer 1 (from-check (c .before .before) .args .buffer .now) ≡ refused (c .checked .given .0 .0)
 is-refused c = fileAnswer-refused _ _ (sym (c .checked .given .1) ∙ c .before .before .check-buffer .ensures)
 
 is-map : (c : tie.After-checked2)
-    → checkBuffer 1 (from-check (c .before .before) .args .buffer .now) ≡ done (c .checked2 .given .0 .0)
+    → countsBuffer 1 (from-check (c .before .before) .args .buffer .now) ≡ done (c .checked2 .given .0 .0)
 is-map c = fileAnswer-done _ _ (sym (c .checked2 .given .1) ∙ c .before .before .check-buffer .ensures)
 
 -- as many distances as slots

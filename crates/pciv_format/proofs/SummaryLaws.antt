@@ -1,0 +1,165 @@
+-- The sum in a summary (docs/PROMISES.md, "The sum in a summary"): it is always that of the file's list.
+--   countsIn s           the five counts of a summary
+--   withSum-iff          an outcome with a sum, and without: refused alike, and done with the same counts
+--   counts-refuse-alike, buffer-refuse-alike    so it is with the check, which answers the sum, and with the counts alone
+--   summary-sum          the summary of a list has the list's sum
+--   check-sum            where the check of a file is done, its sixth number is the answer of `sum`
+--   written-summary      where a file is written, the answer is what the check of that file answers
+--   sum-edited           an edit adds the new distance to the sum and takes off the old one
+--   total-front, total-buffer    the sum of the file at the front of a checked buffer
+--   front-check          the check of a buffer with the file of a list at its front
+--   buffer-is-file       the check of a buffer of bytes: the summary of the file at its front
+-- Axioms: none.
+use mathlib.Core.Path.{_≡_, refl, sym, ap, ap₂, _∙_}
+use mathlib.Core.Logic.{_↔_}
+use Prim.Native.Nat.{ℕ, _+_, _-_, _≤_, _<_}
+use native.Mathlib.Nat.{sub-zero}
+use native.Mathlib.Omega.{arith}
+use mathlib.Core.List.{List, _++_}
+use lib.ListN.{length}
+use lib.Dec.{ltb}
+use borrow.Author.Tests.{le-ltb}
+use Rattle.pciv_bytes.specs.Ranges.{sumFrom, table}
+use Rattle.pciv_bytes.specs.LittleEndian.{Bytes}
+use Rattle.pciv_bytes.proofs.SumLaws.{sumFrom-more, sumFrom-split, sumFrom-cong}
+use Rattle.pciv_format.specs.Layout.{maxSlots, maxDistance, fileLen, overflowCount, file, countsOf}
+use Rattle.pciv_format.specs.Layout.{summarize, summary, at, fileOf, summaryOf, Limits}
+use Rattle.pciv_format.specs.Refusals.{Outcome, done, refused}
+use Rattle.pciv_format.specs.Parts.{valueOf}
+use Rattle.pciv_format.specs.Check.{fileParts, countsFile, countsBuffer, CheckedMap}
+use Rattle.pciv_format.specs.Read.{listOf, total, withSum, checkFile, checkBuffer, sumOutcome}
+use Rattle.pciv_format.specs.Write.{fileInto}
+use Rattle.pciv_format.specs.Edit.{Edit, edited, editedFile}
+use Rattle.pciv_format.specs.declared.Counts.{Counts}
+use Rattle.pciv_format.specs.declared.Summary.{Summary}
+use Rattle.pciv_format.specs.declared.Refusal.{Refusal}
+use Rattle.pciv_format.proofs.RefusalsLaws.{refuseIf-done}
+use Rattle.pciv_format.proofs.CheckLaws.{checkWith-done, done-buffer}
+use Rattle.pciv_format.proofs.FileLaws.{file-checked}
+use Rattle.pciv_format.proofs.ReadLaws.{total-is}
+use Rattle.pciv_format.proofs.Acceptance.{file-accepted, file-table, summary-table, table-limits}
+use Rattle.pciv_format.proofs.FrontLaws.{Holds, checked-front, front-checked, front-value}
+use Rattle.pciv_format.proofs.FrontLaws.{front-counts}
+use Rattle.pciv_format.proofs.EditLaws.{edited-at, edited-other, length-edited}
+
+-- ---- with the sum and without
+
+abbrev pub countsIn : Summary → Counts
+countsIn s = record { n = s .n; k = s .k; m = s .m; step = s .step; len = s .len }
+
+-- o' has the same refusals as o, and where it is done, the same counts and that sum
+abbrev pub Alike : Outcome Summary → Outcome Counts → ℕ → Type 0
+Alike o' o sum =
+    ((r : Refusal) → (o' ≡ refused r) ↔ (o ≡ refused r))
+    × ((s : Summary) → (o' ≡ done s) ↔ ((o ≡ done (countsIn s)) × (s .sum ≡ sum)))
+
+pub withSum-iff : (o : Outcome Counts) (sum : ℕ) → Alike (withSum o sum) o sum
+withSum-iff (done c) sum = (
+  λ r. (λ e. cc, λ e. cc),
+  λ s. (
+    λ e. (cc, cc),
+    λ e.
+        (let q : c ≡ countsIn s = cc (e .0) in
+        ap₂ (λ (c : Counts) (x : ℕ). done (summarize c x)) q (sym (e .1))),
+  ),
+)
+withSum-iff (refused t) sum = (
+  λ r. (λ e. cc, λ e. cc),
+  λ s. (λ e. (cc, cc), λ e. cc (e .0)),
+)
+
+pub counts-refuse-alike : (mp : ℕ) (b : List ℕ) → Alike (checkFile mp b) (countsFile mp b) (total (listOf b))
+counts-refuse-alike mp b = withSum-iff (countsFile mp b) (total (listOf b))
+
+pub buffer-refuse-alike : (mp : ℕ) (b : List ℕ) → Alike (checkBuffer mp b) (countsBuffer mp b) (total (listOf b))
+buffer-refuse-alike mp b = withSum-iff (countsBuffer mp b) (total (listOf b))
+
+-- ---- of a file
+
+pub summary-sum : (xs : List ℕ) → summaryOf xs .sum ≡ total xs
+unfolding summary total
+summary-sum xs = refl
+
+pub check-sum : (b : List ℕ) (s : Summary) → checkFile 1 b ≡ done s → sumOutcome b ≡ done (s .sum)
+unfolding sumOutcome
+check-sum b s e =
+    let a = counts-refuse-alike 1 b .1 s .0 e in
+    rw (a .0, a .1)
+
+pub written-summary : (n : ℕ) (v : ℕ → ℕ) → n ≤ maxSlots → ((i : ℕ) → i < n → v i ≤ maxDistance)
+    → (capacity : ℕ) (s : Summary) → fileInto n v capacity ≡ done s → (mp : ℕ) → checkFile mp (file n v) ≡ done s
+written-summary n v few each capacity s e mp =
+    let is : done (summary n v) ≡ done s = refuseIf-done (ltb capacity (length (file n v))) _ _ s e .1 in
+    ap (checkFile mp) (file-table n v)
+    ∙ file-accepted mp (table v 0 n) (table-limits n v few each)
+    ∙ sym (ap done (summary-table n v))
+    ∙ is
+
+-- ---- of an edited list
+
+-- around one slot
+sum-around : (f : ℕ → ℕ) (s n : ℕ) → s < n → sumFrom f 0 n ≡ sumFrom f 0 s + (f s + sumFrom f (s + 1) (n - (s + 1)))
+sum-around f s n h =
+    (rw (sub-zero n, sub-zero s) at (sumFrom-split f 0 s n (omega arith) (omega arith)))
+    ∙ ap (λ (x : ℕ). sumFrom f 0 s + x) (sumFrom-more f s n h)
+
+pub sum-edited : (x : List ℕ) (e : Edit) → e .slot < length x
+    → total (edited x e) + at x (e .slot) ≡ total x + e .distance
+unfolding total
+sum-edited x e inside =
+    let n : ℕ = length x in
+    let s : ℕ = e .slot in
+    let f : ℕ → ℕ = at x in
+    let g : ℕ → ℕ = at (edited x e) in
+    rw (length-edited x e)
+    (omega (
+      arith,
+      edited-at x e inside,
+      sum-around f s n inside,
+      sum-around g s n inside,
+      sumFrom-cong f g 0 s (λ i h₁ h₂. edited-other x e i (λ q. omega arith)),
+      sumFrom-cong f g (s + 1) (n - (s + 1)) (λ i h₁ h₂. edited-other x e i (λ q. omega arith)),
+    ))
+
+-- ---- of a buffer
+
+module _ (b : List ℕ) (n k : ℕ) (bytes : Bytes b) (c : CheckedMap b n k) where
+  -- by its parts
+  pub total-front : total (listOf (editedFile b)) ≡ sumFrom (valueOf (fileParts b n k)) 0 n
+  unfolding total
+  total-front =
+      let h = checked-front b n k bytes c in
+      rw (h .slots)
+      (sumFrom-cong (at (listOf (editedFile b))) (valueOf (fileParts b n k)) 0 n (λ i h₁ h₂. h .each i (omega arith)))
+
+  pub total-buffer : total (listOf b) ≡ total (listOf (editedFile b))
+  total-buffer = total-is b n k (c .header .nIs) (c .header .kIs) ∙ sym total-front
+
+module _ (xs t : List ℕ) (l : Limits xs) where
+  pub front-check : (mp : ℕ) → checkBuffer mp (fileOf xs ++ t) ≡ done (summaryOf xs)
+  unfolding summary
+  front-check mp =
+      let n : ℕ = length xs in
+      let k : ℕ = overflowCount n (at xs) in
+      let map = file-checked n (at xs) (l .count) (l .each) in
+      let h = front-checked (fileOf xs) t n k (map .fits) map .header in
+      let sum : total (listOf (fileOf xs ++ t)) ≡ sumFrom (at xs) 0 n =
+      total-is (fileOf xs ++ t) n k (h .nIs) (h .kIs)
+      ∙ sumFrom-cong (valueOf (fileParts (fileOf xs ++ t) n k)) (at xs) 0 n
+      (λ i h₁ h₂. front-value n (at xs) (l .count) (l .each) t i (omega arith)) in
+      rw (front-counts xs t l mp, sum)
+
+pub buffer-is-file : (mp : ℕ) (b : List ℕ) (s : Summary) → Bytes b → checkBuffer mp b ≡ done s
+    → Holds b (s .n) (s .k) (listOf (editedFile b)) × (s ≡ summaryOf (listOf (editedFile b)))
+unfolding summary total
+buffer-is-file mp b s bytes e =
+    let x : List ℕ = listOf (editedFile b) in
+    let a = buffer-refuse-alike mp b .1 s .0 e in
+    let c = done-buffer mp b (countsIn s) (a .0) in
+    let h = checked-front b (s .n) (s .k) bytes c in
+    let is : done (countsOf (s .n) (s .k)) ≡ done (countsIn s) =
+    sym (checkWith-done ltb mp b (s .n) (s .k) c (le-ltb (length b) (fileLen (s .n) (s .k)) (c .fits))) ∙ a .0 in
+    let counts : countsIn s ≡ countsOf (s .n) (s .k) = cc in
+    let same : countsOf (s .n) (s .k) ≡ countsOf (length x) (overflowCount (length x) (at x)) =
+    rw (h .slots) (ap (countsOf (s .n)) (sym (h .count))) in
+    (h, ap₂ summarize (counts ∙ same) (a .1 ∙ total-buffer b (s .n) (s .k) bytes c))
