@@ -1,3 +1,4 @@
 pub mod RefusalLaws
+pub mod SumAnswerLaws
 pub mod PairLaws
 pub mod SoundPairLaws

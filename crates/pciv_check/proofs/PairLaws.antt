@@ -10,7 +10,7 @@ use Prim.Native.Nat.{ℕ}
 use mathlib.Core.Bool.{Bool, true, false, not}
 use mathlib.Core.List.{List}
 use lib.Dec.{eqb}
-use Rattle.pciv_format.specs.Layout.{countsOf, summary, fileOf, summaryOf, Limits}
+use Rattle.pciv_format.specs.Layout.{countsOf, fileOf, listCounts, Limits}
 use Rattle.pciv_format.specs.Refusals.{Outcome, done, refused, refuse, refuseIf, andThen}
 use Rattle.pciv_format.specs.Check.{countsFile}
 use Rattle.pciv_format.specs.Arith.{pairOutcome}
@@ -19,7 +19,7 @@ use Rattle.pciv_format.specs.declared.Refusal.{Refusal}
 use Rattle.pciv_format.proofs.PartsLaws.{not-eqb, eqb-not, neb-not}
 use Rattle.pciv_format.proofs.RefusalsLaws.{refuseIf-done, andThen-done}
 use Rattle.pciv_format.proofs.CheckLaws.{done-counts}
-use Rattle.pciv_format.proofs.Acceptance.{file-accepted}
+use Rattle.pciv_format.proofs.Acceptance.{file-counted}
 use Rattle.pciv_format.proofs.ListLaws.{refuseSizes}
 use Rattle.pciv_check.specs.Pair.{bothCounts, pairCounts, pairAnswer, CheckedPair}
 use Rattle.pciv_check.specs.declared.pair.PairCounts.{PairCounts}
@@ -65,9 +65,9 @@ module _ (a b : List ℕ) where
 -- ---- of lists
 
 pub file-pairCounts : (xs ys : List ℕ) → Limits xs → Limits ys
-    → pairCounts (fileOf xs) (fileOf ys) ≡ refuseSizes xs ys (done (bothCounts (summaryOf xs) (summaryOf ys)))
-unfolding pairCounts summary countsOf
-file-pairCounts xs ys l m = rw (file-accepted 1 xs l, file-accepted 2 ys m)
+    → pairCounts (fileOf xs) (fileOf ys) ≡ refuseSizes xs ys (done (bothCounts (listCounts xs) (listCounts ys)))
+unfolding pairCounts countsOf
+file-pairCounts xs ys l m = rw (file-counted 1 xs l, file-counted 2 ys m)
 
 -- ---- what follows
 

@@ -23,7 +23,7 @@ use Rattle.pciv_bytes.specs.Ranges.{table, sumFrom}
 use Rattle.pciv_bytes.specs.LittleEndian.{Bytes}
 use Rattle.pciv_bytes.proofs.RangesLaws.{length-table, getD-table}
 use Rattle.pciv_format.specs.Layout.{maxSlots, maxDistance, overflowCount, file, countsOf, summarize}
-use Rattle.pciv_format.specs.Layout.{summary, at, fileOf, summaryOf, Limits}
+use Rattle.pciv_format.specs.Layout.{summary, at, fileOf, listCounts, summaryOf, Limits}
 use Rattle.pciv_format.specs.Refusals.{done}
 use Rattle.pciv_format.specs.Check.{nField, kField, countsFile, CheckedMap}
 use Rattle.pciv_format.specs.Read.{valueAt, listOf, total, checkFile}
@@ -36,8 +36,7 @@ use Rattle.pciv_format.proofs.FileLaws.{file-checked, file-value}
 use Rattle.pciv_format.proofs.CheckedFileLaws.{checked-value-le, checked-count, checked-file}
 use Rattle.pciv_format.proofs.ReadLaws.{length-listOf, at-listOf}
 
-pub file-counted : (mp : ℕ) (xs : List ℕ) → Limits xs
-    → countsFile mp (fileOf xs) ≡ done (countsOf (length xs) (overflowCount (length xs) (at xs)))
+pub file-counted : (mp : ℕ) (xs : List ℕ) → Limits xs → countsFile mp (fileOf xs) ≡ done (listCounts xs)
 file-counted mp xs l =
     let n : ℕ = length xs in
     countsFile-done mp (fileOf xs) n (overflowCount n (at xs)) (file-checked n (at xs) (l .count) (l .each))

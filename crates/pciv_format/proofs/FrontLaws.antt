@@ -17,7 +17,7 @@ use borrow.Author.Tests.{le-ltb}
 use Rattle.pciv_bytes.specs.LittleEndian.{get, Bytes}
 use Rattle.pciv_bytes.proofs.LittleEndianLaws.{bytes-take, get-in}
 use Rattle.pciv_format.specs.Layout.{maxSlots, maxDistance, indexStep, indexLen, fileLen, overflowCount}
-use Rattle.pciv_format.specs.Layout.{file, countsOf, at, fileOf, Limits}
+use Rattle.pciv_format.specs.Layout.{file, countsOf, at, fileOf, listCounts, Limits}
 use Rattle.pciv_format.specs.Refusals.{done}
 use Rattle.pciv_format.specs.Parts.{Parts, valueOf}
 use Rattle.pciv_format.specs.Check.{fileParts, badIndexEntry, countsBuffer, CheckedMap}
@@ -118,8 +118,7 @@ module _ (xs t : List ℕ) (l : Limits xs) where
   counted : CheckedMap (fileOf xs) (length xs) (overflowCount (length xs) (at xs))
   counted = file-checked (length xs) (at xs) (l .count) (l .each)
 
-  pub front-counts : (mp : ℕ) → countsBuffer mp (fileOf xs ++ t)
-      ≡ done (countsOf (length xs) (overflowCount (length xs) (at xs)))
+  pub front-counts : (mp : ℕ) → countsBuffer mp (fileOf xs ++ t) ≡ done (listCounts xs)
   front-counts mp =
       let k : ℕ = overflowCount (length xs) (at xs) in
       let b : List ℕ = fileOf xs ++ t in

@@ -23,7 +23,7 @@ use Rattle.pciv_bytes.specs.Ranges.{sumFrom, table}
 use Rattle.pciv_bytes.specs.LittleEndian.{Bytes}
 use Rattle.pciv_bytes.proofs.SumLaws.{sumFrom-more, sumFrom-split, sumFrom-cong}
 use Rattle.pciv_format.specs.Layout.{maxSlots, maxDistance, fileLen, overflowCount, file, countsOf}
-use Rattle.pciv_format.specs.Layout.{summarize, summary, at, fileOf, summaryOf, Limits}
+use Rattle.pciv_format.specs.Layout.{summarize, summary, at, fileOf, listCounts, summaryOf, Limits}
 use Rattle.pciv_format.specs.Refusals.{Outcome, done, refused}
 use Rattle.pciv_format.specs.Parts.{valueOf}
 use Rattle.pciv_format.specs.Check.{fileParts, countsFile, countsBuffer, CheckedMap}
@@ -160,6 +160,6 @@ buffer-is-file mp b s bytes e =
     let is : done (countsOf (s .n) (s .k)) ≡ done (countsIn s) =
     sym (checkWith-done ltb mp b (s .n) (s .k) c (le-ltb (length b) (fileLen (s .n) (s .k)) (c .fits))) ∙ a .0 in
     let counts : countsIn s ≡ countsOf (s .n) (s .k) = cc in
-    let same : countsOf (s .n) (s .k) ≡ countsOf (length x) (overflowCount (length x) (at x)) =
+    let same : countsOf (s .n) (s .k) ≡ listCounts x =
     rw (h .slots) (ap (countsOf (s .n)) (sym (h .count))) in
     (h, ap₂ summarize (counts ∙ same) (a .1 ∙ total-buffer b (s .n) (s .k) bytes c))

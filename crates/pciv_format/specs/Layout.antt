@@ -11,7 +11,7 @@
 --   indexPart ss         the sparse index of overflow slots ss, each an indexEntry ss step i
 --   magic, header n k    the first eight bytes as a number; the header
 --   file n v, fileOf xs  the whole file
---   countsOf n k         the counts of a file with n slots and k overflow entries
+--   countsOf n k, listCounts xs    the counts of a file with n slots and k overflow entries; of the file of a list
 --   summarize c sum      the summary with the counts c and the sum of all distances
 --   summary n v, summaryOf xs    the summary of a file
 --   Limits xs            a list that a file can hold
@@ -108,6 +108,9 @@ at xs i = getD xs i 0
 
 abbrev pub fileOf : List ℕ → List ℕ
 fileOf xs = file (length xs) (at xs)
+
+abbrev pub listCounts : List ℕ → Counts
+listCounts xs = countsOf (length xs) (overflowCount (length xs) (at xs))
 
 abbrev pub summaryOf : List ℕ → Summary
 summaryOf xs = summary (length xs) (at xs)

@@ -8,7 +8,7 @@ use Rattle.pciv_format.specs.Layout.{maxSlots, magic, indexStep, indexLen, coun
 use mathlib.Core.Bool.{true}
 use Rattle.pciv_format.specs.Refusals.{refuse, countsAnswer}
 use Rattle.pciv_format.specs.Check.{nField, kField, mField, stepField, badCounts, checkHeader}
-use Rattle.pciv_format.specs.declared.CountsAnswer.the-variants.{Done}
+use Rattle.pciv_format.specs.declared.CountsAnswer.the-variants.{Counted}
 use Rattle.pciv_format.specs.declared.Counts.{Counts}
 use Rattle.pciv_format.proofs.CheckLaws.{checkHeader-done}
 use Rattle.pciv_check.proofs.RefusalLaws.{badCounts-k, badCounts-step, badCounts-m, header-short}
@@ -149,7 +149,7 @@ returns-7 c =
       small = omega arith;
       few = omega arith;
     }) in
-    ap Done (t .counts-of .ensures) ∙ ap countsAnswer (sym done)
+    ap Counted (t .counts-of .ensures) ∙ ap countsAnswer (sym done)
 
 pub check-header-spec : {M : Type 1} → statement M
 check-header-spec =

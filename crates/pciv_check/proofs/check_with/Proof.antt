@@ -2,7 +2,7 @@
 use mathlib.Core.Path.{_≡_, sym, _∙_}
 use Rattle.pciv_format.specs.Refusals.{done}
 use Rattle.pciv_format.specs.Check.{checkHeader, checkWith}
-use Rattle.pciv_format.proofs.RefusalsLaws.{countsAnswer-done, countsAnswer-refused}
+use Rattle.pciv_format.proofs.RefusalsLaws.{countsAnswer-counted, countsAnswer-refused}
 use Rattle.pciv_check.proofs.RefusalLaws.{wrongLength-fits, header-inside}
 use borrow.Author.Needs.{needs}
 use Rattle.pciv_check.proofs.check_with.Statement.{statement}
@@ -12,7 +12,7 @@ use Rattle.pciv_check.proofs.check_with.Tie as tie
 header-done : (c : tie.After-counts2)
     → (let a = c .before .before .before .before .args in
     checkHeader (a .map) (a .file .now) ≡ done (c .counts2 .given .0 .0))
-header-done c = countsAnswer-done _ _ (sym (c .counts2 .given .1) ∙ c .before .before .check-header .ensures)
+header-done c = countsAnswer-counted _ _ (sym (c .counts2 .given .1) ∙ c .before .before .check-header .ensures)
 
 check-header-requires : tie.Need-check-header-requires
 check-header-requires c κs = search needs

@@ -8,7 +8,7 @@ use Rattle.pciv_format.specs.Layout.{indexLen}
 use Rattle.pciv_format.specs.Refusals.{countsAnswer}
 use Rattle.pciv_format.specs.Parts.{badEntry, badSlot, EntriesRight}
 use Rattle.pciv_format.specs.Check.{fileParts, badIndexEntry}
-use Rattle.pciv_format.specs.declared.CountsAnswer.the-variants.{Done}
+use Rattle.pciv_format.specs.declared.CountsAnswer.the-variants.{Counted}
 use Rattle.pciv_check_parts.proofs.PartsRefusalLaws.{parts-entry, parts-slot, parts-index, parts-done}
 use borrow.Author.Needs.{needs}
 use Rattle.pciv_check_parts.proofs.check_parts.Statement.{statement}
@@ -100,7 +100,7 @@ returns-4 c =
     λ j h.
     firstBelow-all (badIndexEntry b (a .n) (a .k)) (indexLen (a .k)) j
     (omega (arith, g .first-bad-index-entry .ensures, m .index-len .ensures, x .if3 .left)) h in
-    rw (parts-done (a .map) b (a .n) (a .k) 0 (entries e) (slots z) index) (ap Done (c .counts-of .ensures))
+    rw (parts-done (a .map) b (a .n) (a .k) 0 (entries e) (slots z) index) (ap Counted (c .counts-of .ensures))
 
 pub check-parts-spec : {M : Type 1} → statement M
 check-parts-spec =
