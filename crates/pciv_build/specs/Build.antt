@@ -1,7 +1,7 @@
 -- A file written part by part (docs/FORMAT.md, "Writing").
 --   NoneAbove n v x              none of the n distances is above x
 --   Fits n v                     every one of them can stand in a file
---   beginOutcome n k capacity    beginning a file in a buffer of so many bytes: its summary, or refusal 12
+--   beginOutcome n k capacity    beginning a file in a buffer of so many bytes: its counts, or refusal 12
 --   beginBuffer n k d            the buffer d after that: the header at its front, or unchanged
 --   indexEntryFrom d n k i       index entry i, read off the overflow entries that stand in d
 --   indexFrom d n k              the whole sparse index, read off them
