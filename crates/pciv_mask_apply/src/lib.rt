@@ -16,8 +16,9 @@ ghost use Rattle.pciv_mask_primary.specs.Masked.{maskedOf};
 use crate::masked::masked_into;
 use pciv_bits::masks::is_mask;
 use pciv_build::begin;
-use pciv_check::check;
+use pciv_check::check_counts;
 use pciv_format::BAD_MASK;
+use pciv_format::CountsAnswer;
 use pciv_format::FileAnswer;
 use pciv_format::MAX_SLOTS;
 use pciv_format::TOO_MANY_SLOTS;
@@ -62,10 +63,10 @@ fn mask_map(op: MaskedOp, file: &[u8], words: &[u64], out: &mut [u8]) -> FileAns
     ensures answer { λ r. ⌜ r ≡ fileAnswer (maskedOutcome (maskedOf op) (now (file .entry)) (now (words .entry)) (length (now (out .entry)))) ⌝ }
     ensures buffer { λ _. ⌜ now (out .exit) ≡ maskedBuffer (maskedOf op) (now (file .entry)) (now (words .entry)) (now (out .entry)) ⌝ }
 {
-    let checked = check(file);
+    let checked = check_counts(file, 1);
     match checked {
-        FileAnswer::Refused(r) => FileAnswer::Refused(r),
-        FileAnswer::Done(s) => {
+        CountsAnswer::Refused(r) => FileAnswer::Refused(r),
+        CountsAnswer::Counted(s) => {
             let n = s.n;
             let k = s.k;
             if !is_mask(n, words) {
