@@ -8,7 +8,7 @@
 --   built               header, primary array, overflow entries and the index read off them are the file
 --   built-done, -refused    the same as the buffer that writing the file leaves
 --   built-checked       what stands there is a checked map
---   built-summary       its summary is the answer of writing the file
+--   built-sum           it has the sum of the distances
 -- Axioms: none.
 use mathlib.Core.Path.{_≡_, refl, sym, ap, _∙_}
 use Prim.Native.Nat.{ℕ, suc, _+_, _*_, _≤_, _<_}
@@ -256,11 +256,6 @@ module _ (n k : ℕ) (v : ℕ → ℕ) (count : k ≡ overflowCount n v) where
         unfolding countsOf
         built-checked = rw (begun n k d s e .counts) map-is
 
-        pub built-summary : (t : Summary)
-            → t ≡ summarize s (sumFrom (valueOf (fileParts d₄ (s .n) (s .k))) 0 (s .n))
-            → done t ≡ fileInto n v (length d)
+        pub built-sum : sumFrom (valueOf (fileParts d₄ (s .n) (s .k))) 0 (s .n) ≡ sumFrom v 0 n
         unfolding countsOf
-        built-summary t is =
-            let c : s ≡ countsOf n k = begun n k d s e .counts in
-            let sum : sumFrom (valueOf (fileParts d₄ (s .n) (s .k))) 0 (s .n) ≡ sumFrom v 0 n = rw c sum-is in
-            ap done (is ∙ ap (summarize s) sum) ∙ begun-is (length d) (done s) e
+        built-sum = rw (begun n k d s e .counts) sum-is

@@ -6,7 +6,8 @@
 --   opened-entries     the primary bytes are written: they stand in their place, and there is space for the entries
 --   opened-finish      the overflow entries are written too: `finish` may be called
 --   opened-map         all is written: a checked map stands there
---   opened-done        the routine answers its summary, and the buffer is right
+--   opened-counted     the routine answers the counts with the sum of the distances: its answer and buffer are right
+--   opened-done        the same where it answers the summary of what stands there
 -- Axioms: none.
 use mathlib.Core.Path.{_≡_, sym, ap, _∙_}
 use Prim.Native.Nat.{ℕ, _+_, _*_, _≤_}
@@ -31,7 +32,7 @@ use Rattle.pciv_format.proofs.RefusalsLaws.{countsAnswer-counted, countsAnswer-
 use Rattle.pciv_build.specs.Build.{Fits, beginOutcome, beginBuffer, indexFrom}
 use Rattle.pciv_build.specs.Slots.{HoldsPrimary}
 use Rattle.pciv_build.proofs.BuildLaws.{Begun, begun, begun-is, built-done, built-refused}
-use Rattle.pciv_build.proofs.BuildLaws.{built-checked, built-summary}
+use Rattle.pciv_build.proofs.BuildLaws.{built-checked, built-sum}
 use Rattle.pciv_build.proofs.IntoLaws.{holds-primary}
 
 pub begin-few : (n k : ℕ) (v : ℕ → ℕ) → n ≤ maxSlots → k ≡ overflowCount n v → (n ≤ maxSlots) × (k ≤ n)
@@ -91,12 +92,18 @@ module _ {n k : ℕ} {v : ℕ → ℕ} {o : Outcome Summary} {d : List ℕ} {a :
           opened-map =
               built-checked n k v (e .count) (e .few) d d₁ d₂ d₃ d₄ s ok (e .buffer) put₂ put₃ put₄ (e .each)
 
+          pub opened-counted : (t : Summary) → t ≡ summarize s (sumFrom v 0 n)
+              → (InFile.Done t ≡ fileAnswer o) × (d₄ ≡ fileBuffer o n v d)
+          opened-counted t summed = (
+            ap fileAnswer (ap done summed ∙ begun-is n k v (e .count) (length d) (done s) ok ∙ sym (e .into)),
+            buffer-is d₄ (built-done n k v (e .count) (e .few) d d₁ d₂ d₃ d₄ s ok (e .buffer) put₂ put₃ put₄),
+          )
+
           pub opened-done : (t : Summary)
               → t ≡ summarize s (sumFrom (valueOf (fileParts d₄ (s .n) (s .k))) 0 (s .n))
               → (InFile.Done t ≡ fileAnswer o) × (d₄ ≡ fileBuffer o n v d)
-          opened-done t summed = (
-            ap fileAnswer
-                (built-summary n k v (e .count) (e .few) d d₁ d₂ d₃ d₄ s ok (e .buffer) put₂ put₃ put₄ (e .each) t summed
-                ∙ sym (e .into)),
-            buffer-is d₄ (built-done n k v (e .count) (e .few) d d₁ d₂ d₃ d₄ s ok (e .buffer) put₂ put₃ put₄),
-          )
+          opened-done t summed =
+              opened-counted t
+              (summed
+              ∙ ap (summarize s)
+              (built-sum n k v (e .count) (e .few) d d₁ d₂ d₃ d₄ s ok (e .buffer) put₂ put₃ put₄ (e .each)))

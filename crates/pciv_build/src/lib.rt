@@ -1,7 +1,7 @@
 // A file written part by part (docs/FORMAT.md, "Writing"): what every routine that writes a file shares.
 // `begin` refuses a buffer that is too small and writes the header; the routine writes its primary array and its
 // overflow entries; `finish` adds the sparse index. The law `built` of proofs/BuildLaws.antt says that this is the file, and
-// `built-summary` that its summary, taken from the buffer (pciv_map::totals::summary_of), is the routine's answer.
+// `built-sum` that what stands in the buffer has its sum (pciv_map::totals::summary_of).
 pub mod slots;
 
 ghost use mathlib.Core.Path.{_≡_};

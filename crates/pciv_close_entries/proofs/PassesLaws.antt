@@ -37,7 +37,7 @@ use Rattle.pciv_format.proofs.PartsLaws.{goodEntry-of-test, entry-at, valueOf-l
 use Rattle.pciv_format.proofs.FullCountLaws.{count-complete}
 use Rattle.pciv_build.specs.Build.{Fits, beginOutcome, beginBuffer, indexFrom}
 use Rattle.pciv_build.proofs.BuildLaws.{begin-fits, begun, begun-is, built-done, built-refused}
-use Rattle.pciv_build.proofs.BuildLaws.{built-checked, built-summary}
+use Rattle.pciv_build.proofs.BuildLaws.{built-checked, built-sum}
 use Rattle.pciv_close.specs.Close.{entriesFrom, EntriesLeft, partsOutcome, partsBuffer}
 use Rattle.pciv_close_entries.specs.Passes.{slotsOf, distancesOf, partsOf, blank, Call, onwardJob}
 use Rattle.pciv_close_entries.specs.Passes.{Checking, Searching, openedBuffer, Writing, Finished}
@@ -329,9 +329,13 @@ module _ (bytes : List ℕ) (call : Call) where
                 record {
                   answerIs =
                       ap fileAnswer
-                      (built-summary n (length (call .entries)) v as-many (c .few) (call .buffer) _
+                      (ap done
+                      (summed
+                      ∙ ap (summarize s)
+                      (built-sum n (length (call .entries)) v as-many (c .few) (call .buffer) _
                       (openedBuffer bytes call) out' out'' s begins (sym (opened .1)) (rw primary) written
-                      (rw (nx .count) index) each-small t summed
+                      (rw (nx .count) index) each-small))
+                      ∙ begun-is n (length (call .entries)) v as-many (length (call .buffer)) (done s) begins
                       ∙ sym (same .0));
                   bufferIs =
                       built-done n (length (call .entries)) v as-many (c .few) (call .buffer) _

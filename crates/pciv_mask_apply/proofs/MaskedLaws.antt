@@ -20,6 +20,7 @@ use Rattle.pciv_format.specs.Read.{listOf}
 use Rattle.pciv_format.specs.Write.{fileInto, mapInto, fileBuffer}
 use Rattle.pciv_format.specs.Mask.{maskHas, badMask, maskValue, mapOfMaskOutcome, mapOfMaskBuffer}
 use Rattle.pciv_format.specs.Mask.{maskedOutcome, maskedBuffer}
+use Rattle.pciv_format.specs.declared.Counts.{Counts}
 use Rattle.pciv_format.specs.declared.Summary.{Summary}
 use Rattle.pciv_format.specs.declared.Refusal.{Refusal}
 use Rattle.pciv_format.specs.declared.FileAnswer.{FileAnswer}
@@ -68,7 +69,7 @@ module _ (f : Bool → ℕ → ℕ) (b ws : List ℕ) where
   masked-kept out r e =
       ap (λ (o : Outcome Summary). fileBuffer o (length (listOf b)) (λ i. f (maskHas ws i) (at (listOf b) i)) out) e
 
-  module _ (s : Summary) (e : countsFile 1 b ≡ done s) where
+  module _ (s : Counts) (e : countsFile 1 b ≡ done s) where
     pub masked-bad : badMask (s .n) ws ≡ true → (capacity : ℕ) → maskedOutcome f b ws capacity ≡ refuse 13 0 0
     masked-bad bad capacity = rw (e, bad)
 

@@ -14,6 +14,7 @@ ghost use Rattle.pciv_format.specs.Mask.{incrementMaskedOutcome, incrementMaske
 ghost use Rattle.pciv_format.specs.Words.{IsMask};
 ghost use Rattle.pciv_mask_primary.specs.Masked.{maskedOf};
 use crate::masked::masked_into;
+use pciv_bits::masks::count_bits;
 use pciv_bits::masks::is_mask;
 use pciv_build::begin;
 use pciv_check::check_counts;
@@ -23,10 +24,12 @@ use pciv_format::FileAnswer;
 use pciv_format::MAX_SLOTS;
 use pciv_format::TOO_MANY_SLOTS;
 use pciv_layout::refusals::refuse_file;
+use pciv_layout::summarized;
 use pciv_mask_bytes::bits::put_bits;
 use pciv_mask_primary::MaskedOp;
 
-// Writes the file of a mask as a map of 0 and 1, which has no overflow entry and no index. Refusal: 12.
+// Writes the file of a mask as a map of 0 and 1, which has no overflow entry and no index. Its sum is the number of set
+// bits. Refusal: 12.
 fn bits_into(n: usize, words: &[u64], out: &mut [u8]) -> FileAnswer
     requires { ⌜ n ≤ maxSlots ⌝ }
     requires { ⌜ IsMask n (now words) ⌝ }
@@ -35,10 +38,10 @@ fn bits_into(n: usize, words: &[u64], out: &mut [u8]) -> FileAnswer
 {
     let begun = begin(out, n, 0);
     match begun {
-        FileAnswer::Refused(r) => FileAnswer::Refused(r),
-        FileAnswer::Done(s) => {
+        CountsAnswer::Refused(r) => FileAnswer::Refused(r),
+        CountsAnswer::Counted(c) => {
             put_bits(out, n, words);
-            FileAnswer::Done(s)
+            FileAnswer::Done(summarized(c, count_bits(words)))
         }
     }
 }
