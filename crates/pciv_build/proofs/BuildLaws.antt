@@ -3,6 +3,7 @@
 --   begin-short, -fits  what `begin` answers and leaves
 --   Begun, begun        what is known where it is done
 --   begin-refused       where it is refused, the buffer stays
+--   refuseIf-sum        a test that refuses, before or after the sum is told
 --   begin-is, begun-is  what it answers, with the sum, is what writing the whole file answers
 --   length-built        the length of the file, by the counted number of slots in overflow
 --   built               header, primary array, overflow entries and the index read off them are the file
@@ -191,7 +192,7 @@ module _ (n : ℕ) (v : ℕ → ℕ) (few : n ≤ maxSlots) (q : List ℕ) where
 -- ---- of a routine that has counted k slots in overflow
 
 -- a test that refuses, before or after the sum is told
-refuseIf-sum : (t : Bool) (c : Counts) (sum : ℕ)
+pub refuseIf-sum : (t : Bool) (c : Counts) (sum : ℕ)
     → withSum (refuseIf t (refuse 12 0 0) (done c)) sum ≡ refuseIf t (refuse 12 0 0) (done (summarize c sum))
 refuseIf-sum true c sum = refl
 refuseIf-sum false c sum = refl

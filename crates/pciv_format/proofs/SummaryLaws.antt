@@ -5,10 +5,12 @@
 --   summary-sum          the summary of a list has the list's sum
 --   check-sum            where the check of a file is done, its sixth number is the answer of `sum`
 --   written-summary      where a file is written, the answer is what the check of that file answers
+--   at-total-le          a distance is at most the sum
 --   sum-edited           an edit adds the new distance to the sum and takes off the old one
 --   total-front, total-buffer    the sum of the file at the front of a checked buffer
 --   front-check          the check of a buffer with the file of a list at its front
---   buffer-is-file       the check of a buffer of bytes: the summary of the file at its front
+--   buffer-held          the check of a buffer of bytes: a checked map, and the sum of the list at its front
+--   buffer-is-file       so it is the summary of that list, whose file stands there
 -- Axioms: none.
 use mathlib.Core.Path.{_≡_, refl, sym, ap, ap₂, _∙_}
 use mathlib.Core.Logic.{_↔_}
@@ -103,6 +105,10 @@ sum-around f s n h =
     (rw (sub-zero n, sub-zero s) at (sumFrom-split f 0 s n (omega arith) (omega arith)))
     ∙ ap (λ (x : ℕ). sumFrom f 0 s + x) (sumFrom-more f s n h)
 
+pub at-total-le : (x : List ℕ) (s : ℕ) → s < length x → at x s ≤ total x
+unfolding total
+at-total-le x s inside = omega (arith, sum-around (at x) s (length x) inside)
+
 pub sum-edited : (x : List ℕ) (e : Edit) → e .slot < length x
     → total (edited x e) + at x (e .slot) ≡ total x + e .distance
 unfolding total
@@ -149,17 +155,25 @@ module _ (xs t : List ℕ) (l : Limits xs) where
       (λ i h₁ h₂. front-value n (at xs) (l .count) (l .each) t i (omega arith)) in
       rw (front-counts xs t l mp, sum)
 
+pub buffer-held : (mp : ℕ) (b : List ℕ) (s : Summary) → Bytes b → checkBuffer mp b ≡ done s
+    → CheckedMap b (s .n) (s .k) × (s .sum ≡ total (listOf (editedFile b)))
+buffer-held mp b s bytes e =
+    let a = buffer-refuse-alike mp b .1 s .0 e in
+    let c = done-buffer mp b (countsIn s) (a .0) in
+    (c, a .1 ∙ total-buffer b (s .n) (s .k) bytes c)
+
 pub buffer-is-file : (mp : ℕ) (b : List ℕ) (s : Summary) → Bytes b → checkBuffer mp b ≡ done s
     → Holds b (s .n) (s .k) (listOf (editedFile b)) × (s ≡ summaryOf (listOf (editedFile b)))
 unfolding summary total
 buffer-is-file mp b s bytes e =
     let x : List ℕ = listOf (editedFile b) in
     let a = buffer-refuse-alike mp b .1 s .0 e in
-    let c = done-buffer mp b (countsIn s) (a .0) in
+    let held = buffer-held mp b s bytes e in
+    let c = held .0 in
     let h = checked-front b (s .n) (s .k) bytes c in
     let is : done (countsOf (s .n) (s .k)) ≡ done (countsIn s) =
     sym (checkWith-done ltb mp b (s .n) (s .k) c (le-ltb (length b) (fileLen (s .n) (s .k)) (c .fits))) ∙ a .0 in
     let counts : countsIn s ≡ countsOf (s .n) (s .k) = cc in
     let same : countsOf (s .n) (s .k) ≡ listCounts x =
     rw (h .slots) (ap (countsOf (s .n)) (sym (h .count))) in
-    (h, ap₂ summarize (counts ∙ same) (a .1 ∙ total-buffer b (s .n) (s .k) bytes c))
+    (h, ap₂ summarize (counts ∙ same) (held .1))
