@@ -28,6 +28,7 @@ use Rattle.pciv_format.specs.Edit.{Edit, editOutcome, editMoved, editBuffer, ed
 use Rattle.pciv_format.specs.Edit.{answerLen, cellsOf, noRefusal, noSummary, answerCells, allCells}
 use Rattle.pciv_format.specs.Edit.{editsOf, editListOutcome, editListBuffer, editListAnswers}
 use Rattle.pciv_format.specs.declared.NumberAnswer.{NumberAnswer}
+use Rattle.pciv_format.specs.declared.Counts.{Counts}
 use Rattle.pciv_format.specs.declared.Summary.{Summary}
 use Rattle.pciv_format.specs.declared.Refusal.{Refusal}
 use Rattle.pciv_format.proofs.PartsLaws.{eqb-not}
@@ -148,7 +149,7 @@ module _ (b slots distances : List ℕ) where
     unfolding editListBuffer editListAnswers
     refused-run out a answer is = (answer ∙ ap numberAnswer (sym is), (rw is, rw is))
 
-  module _ (s : Summary) (is : countsBuffer 1 b ≡ done s) (capacity : ℕ) where
+  module _ (s : Counts) (is : countsBuffer 1 b ≡ done s) (capacity : ℕ) where
     pub list-fewer-slots : length slots < length distances
         → editListOutcome b slots distances capacity ≡ refuse 9 0 (length slots)
     unfolding editListOutcome
@@ -177,7 +178,7 @@ module _ (b slots distances : List ℕ) where
           rw (is, eqb-not (length slots) (length distances) same, le-ltb capacity (answerLen * length slots) h)
 
   module _ (bytes : Bytes b) (small : (i : ℕ) → at distances i ≤ maxDistance)
-      (s : Summary) (is : countsBuffer 1 b ≡ done s)
+      (s : Counts) (is : countsBuffer 1 b ≡ done s)
       (same : length slots ≡ length distances) (out : List ℕ) (fits : answerLen * length slots ≤ length out) where
     -- the run is made: the editor's run is the plain editor's
     pub made-run : (b' out' : List ℕ) → b' ≡ editRun b (editsOf slots distances)

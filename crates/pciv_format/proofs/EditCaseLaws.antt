@@ -4,7 +4,7 @@
 --   edit-checked        a checked map: the plain editor's answer
 --   edit-outside        the slot is none of the map's
 --   buffer-done         what an accepted edit leaves;  replaced-sets  the same, as writes
---   accepted-checked    it leaves a checked map, with the counts of its answer
+--   accepted-checked, accepted-sum    it leaves a checked map, with the counts and the sum of its answer
 --   checked-run, checked-moves    the theorems on runs (RunLaws.antt), of the file at the front of a checked map
 -- Axioms: none.
 use mathlib.Core.Path.{_≡_, sym, ap, _∙_}
@@ -22,7 +22,7 @@ use Rattle.pciv_format.specs.Layout.{maxDistance, fileLen, overflowCount
 use Rattle.pciv_format.specs.Layout.{fileOf, summaryOf, Limits}
 use Rattle.pciv_format.specs.Refusals.{done, refused, refuse}
 use Rattle.pciv_format.specs.Check.{countsBuffer, CheckedMap}
-use Rattle.pciv_format.specs.Read.{listOf}
+use Rattle.pciv_format.specs.Read.{listOf, total}
 use Rattle.pciv_format.specs.Edit.{Edit, edited, plainOutcome, editedFile, editOutcome, replaced}
 use Rattle.pciv_format.specs.Edit.{editBuffer, plainRun, plainOutcomes, plainMoves, bufferOf, editRun}
 use Rattle.pciv_format.specs.Edit.{editOutcomes, editMoves, RunLimits, startOf}
@@ -31,8 +31,9 @@ use Rattle.pciv_format.specs.declared.Refusal.{Refusal}
 use Rattle.pciv_format.proofs.RefusalsLaws.{refuseIf-done}
 use Rattle.pciv_format.proofs.CheckLaws.{checkWith-done}
 use Rattle.pciv_format.proofs.FileLaws.{file-checked}
-use Rattle.pciv_format.proofs.FrontLaws.{Holds, checked-front, front-checked}
+use Rattle.pciv_format.proofs.FrontLaws.{Holds, checked-front, front-checked, front-list}
 use Rattle.pciv_format.proofs.EditLaws.{length-edited, edited-limits}
+use Rattle.pciv_format.proofs.SummaryLaws.{summary-sum}
 use Rattle.pciv_format.proofs.RunLaws.{Distances, edit-run, moved-run}
 
 abbrev pub held : List ℕ → List ℕ
@@ -104,6 +105,13 @@ module _ (b : List ℕ) (n k : ℕ) (bytes : Bytes b) (c : CheckedMap b n k) whe
         let count : s .k ≡ k' = ap (λ (z : Summary). z .k) new-counts in
         let map = file-checked (length y) (at y) (l .count) (l .each) in
         rw (is, count, ← slots) (front-checked (fileOf y) _ (length y) k' (map .fits) map)
+
+    pub accepted-sum : s .sum ≡ total (held (editBuffer b e))
+    unfolding editBuffer replaced
+    accepted-sum =
+        let y : List ℕ = edited (held b) e in
+        let l : Limits y = edited-limits (held b) e (there .limits) small in
+        rw (is, front-list y _ l) (ap (λ (z : Summary). z .sum) new-counts ∙ summary-sum y)
 
   -- ---- a run of edits
 

@@ -9,11 +9,11 @@ ghost use lib.Dec.{eqb, ltb};
 ghost use Rattle.pciv_format.specs.Layout.{maxSlots, countsOf, summarize};
 ghost use Rattle.pciv_format.specs.Refusals.{done, refuse};
 ghost use Rattle.pciv_format.specs.Parts.{valueOf};
-ghost use Rattle.pciv_format.specs.Check.{fileParts, CheckedMap};
+ghost use Rattle.pciv_format.specs.Check.{fileParts};
 ghost use Rattle.pciv_format.specs.Read.{listOf, total};
 ghost use Rattle.pciv_format.specs.Edit.{editedFile, editOutcome, editMoved, editAnswer, editBuffer};
 ghost use Rattle.pciv_map_lookup.specs.Lookup.{entriesBelow};
-ghost use Rattle.pciv_slot.specs.Change.{newCount, aboveCount, EditAt};
+ghost use Rattle.pciv_slot.specs.Change.{newCount, aboveCount, SummedMap, EditAt};
 use crate::change::change_entries;
 use crate::change::finish_change;
 use pciv_build::put_header;
@@ -175,8 +175,7 @@ pub fn edit_checked(
     slot: usize,
     distance: u32,
 ) -> EditAnswer
-    requires { ⌜ CheckedMap (now buffer) n k ⌝ }
-    requires { ⌜ sum ≡ total (listOf (editedFile (now buffer))) ⌝ }
+    requires { ⌜ SummedMap (now buffer) n k sum ⌝ }
     ensures answer { λ r. ⌜ r ≡ editAnswer (editOutcome (now (buffer .entry)) (record { slot = slot; distance = distance }))
         (editMoved (now (buffer .entry)) (record { slot = slot; distance = distance })) ⌝ }
     ensures buffer { λ _. ⌜ now (buffer .exit) ≡ editBuffer (now (buffer .entry)) (record { slot = slot; distance = distance }) ⌝ }
