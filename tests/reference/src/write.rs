@@ -180,7 +180,8 @@ mod tests {
     #[test]
     fn sums_of_the_largest_maps() {
         let mut out = vec![0; file_len(MAX_SLOTS, MAX_SLOTS) as usize];
-        for (distance, sum) in [(u32::MAX, 4_503_599_626_321_920), (254, 266_338_304), (0, 0)] {
+        let largest = (u32::MAX, 4_503_599_626_321_920);
+        for (distance, sum) in [largest, (254, 266_338_304), (0, 0)] {
             let summary = write(&vec![distance; MAX_SLOTS as usize], &mut out).unwrap();
             assert_eq!(summary.sum, sum);
             assert_eq!(crate::check(&out[..summary.len as usize]), Ok(summary));
