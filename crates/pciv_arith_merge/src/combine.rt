@@ -85,7 +85,8 @@ pub fn combine_into(
         CountsAnswer::Counted(c) => {
             put_parts(out, op, a, b, n, ka, kb);
             finish(out, n, k);
-            FileAnswer::Done(summary_of(out, c))
+            let result: &[u8] = out;
+            FileAnswer::Done(summary_of(result, c))
         }
     }
 }
