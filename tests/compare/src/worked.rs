@@ -179,7 +179,7 @@ const fn row(case: &'static str, calls: fn(&mut Judge)) -> Row {
     Row { case, calls }
 }
 
-const ROWS: [Row; 24] = [
+const ROWS: [Row; 25] = [
     row("empty map", empty_map),
     row("primary array of A", primary_of_a),
     row("overflow entries of A", entries_of_a),
@@ -253,6 +253,10 @@ const ROWS: [Row; 24] = [
             &bytes(A_SLOT_2_AT_254),
         )
     }),
+    row(
+        "sums of the empty map, of A, of A with slot 2 edited to 254",
+        sums,
+    ),
     row(
         "edit of A, slot 1 to 255, in a buffer of 79 / 80 bytes",
         edit_into_overflow,
@@ -510,6 +514,15 @@ fn shifts_a(judge: &mut Judge, by: i32, summary: Summary, file: &str) {
     writes(judge, "shift", summary, file, |out, summary, refusal| {
         raw::shift(&a, by, out, summary, refusal)
     });
+}
+
+fn sums(judge: &mut Judge) {
+    checks(judge, &bytes(EMPTY), summary([0, 0, 0, 0, 40], 0));
+    checks(judge, &bytes(A), of_four(2, 68, 809));
+    let after = bytes(A_SLOT_2_AT_254);
+    let answer = edited(of_four(1, 56, 808), 1);
+    edits(judge, &bytes(A), (2, 254), answer, &after);
+    checks(judge, &after[..56], of_four(1, 56, 808));
 }
 
 fn checks(judge: &mut Judge, file: &[u8], summary: Summary) {
