@@ -113,20 +113,18 @@ At 1,024 by 768 with 1 % in overflow, scattered, unless a line says otherwise. B
 microseconds, checks included: of an earlier state (`tests/bench/before.tsv`) and of this one, each from `bench own` with its
 archive. {same_machine}.
 
-Ratios leave the checks of the files out on both sides, unless a line includes them: what they alone take in the same race is
-taken off. Behind a ratio stands its goal, in brackets; a ratio in bold is short of it, by more than 1 %.
-Best flat is the fastest of flat Rust, numpy and OpenCV. The goals were set on another machine. From build to build the
-independent program's check is compiled in one of two ways.
+Ratios leave the checks of the files, without the sum, out on both sides, unless a line includes them: what they alone take in
+the same race is taken off. Behind a ratio stands its goal, in brackets; a ratio in bold is short of it, by more than 1 %.
+Best flat is the fastest of flat Rust, numpy and OpenCV. The goals were set on another machine.
 
 {goals}
 {masks}{others}
 ## Where we are behind
 
 Who is ahead at 1,024 by 768, and how many times as long the library takes: the independent program, and the fastest on flat
-arrays, in the worst call of a line. What matters most comes first: calls that are made often, large ratios, at 1 % above all,
-and those of the independent program, which does the same work. Lines without a ratio are short of a goal. A slot in overflow
-takes 12 bytes of a file where a flat array has 4, and is found, written and filled in one by one; so flat arrays win at 10 %
-wherever entries are written.
+arrays, in the worst call of a line. What matters most comes first: calls made often, large ratios, at 1 % above all, and those
+of the independent program. Lines without a ratio are short of a goal. A slot in overflow takes 12 bytes of a file where a flat
+array has 4, and is found, written and filled in one by one; so flat arrays win at 10 % wherever entries are written.
 
 {behind}
 ## How to read it
@@ -140,8 +138,8 @@ wherever entries are written.
 | SSE2 by hand | the number of set bits by SSE2 instructions, in Rust |
 | memcpy | a copy in memory |
 
-A flat array has four bytes for each slot and nothing to check, neither its input nor that a sum is a distance. For `write`,
-it is copied; for `close`, it is made of the same bytes and entries.
+A flat array has four bytes a slot and nothing to check, neither its input nor that a sum is a distance. For `write` it is
+copied; for `close` it is made of the same bytes and entries.
 {MEMCPY}
 
 Times are microseconds a call, one thread. Contestants take turns, {ROUNDS} rounds in each of {PASSES} passes over all calls
@@ -154,8 +152,8 @@ numpy and OpenCV have to give flat Rust's results before they are timed; `cargo 
 
 ## Tables
 
-Tab-separated, with headings, of the same run. `overflow` is the share of slots in overflow in per cent,
-`layout` is scattered or clustered (runs of 256 slots).
+Tab-separated, of the same run. `overflow` is the share of slots in overflow in per cent, `layout` is scattered or clustered
+(runs of 256 slots).
 
 | File | A line for | Columns |
 |---|---|---|
