@@ -26,7 +26,6 @@ use Rattle.pciv_bytes.specs.Ranges.{table, joined, sumFrom}
 use Rattle.pciv_bytes.specs.LittleEndian.{le, get}
 use Rattle.pciv_bytes.proofs.RangesLaws.{length-table, getD-table}
 use Rattle.pciv_bytes.proofs.PositionsLaws.{positions-at}
-use Rattle.pciv_bytes.proofs.SumLaws.{sumFrom-cong}
 use Rattle.pciv_bytes.proofs.JoinedLaws.{joined-cong, joined-piece}
 use Rattle.pciv_bytes.proofs.LittleEndianLaws.{length-le, get-past, get-at}
 use Rattle.pciv_bytes.proofs.WriteLaws.{sets-append, sets-front}
@@ -44,8 +43,7 @@ use Rattle.pciv_format.specs.declared.Refusal.{Refusal}
 use Rattle.pciv_format.proofs.RefusalsLaws.{refuseIf-done}
 use Rattle.pciv_format.proofs.LayoutLaws.{index-inside, fileLen-is, length-header, length-primary}
 use Rattle.pciv_format.proofs.LayoutLaws.{length-overflowEntry, length-overflowPart, length-file}
-use Rattle.pciv_format.proofs.FileLaws.{file-checked}
-use Rattle.pciv_format.proofs.FrontLaws.{front-checked, front-value}
+use Rattle.pciv_format.proofs.FrontLaws.{front-map, front-sum}
 use Rattle.pciv_build.specs.Build.{Fits, beginOutcome, beginBuffer, indexEntryFrom, indexFrom}
 
 pub sets-two : (x : ℕ) (b d d₁ d₂ : List ℕ) (at next : ℕ) → next ≡ at + 8 → d₁ ≡ sets d at (le 8 x)
@@ -244,14 +242,11 @@ module _ (n k : ℕ) (v : ℕ → ℕ) (count : k ≡ overflowCount n v) where
       module _ (each : Fits n v) where
         map-is : CheckedMap d₄ n k
         map-is =
-            let c = file-checked n v few each in
-            rw (count, built-file)
-            (front-checked (file n v) (drop (length (file n v)) d) n (overflowCount n v) (c .fits) c)
+            rw (count, built-file) (front-map n v few each (drop (length (file n v)) d))
 
         sum-is : sumFrom (valueOf (fileParts d₄ n k)) 0 n ≡ sumFrom v 0 n
         sum-is =
-            rw (count, built-file)
-            (sumFrom-cong _ v 0 n (λ i h₁ h₂. front-value n v few each (drop (length (file n v)) d) i (omega arith)))
+            rw (count, built-file) (front-sum n v few each (drop (length (file n v)) d))
 
         pub built-checked : CheckedMap d₄ (s .n) (s .k)
         unfolding countsOf

@@ -1,4 +1,3 @@
 pub mod RefusalLaws
-pub mod SumAnswerLaws
 pub mod PairLaws
 pub mod SoundPairLaws

@@ -6,9 +6,11 @@ pub mod pair;
 ghost use mathlib.Core.Path.{_≡_};
 ghost use mathlib.Core.Bool.{false};
 ghost use Prim.Native.Nat.{_<_};
-ghost use Rattle.pciv_format.specs.Refusals.{countsAnswer, fileAnswer};
-ghost use Rattle.pciv_format.specs.Check.{checkHeader, checkWith, countsFile, countsBuffer};
-ghost use Rattle.pciv_format.specs.Read.{checkFile, checkBuffer};
+ghost use Rattle.pciv_format.specs.Refusals.{Outcome, countsAnswer, fileAnswer};
+ghost use Rattle.pciv_format.specs.Check.{checkHeader, checkWith, countsFile, countsBuffer, CheckedMap};
+ghost use Rattle.pciv_format.specs.Read.{listOf, total, withSum, checkFile, checkBuffer};
+ghost use Rattle.pciv_format.specs.declared.Counts.{Counts};
+ghost use Rattle.pciv_format.specs.declared.CountsAnswer.the-variants.{Counted};
 ghost use Rattle.pciv_check.specs.Length.{wrongLength};
 use pciv_bytes::little_endian::get64;
 use pciv_check_parts::check_parts;
@@ -100,15 +102,23 @@ pub fn check_counts_buffer(buffer: &[u8], map: usize) -> CountsAnswer
     check_with(buffer, map, false)
 }
 
-// The summary of a whole file, or why it is none. Refusals: 1 to 8, with map 1.
-pub fn check(file: &[u8]) -> FileAnswer
-    ensures answer { λ r. ⌜ r ≡ fileAnswer (checkFile 1 (now (file .entry))) ⌝ }
+// The counts of a checked map with the sum of its distances, or the refusal.
+fn with_sum(file: &[u8], counted: CountsAnswer) -> FileAnswer
+    requires { ⌜ ((c : Counts) → counted ≡ Counted c → CheckedMap (now file) (c .n) (c .k)) ⌝ }
+    ensures { λ r. ⌜ ((o : Outcome Counts) → counted ≡ countsAnswer o
+        → r ≡ fileAnswer (withSum o (total (listOf (now (file .entry)))))) ⌝ }
 {
-    let counted = check_counts(file, 1);
     match counted {
         CountsAnswer::Refused(r) => FileAnswer::Refused(r),
         CountsAnswer::Counted(c) => FileAnswer::Done(summary_of(file, c)),
     }
+}
+
+// The summary of a whole file, or why it is none. Refusals: 1 to 8, with map 1.
+pub fn check(file: &[u8]) -> FileAnswer
+    ensures answer { λ r. ⌜ r ≡ fileAnswer (checkFile 1 (now (file .entry))) ⌝ }
+{
+    with_sum(file, check_counts(file, 1))
 }
 
 // The same of the file at the front of a buffer that is to be edited. Refusals: 1 to 8, with map 1, and 5 only where the
@@ -116,9 +126,5 @@ pub fn check(file: &[u8]) -> FileAnswer
 pub fn check_buffer(buffer: &[u8]) -> FileAnswer
     ensures answer { λ r. ⌜ r ≡ fileAnswer (checkBuffer 1 (now (buffer .entry))) ⌝ }
 {
-    let counted = check_counts_buffer(buffer, 1);
-    match counted {
-        CountsAnswer::Refused(r) => FileAnswer::Refused(r),
-        CountsAnswer::Counted(c) => FileAnswer::Done(summary_of(buffer, c)),
-    }
+    with_sum(buffer, check_counts_buffer(buffer, 1))
 }

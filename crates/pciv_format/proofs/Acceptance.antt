@@ -4,7 +4,7 @@
 --   file-read         it is read as that list
 --   file-table, summary-table, table-limits
 --                     the file of n slots with distances v is the file of the list of these distances, with its
---                     counts; that list is within the limits where n and every distance are
+--                     summary; that list is within the limits where n and every distance are
 --   file-table-read   so it is read as that list: what a routine that computes each slot's distance has written
 --   IsFile b s        b is the file of the list that it is read as, which is within the limits and has the summary s
 --   counted-is-file, accepted-is-file    so it is with an accepted file and the answer
@@ -84,7 +84,7 @@ module _ (n : ℕ) (v : ℕ → ℕ) where
 pub record IsFile (b : List ℕ) (s : Summary) : Type 0 where
   pub limits : Limits (listOf b)
   pub bytes : b ≡ fileOf (listOf b)
-  pub counts : s ≡ summaryOf (listOf b)
+  pub summaryIs : s ≡ summaryOf (listOf b)
 
 pub counted-is-file : (mp : ℕ) (b : List ℕ) (s : Counts) → Bytes b → countsFile mp b ≡ done s
     → IsFile b (summarize s (total (listOf b)))
@@ -107,7 +107,7 @@ counted-is-file mp b s bytes e =
           sym
           (rw len
           (file-cong n (at (listOf b)) (valueAt b) same ∙ checked-file b n k bytes c (accepted-length b n k s a)));
-      counts =
+      summaryIs =
           ap (λ (c : Counts). summarize c (sumFrom (at (listOf b)) 0 (length (listOf b))))
           (a .counts ∙ rw len (ap (countsOf n) (sym (overflowCount-cong n (at (listOf b)) (valueAt b) same
           ∙ checked-count b n k bytes c))));

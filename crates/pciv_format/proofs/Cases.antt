@@ -1,11 +1,12 @@
 -- The worked examples of docs/FORMAT.md, proved for the definitions by computing them.
 --   A, B        the two maps of "Worked examples";  M  64 slots at 1 and one at 300;  ones  a word of set bits
 --   primaryOfA, lookedUp    the primary array of A; slots of A that are looked up
---   counts, found, setTo, Gives, LengthRow    short forms of what the statements repeat
+--   told, found, setTo, Gives, LengthRow    short forms of what the statements repeat
 --   cases       the cases that "Worked examples" marks as proved, under one statement: a component for each
 --   lengths     the table of "Derived counts"
 --   further     the near masks, shifts and lookups of "Worked examples", cases of the routines that these leave out, the
---               readings of a primary array, edits before other bytes, and masks of more than a word
+--               check of a buffer and without the sum, the readings of a primary array, edits before other bytes, and masks
+--               of more than a word
 --   examples    the other cases of "Worked examples", and texts of "The report program"
 -- A caller's buffer or list holds 7 in each place, so that what is left unchanged shows. Axioms: none.
 use mathlib.Core.Path.{_≡_, refl}

@@ -1,6 +1,8 @@
 -- A file at the front of a longer buffer is checked and read as it is by itself.
 --   front-checked              a file that is a checked map by itself is one in the buffer
---   front-value                the file of n slots with distances v is read as these distances in the buffer too
+--   front-map, front-value, front-sum
+--                              the file of n slots with distances v is a checked map in the buffer too, is read as these
+--                              distances, and has their sum
 --   front-counts, front-file, front-list
 --                              a buffer with the file of a list at its front is accepted, and edited as that file and list
 --   Holds b n k x              b holds the file of the list x at its front
@@ -14,7 +16,9 @@ use lib.ListN.{length, take, drop, length-append, take-append-drop, List·getD-a
 use lib.Seq.{take-at, length-take-le}
 use lib.Dec.{ltb, lit≤}
 use borrow.Author.Tests.{le-ltb}
+use Rattle.pciv_bytes.specs.Ranges.{sumFrom}
 use Rattle.pciv_bytes.specs.LittleEndian.{get, Bytes}
+use Rattle.pciv_bytes.proofs.SumLaws.{sumFrom-cong}
 use Rattle.pciv_bytes.proofs.LittleEndianLaws.{bytes-take, get-in}
 use Rattle.pciv_format.specs.Layout.{maxSlots, maxDistance, indexStep, indexLen, fileLen, overflowCount}
 use Rattle.pciv_format.specs.Layout.{file, countsOf, at, fileOf, listCounts, Limits}
@@ -104,32 +108,39 @@ module _ (f t : List ℕ) (n k : ℕ) (fits : fileLen n k ≤ length f) where
 
 -- ---- the file of a map at the front
 
-pub front-value : (n : ℕ) (v : ℕ → ℕ) → n ≤ maxSlots → ((i : ℕ) → i < n → v i ≤ maxDistance) → (t : List ℕ)
-    → (i : ℕ) → i < n → valueOf (fileParts (file n v ++ t) n (overflowCount n v)) i ≡ v i
-front-value n v few each t i h =
-    let c = file-checked n v few each in
-    valueOf-same _ _ (front-parts (file n v) t n (overflowCount n v) (c .fits)) (c .parts) i h
-    (omega (arith, file-byte n v few each i h, primaryByte-min (v i)))
-    ∙ file-value n v few each i h
+module _ (n : ℕ) (v : ℕ → ℕ) (few : n ≤ maxSlots) (each : (i : ℕ) → i < n → v i ≤ maxDistance) (t : List ℕ) where
+  pub front-map : CheckedMap (file n v ++ t) n (overflowCount n v)
+  front-map =
+      let c = file-checked n v few each in
+      front-checked (file n v) t n (overflowCount n v) (c .fits) c
+
+  pub front-value : (i : ℕ) → i < n → valueOf (fileParts (file n v ++ t) n (overflowCount n v)) i ≡ v i
+  front-value i h =
+      let c = file-checked n v few each in
+      valueOf-same _ _ (front-parts (file n v) t n (overflowCount n v) (c .fits)) (c .parts) i h
+      (omega (arith, file-byte n v few each i h, primaryByte-min (v i)))
+      ∙ file-value n v few each i h
+
+  pub front-sum : sumFrom (valueOf (fileParts (file n v ++ t) n (overflowCount n v))) 0 n ≡ sumFrom v 0 n
+  front-sum = sumFrom-cong _ v 0 n (λ i h₁ h₂. front-value i (omega arith))
 
 -- ---- the file of a list at the front
 
 module _ (xs t : List ℕ) (l : Limits xs) where
-  counted : CheckedMap (fileOf xs) (length xs) (overflowCount (length xs) (at xs))
-  counted = file-checked (length xs) (at xs) (l .count) (l .each)
+  there : CheckedMap (fileOf xs ++ t) (length xs) (overflowCount (length xs) (at xs))
+  there = front-map (length xs) (at xs) (l .count) (l .each) t
 
   pub front-counts : (mp : ℕ) → countsBuffer mp (fileOf xs ++ t) ≡ done (listCounts xs)
   front-counts mp =
       let k : ℕ = overflowCount (length xs) (at xs) in
       let b : List ℕ = fileOf xs ++ t in
-      let c : CheckedMap b (length xs) k = front-checked (fileOf xs) t (length xs) k (counted .fits) counted in
-      checkWith-done ltb mp b (length xs) k c (le-ltb (length b) (fileLen (length xs) k) (c .fits))
+      checkWith-done ltb mp b (length xs) k there (le-ltb (length b) (fileLen (length xs) k) (there .fits))
 
   pub front-file : editedFile (fileOf xs ++ t) ≡ fileOf xs
   unfolding editedFile
   front-file =
       let k : ℕ = overflowCount (length xs) (at xs) in
-      let h = front-checked (fileOf xs) t (length xs) k (counted .fits) counted .header in
+      let h = there .header in
       rw (h .nIs, h .kIs) (take-at (fileOf xs) t (fileLen (length xs) k) (length-file (length xs) (at xs)))
 
   pub front-list : listOf (editedFile (fileOf xs ++ t)) ≡ xs

@@ -14,11 +14,12 @@
 --   ReadAs, WritesMap     a written map is accepted with the routine's answer, and is read as the list of results
 --   front-read            the file of a list is, with any bytes behind it
 --   Writable, map-read    that, once for all routines that write a computed map
+--   written-summary       the answer of writing a map is that of the check of its file
 --   write-read, shift-read, masked-read, keepMasked-read, incrementMasked-read, combineMaps-read, mapOfMask-read,
 --   close-read            that of each of them
 --   overflowDistances     the distances in overflow, in order of their slots
 --   map-close             close accepts the parts of every map, and writes the map's file
--- Check is `file-accepted` (Acceptance.antt), and of a buffer `front-check` (FrontLaws.antt). The routines on masks
+-- Check is `file-accepted` (Acceptance.antt), and of a buffer `front-check` (SummaryLaws.antt). The routines on masks
 -- alone (and, or, xor, complement, set_bits, map_of_mask) are given no file: their definitions are on the words.
 -- Axioms: none.
 use mathlib.Core.Path.{_≡_, refl, sym, ap, _∙_}
@@ -298,7 +299,7 @@ module _ (xs t : List ℕ) (l : Limits xs) where
 
 -- ---- what is read from a written map
 
--- the file at the front of b, as long as s says, is accepted with the counts s and is read as zs
+-- the file at the front of b, as long as s says, is accepted with the summary s and is read as zs
 pub record ReadAs (b : List ℕ) (s : Summary) (zs : List ℕ) : Type 0 where
   pub accepted : (mp : ℕ) → checkFile mp (take (s .len) b) ≡ done s
   pub read : listOf (take (s .len) b) ≡ zs
@@ -314,23 +315,29 @@ front-read zs t l =
     take-at (fileOf zs) t (summaryOf zs .len) (length-file (length zs) (at zs)) in
     record { accepted = λ mp. ap (checkFile mp) front ∙ file-accepted mp zs l; read = ap listOf front ∙ file-read zs l }
 
--- n slots with distances v are within the limits, and s are the counts of their file
+-- n slots with distances v are within the limits, and s is the summary of their file
 pub record Writable (n : ℕ) (v : ℕ → ℕ) (s : Summary) : Type 0 where
   pub few : n ≤ maxSlots
   pub each : (i : ℕ) → i < n → v i ≤ maxDistance
-  pub counts : summary n v ≡ s
+  pub summaryIs : summary n v ≡ s
 
 module _ (n : ℕ) (v : ℕ → ℕ) where
   fileInto-done : n ≤ maxSlots → ((i : ℕ) → i < n → v i ≤ maxDistance) → (c : ℕ) (s : Summary) → fileInto n v c ≡ done s
       → Writable n v s
   fileInto-done few each c s e =
       let is : done (summary n v) ≡ done s = refuseIf-done (ltb c (length (file n v))) _ _ s e .1 in
-      record { few = few; each = each; counts = cc }
+      record { few = few; each = each; summaryIs = cc }
 
   mapInto-done : n ≤ maxSlots → (c : ℕ) (s : Summary) → mapInto n v c ≡ done s → Writable n v s
   mapInto-done few c s e =
       let g = refuseFirst-done 11 0 (λ (i : ℕ). ltb maxDistance (v i)) n (fileInto n v c) s e in
       fileInto-done few (λ i h. ltb-false maxDistance (v i) (g .0 i h)) c s (g .1)
+
+  pub written-summary : n ≤ maxSlots → ((i : ℕ) → i < n → v i ≤ maxDistance) → (c : ℕ) (s : Summary) → fileInto n v c ≡ done s
+      → (mp : ℕ) → checkFile mp (file n v) ≡ done s
+  written-summary few each c s e mp =
+      rw (← fileInto-done few each c s e .summaryIs, file-table n v, summary-table n v)
+      (file-accepted mp (table v 0 n) (table-limits n v few each))
 
   -- after a routine whose answer o and buffer `after` are those of o', the arithmetic on lists
   pub map-read : {o o' : Outcome Summary} {after : List ℕ} (out : List ℕ) (s : Summary)
@@ -339,7 +346,7 @@ module _ (n : ℕ) (v : ℕ → ℕ) where
   map-read out s law last e =
       let is = sym (law .0) ∙ e in
       let w = last is in
-      rw (law .1, is, ← w .counts, file-table n v, summary-table n v)
+      rw (law .1, is, ← w .summaryIs, file-table n v, summary-table n v)
       (front-read (table v 0 n) _ (table-limits n v (w .few) (w .each)))
 
 module _ (xs : List ℕ) (l : Limits xs) where
@@ -349,7 +356,7 @@ module _ (xs : List ℕ) (l : Limits xs) where
       let w =
       fileInto-done (length xs) (at xs) (l .count) (l .each) (length out) s
       (refuseIf-done (ltb maxSlots (length xs)) _ _ s e .1) in
-      rw (e, ← w .counts) (front-read xs _ l)
+      rw (e, ← w .summaryIs) (front-read xs _ l)
 
   pub shift-read : (d : ℤ)
       → WritesMap (shiftOutcome (fileOf xs) d) (shiftBuffer (fileOf xs) d) (table (shiftedAt d xs) 0 (length xs))

@@ -1,10 +1,10 @@
 -- The sum in a summary (docs/PROMISES.md, "The sum in a summary"): it is always that of the file's list.
 --   countsIn s           the five counts of a summary
+--   Alike o' o sum       o' has the refusals of o, and where it is done, its counts and that sum
 --   withSum-iff          an outcome with a sum, and without: refused alike, and done with the same counts
 --   counts-refuse-alike, buffer-refuse-alike    so it is with the check, which answers the sum, and with the counts alone
 --   summary-sum          the summary of a list has the list's sum
 --   check-sum            where the check of a file is done, its sixth number is the answer of `sum`
---   written-summary      where a file is written, the answer is what the check of that file answers
 --   at-total-le          a distance is at most the sum
 --   sum-edited           an edit adds the new distance to the sum and takes off the old one
 --   total-front, total-buffer    the sum of the file at the front of a checked buffer
@@ -21,27 +21,22 @@ use mathlib.Core.List.{List, _++_}
 use lib.ListN.{length}
 use lib.Dec.{ltb}
 use borrow.Author.Tests.{le-ltb}
-use Rattle.pciv_bytes.specs.Ranges.{sumFrom, table}
+use Rattle.pciv_bytes.specs.Ranges.{sumFrom}
 use Rattle.pciv_bytes.specs.LittleEndian.{Bytes}
 use Rattle.pciv_bytes.proofs.SumLaws.{sumFrom-more, sumFrom-split, sumFrom-cong}
-use Rattle.pciv_format.specs.Layout.{maxSlots, maxDistance, fileLen, overflowCount, file, countsOf}
-use Rattle.pciv_format.specs.Layout.{summarize, summary, at, fileOf, listCounts, summaryOf, Limits}
+use Rattle.pciv_format.specs.Layout.{fileLen, overflowCount, countsOf, summarize, summary, at}
+use Rattle.pciv_format.specs.Layout.{fileOf, listCounts, summaryOf, Limits}
 use Rattle.pciv_format.specs.Refusals.{Outcome, done, refused}
 use Rattle.pciv_format.specs.Parts.{valueOf}
 use Rattle.pciv_format.specs.Check.{fileParts, countsFile, countsBuffer, CheckedMap}
 use Rattle.pciv_format.specs.Read.{listOf, total, withSum, checkFile, checkBuffer, sumOutcome}
-use Rattle.pciv_format.specs.Write.{fileInto}
 use Rattle.pciv_format.specs.Edit.{Edit, edited, editedFile}
 use Rattle.pciv_format.specs.declared.Counts.{Counts}
 use Rattle.pciv_format.specs.declared.Summary.{Summary}
 use Rattle.pciv_format.specs.declared.Refusal.{Refusal}
-use Rattle.pciv_format.proofs.RefusalsLaws.{refuseIf-done}
 use Rattle.pciv_format.proofs.CheckLaws.{checkWith-done, done-buffer}
-use Rattle.pciv_format.proofs.FileLaws.{file-checked}
 use Rattle.pciv_format.proofs.ReadLaws.{total-is}
-use Rattle.pciv_format.proofs.Acceptance.{file-accepted, file-table, summary-table, table-limits}
-use Rattle.pciv_format.proofs.FrontLaws.{Holds, checked-front, front-checked, front-value}
-use Rattle.pciv_format.proofs.FrontLaws.{front-counts}
+use Rattle.pciv_format.proofs.FrontLaws.{Holds, checked-front, front-map, front-sum, front-counts}
 use Rattle.pciv_format.proofs.EditLaws.{edited-at, edited-other, length-edited}
 
 -- ---- with the sum and without
@@ -87,15 +82,6 @@ unfolding sumOutcome
 check-sum b s e =
     let a = counts-refuse-alike 1 b .1 s .0 e in
     rw (a .0, a .1)
-
-pub written-summary : (n : ℕ) (v : ℕ → ℕ) → n ≤ maxSlots → ((i : ℕ) → i < n → v i ≤ maxDistance)
-    → (capacity : ℕ) (s : Summary) → fileInto n v capacity ≡ done s → (mp : ℕ) → checkFile mp (file n v) ≡ done s
-written-summary n v few each capacity s e mp =
-    let is : done (summary n v) ≡ done s = refuseIf-done (ltb capacity (length (file n v))) _ _ s e .1 in
-    ap (checkFile mp) (file-table n v)
-    ∙ file-accepted mp (table v 0 n) (table-limits n v few each)
-    ∙ sym (ap done (summary-table n v))
-    ∙ is
 
 -- ---- of an edited list
 
@@ -146,13 +132,10 @@ module _ (xs t : List ℕ) (l : Limits xs) where
   unfolding summary
   front-check mp =
       let n : ℕ = length xs in
-      let k : ℕ = overflowCount n (at xs) in
-      let map = file-checked n (at xs) (l .count) (l .each) in
-      let h = front-checked (fileOf xs) t n k (map .fits) map .header in
+      let h = front-map n (at xs) (l .count) (l .each) t .header in
       let sum : total (listOf (fileOf xs ++ t)) ≡ sumFrom (at xs) 0 n =
-      total-is (fileOf xs ++ t) n k (h .nIs) (h .kIs)
-      ∙ sumFrom-cong (valueOf (fileParts (fileOf xs ++ t) n k)) (at xs) 0 n
-      (λ i h₁ h₂. front-value n (at xs) (l .count) (l .each) t i (omega arith)) in
+      total-is (fileOf xs ++ t) n (overflowCount n (at xs)) (h .nIs) (h .kIs)
+      ∙ front-sum n (at xs) (l .count) (l .each) t in
       rw (front-counts xs t l mp, sum)
 
 pub buffer-held : (mp : ℕ) (b : List ℕ) (s : Summary) → Bytes b → checkBuffer mp b ≡ done s

@@ -17,8 +17,8 @@
 --   lookupListBuffer, lookupListEntries    the distances in the first of them, the numbers of the entries in the second
 --   scanOutcome, scanBuffer  all slots, into a list
 --   sumOutcome, readingsOutcome    these of a file
--- Laws are in proofs/ReadLaws.antt, of readings in proofs/ReadingsLaws.antt, of origins in proofs/OriginLaws.antt, of the
--- outcomes case by case in proofs/ReadCaseLaws.antt. Axioms: none.
+-- Laws are in proofs/ReadLaws.antt, of the check in proofs/Acceptance.antt and SummaryLaws.antt, of readings in
+-- ReadingsLaws.antt, of origins in OriginLaws.antt, of the outcomes case by case in ReadCaseLaws.antt. Axioms: none.
 use Prim.Native.Nat.{ℕ, _+_, min}
 use mathlib.Core.Bool.{not, cond}
 use mathlib.Core.List.{List, [], map}

@@ -63,7 +63,7 @@ mapWord = 109 ∷ 97 ∷ 112 ∷ []
 abbrev pub placeWord : List ℕ
 placeWord = 112 ∷ 108 ∷ 97 ∷ 99 ∷ 101 ∷ []
 
--- the report of a map with the counts s: six lines
+-- the report of a map with the summary s, its sum and the number of readings: six lines
 unfoldable pub mapLines : Summary → ℕ → ℕ → List ℕ
 mapLines s sum count =
     line (field slotsWord (s .n))

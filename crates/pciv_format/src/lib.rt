@@ -71,7 +71,7 @@ pub struct Refusal {
     pub place: usize,
 }
 
-// The answer of a check without the sum, which the other routines ask for: the file's counts.
+// The answer of a check without the sum, and of the beginning of a file: the file's counts.
 pub enum CountsAnswer {
     Counted(Counts),
     Refused(Refusal),

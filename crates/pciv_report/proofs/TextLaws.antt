@@ -2,7 +2,7 @@
 --   put-then           a piece written after another
 --   put-length         writing keeps the length
 --   put-front          what stands at the front of a list after a text was written there
---   reportText-done    an accepted file's text, by the answers of the totals
+--   reportText-done    an accepted file's text, by the check's sum and the answer of `readings`
 -- Axioms: none.
 use mathlib.Core.Path.{_≡_, sym, ap, ap₂, _∙_}
 use Prim.Native.Nat.{ℕ, _≤_}

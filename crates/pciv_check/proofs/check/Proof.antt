@@ -1,53 +1,21 @@
--- Proves pciv_check::check: the counts, and the sum of the checked map.
-use mathlib.Core.Path.{_≡_, sym, _∙_}
-use Rattle.pciv_format.specs.Check.{countsFile, CheckedMap}
-use Rattle.pciv_format.specs.Read.{listOf, total}
+-- Proves pciv_check::check.
+use mathlib.Core.Path.{sym, _∙_}
+use Rattle.pciv_format.specs.Check.{countsFile}
 use Rattle.pciv_format.proofs.RefusalsLaws.{countsAnswer-counted}
 use Rattle.pciv_format.proofs.CheckLaws.{done-counts}
-use Rattle.pciv_check.proofs.SumAnswerLaws.{sum-refused, sum-done}
 use borrow.Author.Needs.{needs}
 use Rattle.pciv_check.proofs.check.Statement.{statement}
 use Rattle.pciv_check.proofs.check.Tie as tie
 
--- the checked map
-map-of : (c : tie.After-counted2)
-    → (let s = c .counted2 .given .0 .0 in
-    CheckedMap (c .before .before .before .before .args .file .now) (s .n) (s .k))
-map-of c =
-    done-counts 1 _ _ (countsAnswer-counted _ _ (sym (c .counted2 .given .1) ∙ c .before .before .check-counts .ensures)) .0
-
 check-counts-requires : tie.Need-check-counts-requires
 check-counts-requires c κs = search needs
 
-enum-known-counted : tie.Need-enum-known-counted
-enum-known-counted c = search needs
-
-enum-known-counted-2 : tie.Need-enum-known-counted-2
-enum-known-counted-2 c = search needs
-
-summary-of-requires : tie.Need-summary-of-requires
-summary-of-requires c κs = map-of (c .before)
+with-sum-requires : tie.Need-with-sum-requires
+with-sum-requires c κs = λ s is. done-counts 1 _ s (countsAnswer-counted _ s (sym is ∙ c .check-counts .ensures)) .0
 
 returns : tie.Need-returns
 returns c =
-    let k = c .before in
-    let b = k .before .before .before .before .args .file .now in
-    sum-refused (countsFile 1 b) (total (listOf b)) _ (sym (k .counted .given .1) ∙ k .before .before .check-counts .ensures)
-
-returns-2 : tie.Need-returns-2
-returns-2 c =
-    let k = c .before .before in
-    let b = k .before .before .before .before .args .file .now in
-    sum-done (countsFile 1 b) b _ _ (sym (k .counted2 .given .1) ∙ k .before .before .check-counts .ensures) (map-of k)
-    (c .summary-of .ensures)
+    c .with-sum .ensures (countsFile 1 (c .before .before .before .args .file .now)) (c .before .check-counts .ensures)
 
 pub check-spec : {M : Type 1} → statement M
-check-spec =
-    tie.close
-    (tie.spec
-    check-counts-requires
-    enum-known-counted
-    enum-known-counted-2
-    summary-of-requires
-    returns
-    returns-2)
+check-spec = tie.close (tie.spec check-counts-requires with-sum-requires returns)
