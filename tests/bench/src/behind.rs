@@ -177,7 +177,7 @@ const FAMILIES: [Family; 17] = [
         name: "check, primary, report",
         calls: &["check", "primary", "report"],
         often: Often::Frame,
-        why: "three instructions for 16 bytes and 13 for an entry; a copy uses wider registers. The sum takes as long again.",
+        why: "three instructions for 16 bytes and 13 for an entry; a copy uses wider registers.",
     },
     Family {
         name: "close",
