@@ -27,8 +27,8 @@ use Rattle.pciv_format.specs.Parts.{wrongEntry, badEntry, entryOf, badSl
 use Rattle.pciv_format.specs.Check.{badIndexEntry, badCounts, checkParts, checkHeader, checkWith, countsFile}
 use Rattle.pciv_format.specs.Read.{listOf, primaryPart, lookupOutcome, total, readings}
 use Rattle.pciv_format.specs.Read.{lookupListOutcome, lookupListBuffer, lookupListEntries}
-use Rattle.pciv_format.specs.Read.{checkFile, checkBuffer, scanOutcome, scanBuffer}
-use Rattle.pciv_format.specs.Write.{writeOutcome, writeBuffer, closeOutcome, closeBuffer}
+use Rattle.pciv_format.specs.Read.{checkFile, checkBuffer, scanOutcome, scanBuffer, sumOutcome}
+use Rattle.pciv_format.specs.Write.{fileInto, writeOutcome, writeBuffer, closeOutcome, closeBuffer}
 use Rattle.pciv_format.specs.Mask.{maskLen, bitAt, maskHas, word, maskOf, badMask, setBits}
 use Rattle.pciv_format.specs.Mask.{setBitsOutcome, combineOutcome, combineWords, complementOutcome}
 use Rattle.pciv_format.specs.Mask.{complementWords, mapOfMaskOutcome, mapOfMaskBuffer}
@@ -39,7 +39,7 @@ use Rattle.pciv_format.specs.Arith.{combineMapsOutcome, combineMapsBuffe
 use Rattle.pciv_format.specs.Arith.{shiftBuffer, signedDifferences, signedDifferenceOutcome}
 use Rattle.pciv_format.specs.Arith.{signedDifferenceList}
 use Rattle.pciv_format.specs.Figures.{quotient, distanceBetween, brayCurtisOutcome, countAt, jaccardOutcome}
-use Rattle.pciv_format.specs.Edit.{Edit, plainOutcome, editedFile, editOutcome, replaced, editBuffer}
+use Rattle.pciv_format.specs.Edit.{Edit, edited, plainOutcome, editedFile, editOutcome, replaced, editBuffer}
 use Rattle.pciv_format.specs.Edit.{entriesAbove, movedBy, plainMoved, editMoved, plainStart, plainStep}
 use Rattle.pciv_format.specs.Edit.{plainRun, plainOutcomes, plainMoves, bufferOf, answerCells, allCells}
 use Rattle.pciv_format.specs.Edit.{editsOf, editListOutcome, editListBuffer, editListAnswers}
@@ -221,6 +221,10 @@ pub further :
     × (checkBuffer 1 (fileOf A ++ replicate 3 7) ≡ done (told 4 2 0 0 68 809))
     × (checkFile 1 (fileOf B) ≡ done (told 4 1 0 0 56 4294967298))
     × (countsFile 2 (fileOf A) ≡ done (record { n = 4; k = 2; m = 0; step = 0; len = 68 }))
+    -- the sum of A, and where A is written; after slot 2 to 254, in the list and as the check of the buffer answers it
+    × ((sumOutcome (fileOf A) ≡ done 809) × (fileInto 4 (at A) 68 ≡ done (told 4 2 0 0 68 809)))
+    × ((total (edited A (setTo 2 254)) + 255 ≡ total A + 254)
+    × (checkBuffer 1 (editBuffer (fileOf A) (setTo 2 254)) ≡ done (told 4 1 0 0 56 808)))
     -- the primary bytes of A have 3 readings, as have maps with that primary array; the empty array has none
     × (readings primaryOfA ≡ 3)
     × ((primaryPart (fileOf A) ≡ primaryOfA) × (readings A ≡ 3))
@@ -302,7 +306,7 @@ unfolding
     keepMaskedOutcome keepMaskedBuffer incrementMaskedOutcome incrementMaskedBuffer
     quotient countAt jaccardOutcome ofBits ofInt div shiftedBy shiftOutcome shiftBuffer
     signedDifferences signedDifferenceOutcome signedDifferenceList xor
-    lookupOutcome lookupListOutcome lookupListBuffer lookupListEntries scanOutcome scanBuffer
+    lookupOutcome lookupListOutcome lookupListBuffer lookupListEntries scanOutcome scanBuffer sumOutcome
     writeOutcome writeBuffer closeOutcome closeBuffer
     plainOutcome editedFile editOutcome replaced editBuffer entriesAbove movedBy plainMoved editMoved
     plainStart plainStep plainRun plainOutcomes plainMoves bufferOf answerCells allCells editsOf
@@ -321,6 +325,8 @@ further = (
   refl,
   refl,
   refl,
+  (refl, refl),
+  (refl, refl),
   refl,
   (refl, refl),
   (refl, refl),
