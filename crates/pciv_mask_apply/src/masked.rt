@@ -20,7 +20,6 @@ use pciv_build::finish;
 use pciv_format::CountsAnswer;
 use pciv_format::DISTANCE_OVERFLOW;
 use pciv_format::FileAnswer;
-use pciv_format::Refusal;
 use pciv_layout::refusals::refuse_file;
 use pciv_map::totals::summary_of;
 use pciv_mask_increment::count_incremented;

@@ -9,7 +9,7 @@ use native.Mathlib.Nat.{pow-suc, one-mul, mod-eq-of-lt}
 use native.Mathlib.Omega.{arith}
 use mathlib.Core.Bool.{Bool, true, false, not, xor}
 use mathlib.Core.List.{List}
-use lib.ListN.{length, getD}
+use lib.ListN.{getD}
 use lib.Bits.{bitXor, differ, and-lt, or-lt, xor-lt}
 use lib.Pow.{pow-pos, pow-lt, pow-mono}
 use Rattle.pciv_bytes.specs.Ranges.{flag, table}

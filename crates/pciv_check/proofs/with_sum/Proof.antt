@@ -1,5 +1,5 @@
 -- Proves pciv_check::with_sum: a refusal stays, and the counts get the sum of the checked map.
-use mathlib.Core.Path.{_≡_, sym, ap, _∙_}
+use mathlib.Core.Path.{sym, ap, _∙_}
 use Rattle.pciv_format.specs.Layout.{summarize}
 use Rattle.pciv_format.specs.Check.{CheckedMap}
 use Rattle.pciv_format.specs.declared.FileAnswer.the-variants.{Done}

@@ -1,5 +1,4 @@
 -- Proves pciv_close_entries::write_next: one more entry is written, and after the last the index; then the file is summed.
-use mathlib.Core.Path.{_≡_}
 use Prim.Native.Nat.{_+_, _*_, _≤_}
 use native.Mathlib.Omega.{arith}
 use lib.ListN.{length}
