@@ -48,6 +48,12 @@ static int is_distance(const char *text, unsigned long *distance)
     return *text >= '0' && *text <= '9' && *end == '\0' && *distance <= UINT32_MAX;
 }
 
+/* The mean distance in cm, 0 of a map without slots. */
+static double mean_distance(const pciv_summary *summary)
+{
+    return summary->n > 0 ? (double)summary->sum / (double)summary->n : 0;
+}
+
 int main(int count, char **arguments)
 {
     unsigned long distance;
@@ -72,7 +78,8 @@ int main(int count, char **arguments)
     pciv_summary summary;
     pciv_refusal why;
     must_not_refuse(pciv_check(file, len, &summary, &why), &why);
-    printf("%lu slots, %lu in overflow, %lu bytes\n", summary.n, summary.k, summary.len);
+    printf("%lu slots, %lu in overflow, %lu bytes, mean %.1f cm\n", summary.n, summary.k,
+           summary.len, mean_distance(&summary));
 
     size_t n = summary.n, words = PCIV_MASK_LEN(n);
     uint64_t *mask = memory(words, sizeof *mask), selected, done;
@@ -107,7 +114,7 @@ int main(int count, char **arguments)
     must(munmap(buffer, capacity) == 0 && ftruncate(fd, (off_t)summary.len) == 0 &&
              fsync(fd) == 0 && rename(copy, out) == 0,
          out, NULL);
-    printf("%zu edits: %lu in overflow, %lu bytes, %lu entries moved\n", edits, summary.k,
-           summary.len, moved);
+    printf("%zu edits: %lu in overflow, %lu bytes, mean %.1f cm, %lu entries moved\n", edits,
+           summary.k, summary.len, mean_distance(&summary), moved);
     return 0;
 }

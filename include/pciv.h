@@ -41,10 +41,10 @@
 /* The version of this header and of the library that it belongs to. The number is made of the three,
    with 1,000 for each MINOR and 1,000,000 for each MAJOR, and is for comparisons by #if. */
 #define PCIV_VERSION_MAJOR 0
-#define PCIV_VERSION_MINOR 5
+#define PCIV_VERSION_MINOR 6
 #define PCIV_VERSION_PATCH 0
-#define PCIV_VERSION_NUMBER 5000
-#define PCIV_VERSION "0.5.0"
+#define PCIV_VERSION_NUMBER 6000
+#define PCIV_VERSION "0.6.0"
 
 #ifdef __cplusplus
 extern "C" {
@@ -136,13 +136,17 @@ static inline const char *pciv_refusal_text(uint64_t number)
 
 /* ---- Check ------------------------------------------------------------------------------------ */
 
-/* What the header of a sound file says, and the length of the file. */
+/* What the header of a sound file says, the length of the file, and the sum of its distances. The mean
+   distance is sum / n; n may be 0, and a map without slots has no mean. As a double the sum is exact:
+   it is below 2^52. Zero distances, where nothing was measured, count among the n; pciv_readings
+   counts the others. */
 typedef struct {
     uint64_t n;    /* number of slots */
     uint64_t k;    /* number of overflow entries */
     uint64_t m;    /* number of index entries */
     uint64_t step; /* step of the sparse index, 0 without one */
     uint64_t len;  /* bytes of the file: 40 + n + 12k + 16m */
+    uint64_t sum;  /* sum of all distances, 0 where n is 0 */
 } pciv_summary;
 
 /* Checks a whole file. Refusals 1 to 8.
@@ -204,7 +208,7 @@ uint64_t pciv_scan(const uint8_t *file, size_t file_len, uint32_t *distances, si
 
 /* ---- Totals ----------------------------------------------------------------------------------- */
 
-/* The sum of all distances. Refusals 1 to 8.
+/* The sum of all distances, which the summary has too. Refusals 1 to 8.
    When done *total holds it; after a refusal it is unchanged. */
 uint64_t pciv_sum(const uint8_t *file, size_t file_len, uint64_t *total, pciv_refusal *refusal);
 
@@ -447,7 +451,7 @@ typedef struct {
 } pciv_edit_answer;
 
 /* How many numbers of 64 bits a pciv_edit_answer has. */
-#define PCIV_ANSWER_LEN 9
+#define PCIV_ANSWER_LEN 10
 
 /* Makes a list of edits on one buffer, in order: slots[j] gets distances[j]. The file is checked
    once. An edit that is refused (9 or 12, with place 0) changes nothing, and those after it are

@@ -90,13 +90,14 @@ static void test_check(const uint8_t *file)
     pciv_refusal refusal;
     memset(&summary, DIRTY, sizeof summary);
     memset(&refusal, DIRTY, sizeof refusal);
+    EXPECT(sizeof summary == 48 && offsetof(pciv_summary, sum) == 40);
     EXPECT(pciv_check(file, MAP_LEN - 1, &summary, &refusal) == PCIV_BAD_LENGTH);
     EXPECT(is_refusal(&refusal, PCIV_BAD_LENGTH, 1, 0));
     EXPECT(is_dirty(&summary, sizeof summary));
     EXPECT(pciv_check(file, MAP_LEN, &summary, &refusal) == PCIV_OK);
     EXPECT(is_refusal(&refusal, PCIV_OK, 0, 0));
     EXPECT(summary.n == N && summary.k == 2 && summary.m == 0);
-    EXPECT(summary.step == 0 && summary.len == MAP_LEN);
+    EXPECT(summary.step == 0 && summary.len == MAP_LEN && summary.sum == 809);
 }
 
 static void test_primary(const uint8_t *file)
@@ -206,13 +207,22 @@ static void test_totals(const uint8_t *file)
     EXPECT(is_refusal(&refusal, PCIV_OK, 0, 0));
 }
 
-static int is_summary(const pciv_summary *summary, uint64_t n, uint64_t k, uint64_t len)
+static int is_summary(const pciv_summary *summary, uint64_t n, uint64_t k, uint64_t len,
+                      uint64_t sum)
 {
     return summary->n == n && summary->k == k && summary->m == 0 && summary->step == 0 &&
-           summary->len == len;
+           summary->len == len && summary->sum == sum;
 }
 
-/* Whether the buffer holds a file with these distances, and what follows is dirty. */
+static uint64_t sum_of(const uint32_t distances[N])
+{
+    uint64_t sum = 0;
+    for (size_t i = 0; i < N; i++)
+        sum += distances[i];
+    return sum;
+}
+
+/* Whether the buffer holds a file with these distances and their sum, and what follows is dirty. */
 static int is_file_of(const uint8_t *out, size_t out_len, const pciv_summary *summary,
                       const uint32_t expected[N])
 {
@@ -222,14 +232,14 @@ static int is_file_of(const uint8_t *out, size_t out_len, const pciv_summary *su
     return summary->len <= out_len &&
            pciv_scan(out, summary->len, distances, N, &count, &refusal) == PCIV_OK &&
            memcmp(distances, expected, sizeof distances) == 0 &&
-           is_dirty(out + summary->len, out_len - summary->len);
+           summary->sum == sum_of(expected) && is_dirty(out + summary->len, out_len - summary->len);
 }
 
 /* Whether the buffer holds the map, and what follows is dirty. */
 static int is_map(const uint8_t *out, size_t out_len, const pciv_summary *summary,
                   const uint8_t *file)
 {
-    return is_summary(summary, N, 2, MAP_LEN) && memcmp(out, file, MAP_LEN) == 0 &&
+    return is_summary(summary, N, 2, MAP_LEN, 809) && memcmp(out, file, MAP_LEN) == 0 &&
            is_dirty(out + MAP_LEN, out_len - MAP_LEN);
 }
 
@@ -314,7 +324,8 @@ static void test_combine(combine *call, const uint8_t *a, const uint8_t *b, uint
     EXPECT(is_refusal(&refusal, PCIV_BUFFER_TOO_SMALL, 0, 0));
     EXPECT(is_dirty(out, sizeof out) && is_dirty(&summary, sizeof summary));
     EXPECT(call(a, MAP_LEN, b, OTHER_LEN, out, sizeof out, &summary, &refusal) == PCIV_OK);
-    EXPECT(is_refusal(&refusal, PCIV_OK, 0, 0) && is_summary(&summary, N, k, len));
+    EXPECT(is_refusal(&refusal, PCIV_OK, 0, 0));
+    EXPECT(is_summary(&summary, N, k, len, sum_of(expected)));
     EXPECT(is_file_of(out, sizeof out, &summary, expected));
 }
 
@@ -334,7 +345,7 @@ static void test_sum_maps(const uint8_t *a, const uint8_t *b)
     EXPECT(is_refusal(&refusal, PCIV_DISTANCE_OVERFLOW, 0, 3));
     EXPECT(is_dirty(out, sizeof out) && is_dirty(&summary, sizeof summary));
     EXPECT(pciv_sum_maps(a, MAP_LEN, a, MAP_LEN, out, sizeof out, &summary, &refusal) == PCIV_OK);
-    EXPECT(is_refusal(&refusal, PCIV_OK, 0, 0) && is_summary(&summary, N, 3, 80));
+    EXPECT(is_refusal(&refusal, PCIV_OK, 0, 0) && is_summary(&summary, N, 3, 80, 1618));
     EXPECT(is_file_of(out, sizeof out, &summary, doubled));
 }
 
@@ -354,14 +365,15 @@ static void test_shift(const uint8_t *a, const uint8_t *b)
     EXPECT(is_refusal(&refusal, PCIV_BUFFER_TOO_SMALL, 0, 0));
     EXPECT(is_dirty(out, sizeof out) && is_dirty(&summary, sizeof summary));
     EXPECT(pciv_shift(a, MAP_LEN, -254, out, sizeof out, &summary, &refusal) == PCIV_OK);
-    EXPECT(is_refusal(&refusal, PCIV_OK, 0, 0) && is_summary(&summary, N, 0, 44));
+    EXPECT(is_refusal(&refusal, PCIV_OK, 0, 0) && is_summary(&summary, N, 0, 44, 48));
     EXPECT(is_file_of(out, sizeof out, &summary, nearer));
     EXPECT(pciv_shift(a, MAP_LEN, 1, out, sizeof out, &summary, &refusal) == PCIV_OK);
-    EXPECT(is_summary(&summary, N, 3, 80) && is_file_of(out, sizeof out, &summary, farther));
+    EXPECT(is_summary(&summary, N, 3, 80, 812) && is_file_of(out, sizeof out, &summary, farther));
     EXPECT(pciv_shift(a, MAP_LEN, 300, out, 80, &summary, &refusal) == PCIV_OK);
-    EXPECT(is_summary(&summary, N, 3, 80) && is_file_of(out, sizeof out, &summary, in_overflow));
+    EXPECT(is_summary(&summary, N, 3, 80, 1709));
+    EXPECT(is_file_of(out, sizeof out, &summary, in_overflow));
     EXPECT(pciv_shift(a, MAP_LEN, 0, out, sizeof out, &summary, &refusal) == PCIV_OK);
-    EXPECT(is_summary(&summary, N, 2, MAP_LEN) && memcmp(out, a, MAP_LEN) == 0);
+    EXPECT(is_summary(&summary, N, 2, MAP_LEN, 809) && memcmp(out, a, MAP_LEN) == 0);
 }
 
 static void test_signed_difference(const uint8_t *a, const uint8_t *b)
@@ -462,7 +474,7 @@ static void test_one_mask(void)
     EXPECT(count == 1 && words[0] == 3 && is_dirty(&words[1], sizeof words[1]));
     EXPECT(pciv_set_bits(N, mask, 1, &count, &refusal) == PCIV_OK && count == 2);
     EXPECT(pciv_map_of_mask(N, mask, 1, out, sizeof out, &summary, &refusal) == PCIV_OK);
-    EXPECT(is_refusal(&refusal, PCIV_OK, 0, 0) && is_summary(&summary, N, 0, 44));
+    EXPECT(is_refusal(&refusal, PCIV_OK, 0, 0) && is_summary(&summary, N, 0, 44, 2));
     EXPECT(is_file_of(out, sizeof out, &summary, expected));
 }
 
@@ -486,7 +498,8 @@ static void test_mask_file(mask_file *call, const uint8_t *file, uint64_t k,
     EXPECT(is_refusal(&refusal, PCIV_BUFFER_TOO_SMALL, 0, 0));
     EXPECT(is_dirty(out, sizeof out) && is_dirty(&summary, sizeof summary));
     EXPECT(call(file, MAP_LEN, mask, 1, out, sizeof out, &summary, &refusal) == PCIV_OK);
-    EXPECT(is_refusal(&refusal, PCIV_OK, 0, 0) && is_summary(&summary, N, k, len));
+    EXPECT(is_refusal(&refusal, PCIV_OK, 0, 0));
+    EXPECT(is_summary(&summary, N, k, len, sum_of(expected)));
     EXPECT(is_file_of(out, sizeof out, &summary, expected));
 }
 
@@ -559,7 +572,8 @@ static void test_edit(const uint8_t *file)
     EXPECT(memcmp(buffer, file, MAP_LEN) == 0 && is_dirty(&summary, sizeof summary));
     memset(&moved, DIRTY, sizeof moved);
     EXPECT(pciv_edit(buffer, sizeof buffer, 2, 254, &summary, &moved, &refusal) == PCIV_OK);
-    EXPECT(is_refusal(&refusal, PCIV_OK, 0, 0) && is_summary(&summary, N, 1, 56) && moved == 1);
+    EXPECT(is_refusal(&refusal, PCIV_OK, 0, 0) && is_summary(&summary, N, 1, 56, 808));
+    EXPECT(moved == 1);
     EXPECT(is_file_of(buffer, 56, &summary, shorter));
     EXPECT(memcmp(buffer + 56, zeros, 12) == 0 && is_dirty(buffer + MAP_LEN, 4));
 }
@@ -591,9 +605,12 @@ static void test_edit_capacity(const uint8_t *file)
     EXPECT(is_refusal(&refusal, 12, 0, 0) && is_dirty(&summary, sizeof summary) && moved == 0);
     EXPECT(memcmp(buffer, file, MAP_LEN) == 0 && is_dirty(buffer + MAP_LEN, 80 - MAP_LEN));
     EXPECT(pciv_edit(buffer, 80, 1, 255, &summary, &moved, &refusal) == PCIV_OK);
-    EXPECT(is_refusal(&refusal, 0, 0, 0) && is_summary(&summary, 4, 3, 80) && moved == 2);
+    EXPECT(is_refusal(&refusal, 0, 0, 0) && is_summary(&summary, 4, 3, 80, 810) && moved == 2);
     EXPECT(memcmp(buffer, edited, 80) == 0);
     EXPECT(pciv_edit(buffer, 80, 3, 400, &summary, &moved, &refusal) == PCIV_OK && moved == 0);
+    EXPECT(is_summary(&summary, 4, 3, 80, 910));
+    EXPECT(pciv_edit(buffer, 80, 3, 400, &summary, &moved, &refusal) == PCIV_OK && moved == 0);
+    EXPECT(is_summary(&summary, 4, 3, 80, 910));
 }
 
 static void test_edit_list(const uint8_t *file)
@@ -609,24 +626,27 @@ static void test_edit_list(const uint8_t *file)
     memcpy(buffer, file, MAP_LEN);
     memset(answers, DIRTY, sizeof answers);
     memset(&count, DIRTY, sizeof count);
+    EXPECT(sizeof(pciv_edit_answer) == 80 && offsetof(pciv_edit_answer, moved) == 72);
     EXPECT(sizeof(pciv_edit_answer) == PCIV_ANSWER_LEN * sizeof(uint64_t));
     EXPECT(pciv_edit_list(buffer, MAP_LEN, slots, 3, distances, 2, numbers, 0, &count, &refusal) ==
            PCIV_SLOT_OUT_OF_RANGE);
     EXPECT(is_refusal(&refusal, PCIV_SLOT_OUT_OF_RANGE, 0, 2));
-    EXPECT(pciv_edit_list(buffer, MAP_LEN, slots, 3, distances, 3, numbers, 26, &count, &refusal) ==
+    EXPECT(pciv_edit_list(buffer, MAP_LEN, slots, 3, distances, 3, numbers, 29, &count, &refusal) ==
            PCIV_BUFFER_TOO_SMALL);
     EXPECT(is_refusal(&refusal, PCIV_BUFFER_TOO_SMALL, 0, 0));
     EXPECT(memcmp(buffer, file, MAP_LEN) == 0);
     EXPECT(is_dirty(answers, sizeof answers) && is_dirty(&count, sizeof count));
-    EXPECT(pciv_edit_list(buffer, MAP_LEN, slots, 3, distances, 3, numbers, 36, &count, &refusal) ==
+    EXPECT(pciv_edit_list(buffer, MAP_LEN, slots, 3, distances, 3, numbers, 40, &count, &refusal) ==
            PCIV_OK);
     EXPECT(is_refusal(&refusal, PCIV_OK, 0, 0) && count == 3);
     EXPECT(answers[0].moved == 1 && answers[1].moved == 0 && answers[2].moved == 0);
     EXPECT(is_refusal(&answers[0].refusal, PCIV_OK, 0, 0));
-    EXPECT(is_summary(&answers[0].summary, N, 1, 56));
+    EXPECT(is_summary(&answers[0].summary, N, 1, 56, 808));
+    EXPECT(numbers[7] == 56 && numbers[8] == 808 && numbers[9] == 1);
     EXPECT(is_refusal(&answers[1].refusal, PCIV_SLOT_OUT_OF_RANGE, 0, 0));
-    EXPECT(is_summary(&answers[1].summary, 0, 0, 0));
+    EXPECT(is_summary(&answers[1].summary, 0, 0, 0, 0));
     EXPECT(is_refusal(&answers[2].refusal, PCIV_OK, 0, 0));
+    EXPECT(is_summary(&answers[2].summary, N, 1, 56, 815));
     EXPECT(is_dirty(&answers[3], sizeof answers[3]));
     EXPECT(is_file_of(buffer, 56, &answers[2].summary, expected));
 }
@@ -664,8 +684,8 @@ static void test_damage(const uint8_t *map, size_t at, uint8_t byte, uint64_t nu
 /* The string and the number say what the three numbers say; #if can compare them. */
 static void test_version(void)
 {
-#if PCIV_VERSION_NUMBER < 5000
-#error "this header is older than 0.5.0"
+#if PCIV_VERSION_NUMBER < 6000
+#error "this header is older than 0.6.0"
 #endif
     char text[32];
     snprintf(text, sizeof text, "%d.%d.%d", PCIV_VERSION_MAJOR, PCIV_VERSION_MINOR,
@@ -688,7 +708,7 @@ static void test_length(size_t n, size_t k, size_t len)
         distances[i] = 255;
     EXPECT(pciv_write(distances, n, out, len - 1, &summary, &refusal) == PCIV_BUFFER_TOO_SMALL);
     EXPECT(pciv_write(distances, n, out, len, &summary, &refusal) == PCIV_OK);
-    EXPECT(summary.k == k && summary.len == len);
+    EXPECT(summary.k == k && summary.len == len && summary.sum == 255 * k);
     free(distances);
     free(out);
 }
@@ -737,7 +757,7 @@ static void test_edit_all(const uint8_t *file)
     EXPECT(pciv_edit_all(buffer, MAP_LEN, slots, distances, answers, 3, &refusal) == PCIV_OK);
     EXPECT(is_refusal(&refusal, PCIV_OK, 0, 0));
     EXPECT(is_refusal(&answers[0].refusal, PCIV_OK, 0, 0));
-    EXPECT(is_summary(&answers[0].summary, N, 1, 56));
+    EXPECT(is_summary(&answers[0].summary, N, 1, 56, 808));
     EXPECT(is_refusal(&answers[1].refusal, PCIV_SLOT_OUT_OF_RANGE, 0, 0));
     EXPECT(is_refusal(&answers[2].refusal, PCIV_OK, 0, 0));
     EXPECT(answers[0].moved == 1 && answers[1].moved == 0 && answers[2].moved == 0);
@@ -803,7 +823,8 @@ static void test_null_write(const uint8_t *file)
     uint64_t answers[2 * PCIV_ANSWER_LEN], count = 7, moved = 7;
     pciv_summary summary;
     pciv_refusal why;
-    EXPECT(pciv_write(NULL, 0, out, 40, &summary, &why) == PCIV_OK && summary.len == 40);
+    EXPECT(pciv_write(NULL, 0, out, 40, &summary, &why) == PCIV_OK);
+    EXPECT(is_summary(&summary, 0, 0, 40, 0));
     EXPECT(pciv_write(distances, 2, NULL, 0, &summary, &why) == PCIV_BUFFER_TOO_SMALL);
     EXPECT(pciv_close(NULL, 0, NULL, 0, NULL, 0, out, 40, &summary, &why) == PCIV_OK);
     EXPECT(pciv_close(primary, N, NULL, 0, distances, 2, out, 68, &summary, &why) ==
@@ -839,11 +860,11 @@ static void test_null_write(const uint8_t *file)
     memcpy(out, file, MAP_LEN);
     EXPECT(pciv_edit(NULL, 0, 1, 1, &summary, &moved, &why) == PCIV_TRUNCATED_HEADER);
     EXPECT(moved == 0);
-    EXPECT(pciv_edit_list(NULL, 0, slots, 2, distances, 2, answers, 18, &count, &why) ==
+    EXPECT(pciv_edit_list(NULL, 0, slots, 2, distances, 2, answers, 20, &count, &why) ==
            PCIV_TRUNCATED_HEADER);
-    EXPECT(pciv_edit_list(out, MAP_LEN, NULL, 0, distances, 2, answers, 18, &count, &why) ==
+    EXPECT(pciv_edit_list(out, MAP_LEN, NULL, 0, distances, 2, answers, 20, &count, &why) ==
            PCIV_SLOT_OUT_OF_RANGE);
-    EXPECT(pciv_edit_list(out, MAP_LEN, slots, 2, NULL, 0, answers, 18, &count, &why) ==
+    EXPECT(pciv_edit_list(out, MAP_LEN, slots, 2, NULL, 0, answers, 20, &count, &why) ==
            PCIV_SLOT_OUT_OF_RANGE);
     EXPECT(pciv_edit_list(out, MAP_LEN, slots, 2, distances, 2, NULL, 0, &count, &why) ==
            PCIV_BUFFER_TOO_SMALL);

@@ -18,7 +18,7 @@ static bool empty_vectors()
     uint64_t count = 7;
     return pciv_write(distances.data(), 0, file.data(), file.size(), &summary, &refusal) ==
                PCIV_OK &&
-           summary.len == file.size() &&
+           summary.len == file.size() && summary.sum == 0 &&
            pciv_lookup_list(file.data(), file.size(), slots.data(), slots.size(),
                             distances.data(), distances.size(), entries.data(), entries.size(),
                             &count, &refusal) == PCIV_OK &&
@@ -43,7 +43,8 @@ int main()
     const bool done =
         pciv_write(distances.data(), distances.size(), file.data(), file.size(), &summary,
                    &refusal) == PCIV_OK &&
-        summary.len == file.size() && pciv_primary(file.data(), file.size()).len == read.size() &&
+        summary.len == file.size() && summary.sum == 809 &&
+        pciv_primary(file.data(), file.size()).len == read.size() &&
         pciv_scan(file.data(), file.size(), read.data(), read.size(), &count, &refusal) ==
             PCIV_OK &&
         count == read.size() && read == distances &&

@@ -15,12 +15,29 @@
 #define lookup_list_inline_zero 9
 #define lookup_list_one_length 10
 #define edit_counts_own_entry 11
+#define check_narrow_sum 12
+#define edit_leaves_sum 13
 
 static uint64_t field(const uint8_t *file, size_t at)
 {
     uint64_t number;
     memcpy(&number, file + at, sizeof number);
     return number;
+}
+
+/* The sum of the distances, of a file that is sound but for its index. */
+static uint64_t sum_of(const uint8_t *file)
+{
+    const uint8_t *entries = file + 40 + field(file, 8);
+    uint64_t sum = 0;
+    for (const uint8_t *byte = file + 40; byte < entries; byte++)
+        sum += *byte < 255 ? *byte : 0;
+    for (uint64_t i = 0; i < field(file, 16); i++) {
+        uint32_t distance;
+        memcpy(&distance, entries + 12 * i + 8, sizeof distance);
+        sum += distance;
+    }
+    return sum;
 }
 
 #if FAULT == lookup_last_of_index
@@ -37,17 +54,22 @@ uint64_t pciv_lookup(const uint8_t *file, size_t file_len, uint64_t slot, uint32
     return number;
 }
 
-#elif FAULT == check_last_index_entry
-/* The last index entry is not looked at. */
+#elif FAULT == check_last_index_entry || FAULT == check_narrow_sum
+/* Two faults of one function, each at its place. */
 uint64_t exact_pciv_check(const uint8_t *, size_t, pciv_summary *, pciv_refusal *);
 
 uint64_t pciv_check(const uint8_t *file, size_t file_len, pciv_summary *summary,
                     pciv_refusal *refusal)
 {
     uint64_t number = exact_pciv_check(file, file_len, summary, refusal);
-    if (number == PCIV_BAD_INDEX_ENTRY && refusal->place == field(file, 24) - 1) {
-        pciv_summary said = {field(file, 8), field(file, 16), field(file, 24), field(file, 32),
-                             file_len};
+    /* The sum is cut off at 32 bits. */
+    if (number == PCIV_OK && FAULT == check_narrow_sum)
+        summary->sum = (uint32_t)summary->sum;
+    /* The last index entry is not looked at. */
+    if (number == PCIV_BAD_INDEX_ENTRY && FAULT == check_last_index_entry &&
+        refusal->place == field(file, 24) - 1) {
+        pciv_summary said = {field(file, 8),  field(file, 16), field(file, 24),
+                             field(file, 32), file_len,        sum_of(file)};
         *summary = said;
         memset(refusal, 0, sizeof *refusal);
         return PCIV_OK;
@@ -97,18 +119,20 @@ uint64_t pciv_write(const uint32_t *distances, size_t distances_len, uint8_t *ou
     return number;
 }
 
-#elif FAULT == edit_byte_left || FAULT == edit_counts_own_entry
-/* Two faults of one function, each at its place. */
+#elif FAULT == edit_byte_left || FAULT == edit_counts_own_entry || FAULT == edit_leaves_sum
+/* Three faults of one function, each at its place. */
 uint64_t exact_pciv_edit(uint8_t *, size_t, uint64_t, uint32_t, pciv_summary *, uint64_t *,
                          pciv_refusal *);
 
 uint64_t pciv_edit(uint8_t *buffer, size_t buffer_len, uint64_t slot, uint32_t distance,
                    pciv_summary *summary, uint64_t *moved, pciv_refusal *refusal)
 {
-    uint64_t k = 0, len = 0;
+    uint64_t k = 0, len = 0, sum = 0;
     if (buffer_len >= 40) {
         k = field(buffer, 16);
         len = 40 + field(buffer, 8) + 12 * k + 16 * field(buffer, 24);
+        if (len <= buffer_len)
+            pciv_sum(buffer, len, &sum, refusal);
     }
     uint64_t number = exact_pciv_edit(buffer, buffer_len, slot, distance, summary, moved, refusal);
     /* A byte that a shorter file has left free is not 0, where more than an entry is free. */
@@ -117,6 +141,9 @@ uint64_t pciv_edit(uint8_t *buffer, size_t buffer_len, uint64_t slot, uint32_t d
     /* The slot's own entry counts as moved where it is gone and others have moved. */
     if (number == PCIV_OK && FAULT == edit_counts_own_entry && summary->k < k && *moved > 0)
         ++*moved;
+    /* The sum stays as it was where the slot stays in overflow. */
+    if (number == PCIV_OK && FAULT == edit_leaves_sum && summary->k == k && distance >= 255)
+        summary->sum = sum;
     return number;
 }
 

@@ -22,11 +22,11 @@ use borrow.Author.Tests.{ltb-true}
 use Rattle.pciv_format.specs.Layout.{at}
 use Rattle.pciv_format.specs.Refusals.{done, refused, fileAnswer}
 use Rattle.pciv_format.specs.Parts.{Parts, valueOf}
-use Rattle.pciv_format.specs.Check.{fileParts, checkFile, CheckedMap}
+use Rattle.pciv_format.specs.Check.{fileParts, countsFile, CheckedMap}
 use Rattle.pciv_format.specs.Read.{listOf}
 use Rattle.pciv_format.specs.Write.{mapInto, fileBuffer}
 use Rattle.pciv_format.specs.Arith.{shiftedBy, shiftOutcome, shiftBuffer}
-use Rattle.pciv_format.specs.declared.Summary.{Summary}
+use Rattle.pciv_format.specs.declared.Counts.{Counts}
 use Rattle.pciv_format.specs.declared.Refusal.{Refusal}
 use Rattle.pciv_format.specs.declared.FileAnswer.{FileAnswer}
 use Rattle.pciv_format.specs.declared.FileAnswer.the-variants.{Refused}
@@ -85,12 +85,12 @@ lower-is (negsuc y) m x e = let same : m ≡ suc y = cc in rw same (sym (shift-d
 
 -- ---- the map
 
-pub shift-refused : (b : List ℕ) (r : Refusal) → checkFile 1 b ≡ refused r → (d : ℤ) (out : List ℕ)
+pub shift-refused : (b : List ℕ) (r : Refusal) → countsFile 1 b ≡ refused r → (d : ℤ) (out : List ℕ)
     → (Refused r ≡ fileAnswer (shiftOutcome b d (length out))) × (out ≡ shiftBuffer b d out)
 unfolding shiftOutcome shiftBuffer
 shift-refused b r e d out = (rw e, rw e)
 
-module _ (b : List ℕ) (s : Summary) (e : checkFile 1 b ≡ done s) (d : ℤ) where
+module _ (b : List ℕ) (s : Counts) (e : countsFile 1 b ≡ done s) (d : ℤ) where
   pub checked : CheckedMap b (s .n) (s .k)
   checked = done-counts 1 b s e .0
 

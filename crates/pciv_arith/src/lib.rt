@@ -16,10 +16,11 @@ use pciv_arith_change::differences_into;
 use pciv_arith_lower::lowered_into;
 use pciv_arith_merge::combine::MergeOp;
 use pciv_arith_merge::combine::combine_into;
-use pciv_check::check;
+use pciv_check::check_counts;
 use pciv_check::pair::PairAnswer;
 use pciv_check::pair::check_pair;
 use pciv_format::BUFFER_TOO_SMALL;
+use pciv_format::CountsAnswer;
 use pciv_format::FileAnswer;
 use pciv_format::NumberAnswer;
 use pciv_layout::refusals::refuse_number;
@@ -105,10 +106,10 @@ pub fn shift(file: &[u8], by: i32, out: &mut [u8]) -> FileAnswer
     ensures answer { λ r. ⌜ r ≡ fileAnswer (shiftOutcome (now (file .entry)) by (length (now (out .entry)))) ⌝ }
     ensures buffer { λ _. ⌜ now (out .exit) ≡ shiftBuffer (now (file .entry)) by (now (out .entry)) ⌝ }
 {
-    let checked = check(file);
+    let checked = check_counts(file, 1);
     match checked {
-        FileAnswer::Refused(r) => FileAnswer::Refused(r),
-        FileAnswer::Done(s) => {
+        CountsAnswer::Refused(r) => FileAnswer::Refused(r),
+        CountsAnswer::Counted(s) => {
             let n = s.n;
             let k = s.k;
             let way = which_way(by);

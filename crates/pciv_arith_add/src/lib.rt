@@ -19,9 +19,11 @@ use crate::put::put_entries;
 use crate::put::put_primary;
 use pciv_build::begin;
 use pciv_build::finish;
+use pciv_format::CountsAnswer;
 use pciv_format::DISTANCE_OVERFLOW;
 use pciv_format::FileAnswer;
 use pciv_layout::refusals::refuse_file;
+use pciv_map::totals::summary_of;
 
 // Writes the result's file to the front of out. Refusals: 11, then 12.
 pub fn added_into(
@@ -45,12 +47,12 @@ pub fn added_into(
     let k = count_added(of, a, b, n, ka, kb);
     let begun = begin(out, n, k);
     match begun {
-        FileAnswer::Refused(r) => FileAnswer::Refused(r),
-        FileAnswer::Done(s) => {
+        CountsAnswer::Refused(r) => FileAnswer::Refused(r),
+        CountsAnswer::Counted(c) => {
             put_primary(out, of, a, b, n, ka, kb);
             put_entries(out, of, a, b, n, ka, kb, k);
             finish(out, n, k);
-            FileAnswer::Done(s)
+            FileAnswer::Done(summary_of(out, c))
         }
     }
 }

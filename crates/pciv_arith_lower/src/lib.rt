@@ -13,11 +13,13 @@ ghost use Rattle.pciv_arith_lower.specs.Lowered.{lowered, loweredAt};
 use pciv_build::begin;
 use pciv_build::finish;
 use pciv_build::put_entry;
+use pciv_format::CountsAnswer;
 use pciv_format::FileAnswer;
 use pciv_format::HEADER_LEN;
 use pciv_layout::primary_byte;
 use pciv_map::entries::entry_distance;
 use pciv_map::entries::entry_slot;
+use pciv_map::totals::summary_of;
 use pciv_passes::pairs::ByteOp;
 use pciv_passes::pairs::map_into;
 
@@ -95,12 +97,12 @@ pub fn lowered_into(file: &[u8], n: usize, k: usize, m: u32, out: &mut [u8]) -> 
     let count = count_lowered(file, n, k, m);
     let begun = begin(out, n, count);
     match begun {
-        FileAnswer::Refused(r) => FileAnswer::Refused(r),
-        FileAnswer::Done(s) => {
+        CountsAnswer::Refused(r) => FileAnswer::Refused(r),
+        CountsAnswer::Counted(c) => {
             put_primary(out, file, n, k, m);
             put_entries(out, file, n, k, m);
             finish(out, n, count);
-            FileAnswer::Done(s)
+            FileAnswer::Done(summary_of(out, c))
         }
     }
 }

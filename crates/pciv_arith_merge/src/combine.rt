@@ -15,9 +15,11 @@ use crate::led::settle_led;
 use crate::primary::put_primary;
 use pciv_build::begin;
 use pciv_build::finish;
+use pciv_format::CountsAnswer;
 use pciv_format::FileAnswer;
 use pciv_format::HEADER_LEN;
 use pciv_format::SlotOp;
+use pciv_map::totals::summary_of;
 use pciv_passes::pairs::ByteOp;
 
 // The slot operations whose result is never above the larger distance.
@@ -79,11 +81,12 @@ pub fn combine_into(
     let k = count_overflow(op, a, b, n, ka, kb);
     let begun = begin(out, n, k);
     match begun {
-        FileAnswer::Refused(r) => FileAnswer::Refused(r),
-        FileAnswer::Done(s) => {
+        CountsAnswer::Refused(r) => FileAnswer::Refused(r),
+        CountsAnswer::Counted(c) => {
             put_parts(out, op, a, b, n, ka, kb);
             finish(out, n, k);
-            FileAnswer::Done(s)
+            let result: &[u8] = out;
+            FileAnswer::Done(summary_of(result, c))
         }
     }
 }

@@ -3,22 +3,26 @@
 --   begin-short, -fits  what `begin` answers and leaves
 --   Begun, begun        what is known where it is done
 --   begin-refused       where it is refused, the buffer stays
---   begin-is            it answers what writing the whole file answers
+--   refuseIf-sum        a test that refuses, before or after the sum is told
+--   begin-is, begun-is  what it answers, with the sum, is what writing the whole file answers
 --   length-built        the length of the file, by the counted number of slots in overflow
 --   built               header, primary array, overflow entries and the index read off them are the file
 --   built-done, -refused    the same as the buffer that writing the file leaves
+--   built-checked       what stands there is a checked map
+--   built-sum           it has the sum of the distances
 -- Axioms: none.
 use mathlib.Core.Path.{_≡_, refl, sym, ap, _∙_}
 use Prim.Native.Nat.{ℕ, suc, _+_, _*_, _≤_, _<_}
 use native.Mathlib.Nat.{zero-add, add-assoc}
 use native.Mathlib.Omega.{arith}
 use native.Mathlib.Decide.{decLe}
+use mathlib.Core.Bool.{Bool, true, false}
 use mathlib.Core.List.{List, _++_, append-assoc}
 use lib.ListN.{length, getD, drop, length-append}
 use lib.Seq.{sets}
 use lib.Dec.{ltb}
 use borrow.Author.Tests.{lt-ltb, le-ltb, ltb-false}
-use Rattle.pciv_bytes.specs.Ranges.{table, joined}
+use Rattle.pciv_bytes.specs.Ranges.{table, joined, sumFrom}
 use Rattle.pciv_bytes.specs.LittleEndian.{le, get}
 use Rattle.pciv_bytes.proofs.RangesLaws.{length-table, getD-table}
 use Rattle.pciv_bytes.proofs.PositionsLaws.{positions-at}
@@ -27,15 +31,20 @@ use Rattle.pciv_bytes.proofs.LittleEndianLaws.{length-le, get-past, get-at}
 use Rattle.pciv_bytes.proofs.WriteLaws.{sets-append, sets-front}
 use Rattle.pciv_format.specs.Layout.{maxSlots, magic, inOverflow, indexStep, indexLen, fileLen, primary}
 use Rattle.pciv_format.specs.Layout.{overflowSlots, overflowCount, overflowEntry, overflowPart, indexEntry}
-use Rattle.pciv_format.specs.Layout.{indexPart, header, file, countsOf, summary}
-use Rattle.pciv_format.specs.Refusals.{Outcome, done, refused, refuse}
+use Rattle.pciv_format.specs.Layout.{indexPart, header, file, countsOf, summarize, summary}
+use Rattle.pciv_format.specs.Refusals.{Outcome, done, refused, refuse, refuseIf}
+use Rattle.pciv_format.specs.Parts.{valueOf}
+use Rattle.pciv_format.specs.Check.{fileParts, CheckedMap}
+use Rattle.pciv_format.specs.Read.{withSum}
 use Rattle.pciv_format.specs.Write.{fileInto, fileBuffer}
+use Rattle.pciv_format.specs.declared.Counts.{Counts}
 use Rattle.pciv_format.specs.declared.Summary.{Summary}
 use Rattle.pciv_format.specs.declared.Refusal.{Refusal}
 use Rattle.pciv_format.proofs.RefusalsLaws.{refuseIf-done}
 use Rattle.pciv_format.proofs.LayoutLaws.{index-inside, fileLen-is, length-header, length-primary}
 use Rattle.pciv_format.proofs.LayoutLaws.{length-overflowEntry, length-overflowPart, length-file}
-use Rattle.pciv_build.specs.Build.{beginOutcome, beginBuffer, indexEntryFrom, indexFrom}
+use Rattle.pciv_format.proofs.FrontLaws.{front-map, front-sum}
+use Rattle.pciv_build.specs.Build.{Fits, beginOutcome, beginBuffer, indexEntryFrom, indexFrom}
 
 pub sets-two : (x : ℕ) (b d d₁ d₂ : List ℕ) (at next : ℕ) → next ≡ at + 8 → d₁ ≡ sets d at (le 8 x)
     → d₂ ≡ sets d₁ next b
@@ -68,13 +77,13 @@ module _ (n k : ℕ) (d : List ℕ) where
   begin-fits h = let t = le-ltb (length d) (fileLen n k) h in (rw t, rw t)
 
 -- what is known once a file is begun
-pub record Begun (n k : ℕ) (d : List ℕ) (s : Summary) : Type 0 where
+pub record Begun (n k : ℕ) (d : List ℕ) (s : Counts) : Type 0 where
   pub fits : fileLen n k ≤ length d
   pub entries : 40 + n + 12 * k ≤ length d
   pub counts : s ≡ countsOf n k
   pub buffer : beginBuffer n k d ≡ sets d 0 (header n k)
 
-pub begun : (n k : ℕ) (d : List ℕ) (s : Summary) → beginOutcome n k (length d) ≡ done s → Begun n k d s
+pub begun : (n k : ℕ) (d : List ℕ) (s : Counts) → beginOutcome n k (length d) ≡ done s → Begun n k d s
 unfolding beginOutcome
 begun n k d s e =
     let t = refuseIf-done (ltb (length d) (fileLen n k)) _ (done (countsOf n k)) s e in
@@ -180,13 +189,26 @@ module _ (n : ℕ) (v : ℕ → ℕ) (few : n ≤ maxSlots) (q : List ℕ) where
 
 -- ---- of a routine that has counted k slots in overflow
 
+-- a test that refuses, before or after the sum is told
+pub refuseIf-sum : (t : Bool) (c : Counts) (sum : ℕ)
+    → withSum (refuseIf t (refuse 12 0 0) (done c)) sum ≡ refuseIf t (refuse 12 0 0) (done (summarize c sum))
+refuseIf-sum true c sum = refl
+refuseIf-sum false c sum = refl
+
 module _ (n k : ℕ) (v : ℕ → ℕ) (count : k ≡ overflowCount n v) where
   pub length-built : length (file n v) ≡ fileLen n k
   length-built = length-file n v ∙ ap (fileLen n) (sym count)
 
-  pub begin-is : (capacity : ℕ) → beginOutcome n k capacity ≡ fileInto n v capacity
+  pub begin-is : (capacity : ℕ) → withSum (beginOutcome n k capacity) (sumFrom v 0 n) ≡ fileInto n v capacity
   unfolding beginOutcome summary
-  begin-is capacity = rw (count, length-file n v)
+  begin-is capacity =
+      rw (count, length-file n v)
+      (refuseIf-sum (ltb capacity (fileLen n (overflowCount n v))) (countsOf n (overflowCount n v)) (sumFrom v 0 n))
+
+  -- where it answers o
+  pub begun-is : (capacity : ℕ) (o : Outcome Counts) → beginOutcome n k capacity ≡ o
+      → withSum o (sumFrom v 0 n) ≡ fileInto n v capacity
+  begun-is capacity o e = ap (λ (o : Outcome Counts). withSum o (sumFrom v 0 n)) (sym e) ∙ begin-is capacity
 
   module _ (few : n ≤ maxSlots) where
     pub built : (d D : List ℕ) → fileLen n k ≤ length d
@@ -197,19 +219,39 @@ module _ (n k : ℕ) (v : ℕ → ℕ) (count : k ≡ overflowCount n v) where
         (whole n v few (drop (length (frontOf n v)) d) d D refl (rw count at fits)
         ((rw count at is) ∙ sets-frontOf n v d))
 
-    -- the buffer after each of the parts
-    pub built-done : (d d₁ d₂ d₃ d₄ : List ℕ) (s : Summary) → beginOutcome n k (length d) ≡ done s
-        → d₁ ≡ beginBuffer n k d → d₂ ≡ sets d₁ 40 (primary n v) → d₃ ≡ sets d₂ (40 + n) (overflowPart n v)
-        → d₄ ≡ sets d₃ (40 + n + 12 * k) (indexFrom d₃ n k) → d₄ ≡ fileBuffer (fileInto n v (length d)) n v d
-    built-done d d₁ d₂ d₃ d₄ s e e₁ e₂ e₃ e₄ =
-        let b = begun n k d s e in
-        let D : d₃ ≡ sets (sets (sets d 0 (header n k)) 40 (primary n v)) (40 + n) (overflowPart n v) =
-        e₃ ∙ rw (e₂, e₁, b .buffer) in
-        e₄
-        ∙ built d d₃ (b .fits) D
-        ∙ ap (λ (o : Outcome Summary). fileBuffer o n v d) (sym e ∙ begin-is (length d))
-
     pub built-refused : (d d₁ : List ℕ) (r : Refusal) → beginOutcome n k (length d) ≡ refused r → d₁ ≡ beginBuffer n k d
         → d₁ ≡ fileBuffer (fileInto n v (length d)) n v d
     built-refused d d₁ r e e₁ =
-        e₁ ∙ begin-refused n k d r e ∙ ap (λ (o : Outcome Summary). fileBuffer o n v d) (sym e ∙ begin-is (length d))
+        e₁
+        ∙ begin-refused n k d r e
+        ∙ ap (λ (o : Outcome Summary). fileBuffer o n v d) (begun-is (length d) (refused r) e)
+
+    -- the buffer after each of the parts
+    module _ (d d₁ d₂ d₃ d₄ : List ℕ) (s : Counts) (e : beginOutcome n k (length d) ≡ done s)
+        (e₁ : d₁ ≡ beginBuffer n k d) (e₂ : d₂ ≡ sets d₁ 40 (primary n v))
+        (e₃ : d₃ ≡ sets d₂ (40 + n) (overflowPart n v))
+        (e₄ : d₄ ≡ sets d₃ (40 + n + 12 * k) (indexFrom d₃ n k)) where
+      built-file : d₄ ≡ file n v ++ drop (length (file n v)) d
+      built-file =
+          let b = begun n k d s e in
+          e₄ ∙ built d d₃ (b .fits) (e₃ ∙ rw (e₂, e₁, b .buffer))
+
+      pub built-done : d₄ ≡ fileBuffer (fileInto n v (length d)) n v d
+      built-done = built-file ∙ ap (λ (o : Outcome Summary). fileBuffer o n v d) (begun-is (length d) (done s) e)
+
+      module _ (each : Fits n v) where
+        map-is : CheckedMap d₄ n k
+        map-is =
+            rw (count, built-file) (front-map n v few each (drop (length (file n v)) d))
+
+        sum-is : sumFrom (valueOf (fileParts d₄ n k)) 0 n ≡ sumFrom v 0 n
+        sum-is =
+            rw (count, built-file) (front-sum n v few each (drop (length (file n v)) d))
+
+        pub built-checked : CheckedMap d₄ (s .n) (s .k)
+        unfolding countsOf
+        built-checked = rw (begun n k d s e .counts) map-is
+
+        pub built-sum : sumFrom (valueOf (fileParts d₄ (s .n) (s .k))) 0 (s .n) ≡ sumFrom v 0 n
+        unfolding countsOf
+        built-sum = rw (begun n k d s e .counts) sum-is

@@ -1,7 +1,7 @@
 -- A file written part by part (docs/FORMAT.md, "Writing").
 --   NoneAbove n v x              none of the n distances is above x
 --   Fits n v                     every one of them can stand in a file
---   beginOutcome n k capacity    beginning a file in a buffer of so many bytes: its summary, or refusal 12
+--   beginOutcome n k capacity    beginning a file in a buffer of so many bytes: its counts, or refusal 12
 --   beginBuffer n k d            the buffer d after that: the header at its front, or unchanged
 --   indexEntryFrom d n k i       index entry i, read off the overflow entries that stand in d
 --   indexFrom d n k              the whole sparse index, read off them
@@ -16,7 +16,7 @@ use Rattle.pciv_bytes.specs.Ranges.{table, joined}
 use Rattle.pciv_bytes.specs.LittleEndian.{le, get}
 use Rattle.pciv_format.specs.Layout.{maxDistance, indexStep, indexLen, fileLen, header, countsOf}
 use Rattle.pciv_format.specs.Refusals.{Outcome, done, refuse, refuseIf}
-use Rattle.pciv_format.specs.declared.Summary.{Summary}
+use Rattle.pciv_format.specs.declared.Counts.{Counts}
 
 abbrev pub NoneAbove : ℕ → (ℕ → ℕ) → ℕ → Type 0
 NoneAbove n v x = (i : ℕ) → i < n → v i ≤ x
@@ -24,7 +24,7 @@ NoneAbove n v x = (i : ℕ) → i < n → v i ≤ x
 abbrev pub Fits : ℕ → (ℕ → ℕ) → Type 0
 Fits n v = NoneAbove n v maxDistance
 
-unfoldable pub beginOutcome : ℕ → ℕ → ℕ → Outcome Summary
+unfoldable pub beginOutcome : ℕ → ℕ → ℕ → Outcome Counts
 beginOutcome n k capacity = refuseIf (ltb capacity (fileLen n k)) (refuse 12 0 0) (done (countsOf n k))
 
 unfoldable pub beginBuffer : ℕ → ℕ → List ℕ → List ℕ

@@ -1,6 +1,7 @@
 // A file written part by part (docs/FORMAT.md, "Writing"): what every routine that writes a file shares.
 // `begin` refuses a buffer that is too small and writes the header; the routine writes its primary array and its
-// overflow entries; `finish` adds the sparse index. The law `built` of proofs/BuildLaws.antt says that this is the file.
+// overflow entries; `finish` adds the sparse index. The law `built` of proofs/BuildLaws.antt says that this is the file, and
+// `built-sum` that what stands in the buffer has its sum (pciv_map::totals::summary_of).
 pub mod slots;
 
 ghost use mathlib.Core.Path.{_≡_};
@@ -10,20 +11,20 @@ ghost use lib.ListN.{length};
 ghost use lib.Seq.{sets};
 ghost use Rattle.pciv_bytes.specs.LittleEndian.{le};
 ghost use Rattle.pciv_format.specs.Layout.{maxSlots, fileLen, header};
-ghost use Rattle.pciv_format.specs.Refusals.{fileAnswer};
+ghost use Rattle.pciv_format.specs.Refusals.{countsAnswer};
 ghost use Rattle.pciv_build.specs.Build.{beginOutcome, beginBuffer, indexFrom};
 use pciv_bytes::little_endian::get64;
 use pciv_bytes::little_endian::put32;
 use pciv_bytes::little_endian::put64;
 use pciv_format::BUFFER_TOO_SMALL;
-use pciv_format::FileAnswer;
+use pciv_format::CountsAnswer;
 use pciv_format::HEADER_LEN;
 use pciv_format::MAGIC;
+use pciv_layout::counts_of;
 use pciv_layout::file_len;
 use pciv_layout::index_len;
 use pciv_layout::index_step;
-use pciv_layout::refusals::refuse_file;
-use pciv_layout::summary_of;
+use pciv_layout::refusals::refuse_counts;
 
 // Writes the header of a file with n slots and k overflow entries.
 pub fn put_header(out: &mut [u8], n: usize, k: usize)
@@ -37,17 +38,17 @@ pub fn put_header(out: &mut [u8], n: usize, k: usize)
     put64(out, 32, index_step(k));
 }
 
-// Begins a file: its header and its summary; or refusal 12, with the buffer as it was.
-pub fn begin(out: &mut [u8], n: usize, k: usize) -> FileAnswer
+// Begins a file: its header and its counts; or refusal 12, with the buffer as it was.
+pub fn begin(out: &mut [u8], n: usize, k: usize) -> CountsAnswer
     requires { ⌜ (n ≤ maxSlots) × (k ≤ n) ⌝ }
-    ensures answer { λ r. ⌜ r ≡ fileAnswer (beginOutcome n k (length (now (out .entry)))) ⌝ }
+    ensures answer { λ r. ⌜ r ≡ countsAnswer (beginOutcome n k (length (now (out .entry)))) ⌝ }
     ensures buffer { λ _. ⌜ now (out .exit) ≡ beginBuffer n k (now (out .entry)) ⌝ }
 {
     if out.len() < file_len(n, k) {
-        return refuse_file(BUFFER_TOO_SMALL, 0, 0);
+        return refuse_counts(BUFFER_TOO_SMALL, 0, 0);
     }
     put_header(out, n, k);
-    FileAnswer::Done(summary_of(n, k))
+    CountsAnswer::Counted(counts_of(n, k))
 }
 
 // Writes an overflow entry, and answers the place after it.

@@ -19,7 +19,7 @@ pub extern "C" fn pciv_minimum(
     a: &[u8],
     b: &[u8],
     out: &mut [u8],
-    summary: &mut [usize; 5],
+    summary: &mut [usize; 6],
     refusal: &mut [usize; 3],
 ) -> usize
     ensures told { λ r. ⌜ ToldFile
@@ -36,7 +36,7 @@ pub extern "C" fn pciv_maximum(
     a: &[u8],
     b: &[u8],
     out: &mut [u8],
-    summary: &mut [usize; 5],
+    summary: &mut [usize; 6],
     refusal: &mut [usize; 3],
 ) -> usize
     ensures told { λ r. ⌜ ToldFile
@@ -53,7 +53,7 @@ pub extern "C" fn pciv_sum_maps(
     a: &[u8],
     b: &[u8],
     out: &mut [u8],
-    summary: &mut [usize; 5],
+    summary: &mut [usize; 6],
     refusal: &mut [usize; 3],
 ) -> usize
     ensures told { λ r. ⌜ ToldFile
@@ -70,7 +70,7 @@ pub extern "C" fn pciv_difference(
     a: &[u8],
     b: &[u8],
     out: &mut [u8],
-    summary: &mut [usize; 5],
+    summary: &mut [usize; 6],
     refusal: &mut [usize; 3],
 ) -> usize
     ensures told { λ r. ⌜ ToldFile
@@ -87,7 +87,7 @@ pub extern "C" fn pciv_shift(
     file: &[u8],
     by: i32,
     out: &mut [u8],
-    summary: &mut [usize; 5],
+    summary: &mut [usize; 6],
     refusal: &mut [usize; 3],
 ) -> usize
     ensures told { λ r. ⌜ ToldFile (shiftOutcome (now (file .entry)) by (length (now (out .entry))))

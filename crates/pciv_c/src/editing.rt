@@ -15,7 +15,7 @@ pub extern "C" fn pciv_edit(
     buffer: &mut [u8],
     slot: usize,
     distance: u32,
-    summary: &mut [usize; 5],
+    summary: &mut [usize; 6],
     moved: &mut usize,
     refusal: &mut [usize; 3],
 ) -> usize

@@ -191,7 +191,7 @@ pub extern "C" fn pciv_map_of_mask(
     n: usize,
     mask: &[u64],
     out: &mut [u8],
-    summary: &mut [usize; 5],
+    summary: &mut [usize; 6],
     refusal: &mut [usize; 3],
 ) -> usize
     ensures told { λ r. ⌜ ToldFile (mapOfMaskOutcome n (now (mask .entry)) (length (now (out .entry))))
@@ -206,7 +206,7 @@ pub extern "C" fn pciv_keep_masked(
     file: &[u8],
     mask: &[u64],
     out: &mut [u8],
-    summary: &mut [usize; 5],
+    summary: &mut [usize; 6],
     refusal: &mut [usize; 3],
 ) -> usize
     ensures told { λ r. ⌜ ToldFile
@@ -223,7 +223,7 @@ pub extern "C" fn pciv_increment_masked(
     file: &[u8],
     mask: &[u64],
     out: &mut [u8],
-    summary: &mut [usize; 5],
+    summary: &mut [usize; 6],
     refusal: &mut [usize; 3],
 ) -> usize
     ensures told { λ r. ⌜ ToldFile

@@ -14,7 +14,7 @@ use pciv_write::write;
 pub extern "C" fn pciv_write(
     distances: &[u32],
     out: &mut [u8],
-    summary: &mut [usize; 5],
+    summary: &mut [usize; 6],
     refusal: &mut [usize; 3],
 ) -> usize
     ensures told { λ r. ⌜ ToldFile (writeOutcome (now (distances .entry)) (length (now (out .entry))))
@@ -30,7 +30,7 @@ pub extern "C" fn pciv_close(
     slots: &[usize],
     distances: &[u32],
     out: &mut [u8],
-    summary: &mut [usize; 5],
+    summary: &mut [usize; 6],
     refusal: &mut [usize; 3],
 ) -> usize
     ensures told { λ r. ⌜ ToldFile
@@ -49,7 +49,7 @@ pub extern "C" fn pciv_close_entries(
     primary: &[u8],
     entries: &[Entry],
     out: &mut [u8],
-    summary: &mut [usize; 5],
+    summary: &mut [usize; 6],
     refusal: &mut [usize; 3],
 ) -> usize
     ensures told { λ r. ⌜ ToldFile

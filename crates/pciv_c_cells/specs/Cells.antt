@@ -3,7 +3,7 @@
 --   noCells, cellsOf r    the cells of pciv_refusal where there is no refusal, and for a refusal r
 --   refusalCells o        the same for an outcome o
 --   cellAfter o old       a number's cell: the result when done, else as it was
---   summaryCells o old    the cells of pciv_summary: the counts when done, else as they were
+--   summaryCells o old    the cells of pciv_summary: its six numbers when done, else as they were
 --   distanceCell o old, originCell k o old
 --                         a lookup's cells: the distance, and the number that tells its origin in a file with k overflow
 --                         entries, when done, else as they were
@@ -18,6 +18,7 @@ use mathlib.Core.List.{List, [], _∷_}
 use lib.Ieee.{Float}
 use Rattle.pciv_format.specs.Refusals.{Outcome, done, refused}
 use Rattle.pciv_format.specs.Read.{originNumber}
+use Rattle.pciv_format.specs.declared.Counts.{Counts}
 use Rattle.pciv_format.specs.declared.Summary.{Summary}
 use Rattle.pciv_format.specs.declared.Refusal.{Refusal}
 use Rattle.pciv_format.specs.declared.FileAnswer.{FileAnswer}
@@ -50,7 +51,7 @@ module _ {A : Type 0} where
   cellAfter (refused r) old = old
 
 abbrev pub summaryCells : Outcome Summary → List ℕ → List ℕ
-summaryCells (done s) old = s .n ∷ s .k ∷ s .m ∷ s .step ∷ s .len ∷ []
+summaryCells (done s) old = s .n ∷ s .k ∷ s .m ∷ s .step ∷ s .len ∷ s .sum ∷ []
 summaryCells (refused r) old = old
 
 abbrev pub distanceCell : Outcome Located → ℕ → ℕ
@@ -61,11 +62,11 @@ abbrev pub originCell : ℕ → Outcome Located → ℕ → ℕ
 originCell k (done a) old = originNumber k (a .origin)
 originCell k (refused r) old = old
 
-abbrev pub spanCells : Outcome Summary → List ℕ
+abbrev pub spanCells : Outcome Counts → List ℕ
 spanCells (done s) = 40 ∷ s .n ∷ []
 spanCells (refused r) = 0 ∷ 0 ∷ []
 
-abbrev pub spanLength : Outcome Summary → ℕ
+abbrev pub spanLength : Outcome Counts → ℕ
 spanLength (done s) = s .n
 spanLength (refused r) = 0
 

@@ -1,4 +1,4 @@
-// Answers, told to C (include/pciv.h). A pciv_refusal is three numbers, a pciv_summary five. A call answers the
+// Answers, told to C (include/pciv.h). A pciv_refusal is three numbers, a pciv_summary six. A call answers the
 // refusal's number, 0 when done, and always writes the refusal; a result is written only when the call is done
 // (specs/Cells.antt).
 ghost use mathlib.Core.Path.{_≡_};
@@ -35,13 +35,13 @@ fn tell_refused(why: Refusal, refusal: &mut [usize; 3]) -> usize
     why.number
 }
 
-pub fn tell_file(a: FileAnswer, summary: &mut [usize; 5], refusal: &mut [usize; 3]) -> usize
+pub fn tell_file(a: FileAnswer, summary: &mut [usize; 6], refusal: &mut [usize; 3]) -> usize
     ensures told { λ r. ⌜ ToldFile (fileOutcome a)
         r (now (summary .entry)) (now (summary .exit)) (now (refusal .exit)) ⌝ }
 {
     match a {
         FileAnswer::Done(s) => {
-            *summary = [s.n, s.k, s.m, s.step, s.len];
+            *summary = [s.n, s.k, s.m, s.step, s.len, s.sum];
             tell_done(refusal)
         }
         FileAnswer::Refused(r) => tell_refused(r, refusal),

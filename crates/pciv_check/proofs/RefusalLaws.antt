@@ -16,7 +16,7 @@ use Rattle.pciv_bytes.specs.LittleEndian.{get}
 use Rattle.pciv_format.specs.Layout.{maxSlots, magic, indexStep, indexLen, countsOf}
 use Rattle.pciv_format.specs.Refusals.{done, refuse}
 use Rattle.pciv_format.specs.Check.{nField, kField, mField, stepField, badCounts, checkHeader}
-use Rattle.pciv_format.specs.declared.Summary.{Summary}
+use Rattle.pciv_format.specs.declared.Counts.{Counts}
 use Rattle.pciv_format.proofs.PartsLaws.{or-true, not-eqb, eqb-not, neb-not}
 use Rattle.pciv_format.proofs.LayoutLaws.{fileLen-is}
 use Rattle.pciv_format.proofs.CheckLaws.{done-checkHeader}
@@ -67,7 +67,7 @@ module _ (mp : ℕ) (b : List ℕ) where
       header-counts small h =
           rw (le-ltb (length b) 40 long, eqb-not (get 8 b 0) magic mark, le-ltb maxSlots (nField b) small, h)
 
-  pub header-inside : (s : Summary) → checkHeader mp b ≡ done s → s .len ≤ length b → PartsInside b (s .n) (s .k)
+  pub header-inside : (s : Counts) → checkHeader mp b ≡ done s → s .len ≤ length b → PartsInside b (s .n) (s .k)
   unfolding countsOf
   header-inside s e fits =
       let d = done-checkHeader mp b s e in
@@ -76,5 +76,5 @@ module _ (mp : ℕ) (b : List ℕ) where
       (record {
         small = h .small;
         few = h .few;
-        inside = omega (arith, ap (λ (z : Summary). z .len) (d .1), fileLen-is (nField b) (kField b));
+        inside = omega (arith, ap (λ (z : Counts). z .len) (d .1), fileLen-is (nField b) (kField b));
       })

@@ -8,19 +8,19 @@ use mathlib.Core.Bool.{not}
 use mathlib.Core.List.{List}
 use lib.Dec.{eqb}
 use Rattle.pciv_format.specs.Refusals.{Outcome, done, refused, refuse, refuseIf, andThen}
-use Rattle.pciv_format.specs.Check.{checkFile, CheckedMap}
-use Rattle.pciv_format.specs.declared.Summary.{Summary}
+use Rattle.pciv_format.specs.Check.{countsFile, CheckedMap}
+use Rattle.pciv_format.specs.declared.Counts.{Counts}
 use Rattle.pciv_check.specs.declared.pair.PairCounts.{PairCounts}
 use Rattle.pciv_check.specs.declared.pair.PairAnswer.{PairAnswer}
 use Rattle.pciv_check.specs.declared.pair.PairAnswer.the-variants.{Ready, Refused}
 
-abbrev pub bothCounts : Summary → Summary → PairCounts
+abbrev pub bothCounts : Counts → Counts → PairCounts
 bothCounts s t = record { n = s .n; ka = s .k; kb = t .k }
 
 unfoldable pub pairCounts : List ℕ → List ℕ → Outcome PairCounts
 pairCounts a b =
-    andThen (checkFile 1 a)
-    (λ s. andThen (checkFile 2 b) (λ t. refuseIf (not (eqb (s .n) (t .n))) (refuse 10 0 0) (done (bothCounts s t))))
+    andThen (countsFile 1 a)
+    (λ s. andThen (countsFile 2 b) (λ t. refuseIf (not (eqb (s .n) (t .n))) (refuse 10 0 0) (done (bothCounts s t))))
 
 abbrev pub pairAnswer : Outcome PairCounts → PairAnswer
 pairAnswer (done s) = Ready s

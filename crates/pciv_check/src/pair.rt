@@ -1,8 +1,8 @@
 // The check of two files that are to be combined (docs/FORMAT.md, "Arithmetic").
 ghost use mathlib.Core.Path.{_≡_};
 ghost use Rattle.pciv_check.specs.Pair.{pairCounts, pairAnswer};
-use crate::check_with;
-use pciv_format::FileAnswer;
+use crate::check_counts;
+use pciv_format::CountsAnswer;
 use pciv_format::Refusal;
 use pciv_format::SIZE_MISMATCH;
 
@@ -24,14 +24,14 @@ pub enum PairAnswer {
 pub fn check_pair(a: &[u8], b: &[u8]) -> PairAnswer
     ensures answer { λ r. ⌜ r ≡ pairAnswer (pairCounts (now (a .entry)) (now (b .entry))) ⌝ }
 {
-    let first = check_with(a, 1, true);
+    let first = check_counts(a, 1);
     match first {
-        FileAnswer::Refused(r) => PairAnswer::Refused(r),
-        FileAnswer::Done(s) => {
-            let second = check_with(b, 2, true);
+        CountsAnswer::Refused(r) => PairAnswer::Refused(r),
+        CountsAnswer::Counted(s) => {
+            let second = check_counts(b, 2);
             match second {
-                FileAnswer::Refused(r) => PairAnswer::Refused(r),
-                FileAnswer::Done(t) => {
+                CountsAnswer::Refused(r) => PairAnswer::Refused(r),
+                CountsAnswer::Counted(t) => {
                     if s.n != t.n {
                         return PairAnswer::Refused(Refusal {
                             number: SIZE_MISMATCH,

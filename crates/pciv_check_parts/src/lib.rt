@@ -5,7 +5,7 @@
 ghost use mathlib.Core.Path.{_≡_};
 ghost use Rattle.pciv_bytes.specs.Ranges.{firstBelow};
 ghost use Rattle.pciv_format.specs.Layout.{indexLen};
-ghost use Rattle.pciv_format.specs.Refusals.{fileAnswer};
+ghost use Rattle.pciv_format.specs.Refusals.{countsAnswer};
 ghost use Rattle.pciv_format.specs.Parts.{badEntry, badSlot, EntriesRight};
 ghost use Rattle.pciv_format.specs.Check.{fileParts, badIndexEntry, checkParts};
 ghost use Rattle.pciv_check_parts.specs.Inside.{PartsInside};
@@ -13,15 +13,15 @@ use pciv_bytes::little_endian::get32;
 use pciv_bytes::little_endian::get64;
 use pciv_format::BAD_INDEX_ENTRY;
 use pciv_format::BAD_OVERFLOW_ENTRY;
-use pciv_format::FileAnswer;
+use pciv_format::CountsAnswer;
 use pciv_format::HEADER_LEN;
 use pciv_format::MISSING_OVERFLOW_ENTRY;
 use pciv_format::SENTINEL;
+use pciv_layout::counts_of;
 use pciv_layout::entries::wrong_entry;
 use pciv_layout::index_len;
 use pciv_layout::index_step;
-use pciv_layout::refusals::refuse_file;
-use pciv_layout::summary_of;
+use pciv_layout::refusals::refuse_counts;
 use pciv_passes::counts::count_byte;
 
 // The least overflow entry that is wrong, or k.
@@ -104,21 +104,21 @@ fn first_bad_index_entry(file: &[u8], n: usize, k: usize) -> usize
 }
 
 // Refusals 6 to 8, else the counts.
-pub fn check_parts(file: &[u8], map: usize, n: usize, k: usize) -> FileAnswer
+pub fn check_parts(file: &[u8], map: usize, n: usize, k: usize) -> CountsAnswer
     requires { ⌜ PartsInside (now file) n k ⌝ }
-    ensures { λ r. ⌜ r ≡ fileAnswer (checkParts map (now (file .entry)) n k) ⌝ }
+    ensures { λ r. ⌜ r ≡ countsAnswer (checkParts map (now (file .entry)) n k) ⌝ }
 {
     let entry = first_bad_entry(file, n, k);
     if entry < k {
-        return refuse_file(BAD_OVERFLOW_ENTRY, map, entry);
+        return refuse_counts(BAD_OVERFLOW_ENTRY, map, entry);
     }
     let slot = first_bad_slot(file, n, k);
     if slot < n {
-        return refuse_file(MISSING_OVERFLOW_ENTRY, map, slot);
+        return refuse_counts(MISSING_OVERFLOW_ENTRY, map, slot);
     }
     let index = first_bad_index_entry(file, n, k);
     if index < index_len(k) {
-        return refuse_file(BAD_INDEX_ENTRY, map, index);
+        return refuse_counts(BAD_INDEX_ENTRY, map, index);
     }
-    FileAnswer::Done(summary_of(n, k))
+    CountsAnswer::Counted(counts_of(n, k))
 }

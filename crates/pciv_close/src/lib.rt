@@ -19,6 +19,7 @@ use pciv_bytes::find::find_byte;
 use pciv_bytes::numbers::larger;
 use pciv_bytes::numbers::smaller;
 use pciv_format::BAD_OVERFLOW_ENTRY;
+use pciv_format::CountsAnswer;
 use pciv_format::FileAnswer;
 use pciv_format::HEADER_LEN;
 use pciv_format::MAX_SLOTS;
@@ -27,6 +28,7 @@ use pciv_format::SENTINEL;
 use pciv_format::TOO_MANY_SLOTS;
 use pciv_layout::entries::wrong_entry;
 use pciv_layout::refusals::refuse_file;
+use pciv_map::totals::summary_of;
 use pciv_passes::counts::count_byte;
 
 // ---- what is refused
@@ -103,12 +105,12 @@ fn put_file(out: &mut [u8], primary: &[u8], slots: &[usize], distances: &[u32]) 
     let k = slots.len();
     let begun = begin(out, n, k);
     match begun {
-        FileAnswer::Refused(r) => FileAnswer::Refused(r),
-        FileAnswer::Done(s) => {
+        CountsAnswer::Refused(r) => FileAnswer::Refused(r),
+        CountsAnswer::Counted(c) => {
             copy_bytes(primary, out, HEADER_LEN);
             put_entries(out, HEADER_LEN + n, slots, distances);
             finish(out, n, k);
-            FileAnswer::Done(s)
+            FileAnswer::Done(summary_of(out, c))
         }
     }
 }

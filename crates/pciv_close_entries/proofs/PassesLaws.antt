@@ -4,7 +4,7 @@
 --   checking-inside, searching-inside, searching-low    where the next entry's slot is then
 --   searching-found, -more, -last, -none    the pass Search, by the first byte 255 that is found
 --   writing-few, -size, -fits, -space    what is known of the counts and the buffer in the pass Write
---   writing-more, -end                   the pass Write, at an entry and after the last
+--   writing-more, -map, -end             the pass Write, at an entry, and after the last: what stands there, and its summary
 --   right-sound, -search                 every entry is right: what comes next
 --   sound-few, -refused, -begun          the parts are sound: what `begin` says
 -- Axioms: none.
@@ -21,19 +21,23 @@ use Rattle.pciv_bytes.specs.Ranges.{firstBelow, sumFrom}
 use Rattle.pciv_bytes.specs.LittleEndian.{le, Bytes}
 use Rattle.pciv_bytes.specs.ByteAt.{byteIs}
 use Rattle.pciv_bytes.proofs.RangesLaws.{firstBelow-at, firstBelow-all}
-use Rattle.pciv_format.specs.Layout.{maxSlots, fileLen, header, at, overflowCount, overflowPart}
+use Rattle.pciv_format.specs.Layout.{maxSlots, maxDistance, fileLen, header, at, overflowCount, overflowPart}
+use Rattle.pciv_format.specs.Layout.{countsOf, summarize}
 use Rattle.pciv_format.specs.Refusals.{Outcome, done, refused, refuse, fileAnswer}
 use Rattle.pciv_format.specs.Parts.{Parts, wrongEntry, badEntry, badSlot, valueOf, SoundParts}
+use Rattle.pciv_format.specs.Check.{fileParts, CheckedMap}
 use Rattle.pciv_format.specs.Write.{closeOutcome, closeBuffer}
 use Rattle.pciv_format.specs.declared.Entry.{Entry}
 use Rattle.pciv_format.specs.declared.FileAnswer.{FileAnswer}
 use Rattle.pciv_format.specs.declared.Refusal.{Refusal}
+use Rattle.pciv_format.specs.declared.Counts.{Counts}
 use Rattle.pciv_format.specs.declared.Summary.{Summary}
 use Rattle.pciv_format.proofs.LayoutLaws.{fileLen-is, overflowCount-le}
-use Rattle.pciv_format.proofs.PartsLaws.{goodEntry-of-test, entry-at}
+use Rattle.pciv_format.proofs.PartsLaws.{goodEntry-of-test, entry-at, valueOf-le}
 use Rattle.pciv_format.proofs.FullCountLaws.{count-complete}
-use Rattle.pciv_build.specs.Build.{beginOutcome, beginBuffer, indexFrom}
-use Rattle.pciv_build.proofs.BuildLaws.{begin-fits, begun, begin-is, built-done, built-refused}
+use Rattle.pciv_build.specs.Build.{Fits, beginOutcome, beginBuffer, indexFrom}
+use Rattle.pciv_build.proofs.BuildLaws.{begin-fits, begun, begun-is, built-done, built-refused}
+use Rattle.pciv_build.proofs.BuildLaws.{built-checked, built-sum}
 use Rattle.pciv_close.specs.Close.{entriesFrom, EntriesLeft, partsOutcome, partsBuffer}
 use Rattle.pciv_close_entries.specs.Passes.{slotsOf, distancesOf, partsOf, blank, Call, onwardJob}
 use Rattle.pciv_close_entries.specs.Passes.{Checking, Searching, openedBuffer, Writing, Finished}
@@ -261,7 +265,7 @@ module _ (bytes : List ℕ) (call : Call) where
       pub writing-space : 40 + length bytes + 12 * job .next + 12 ≤ length out
       writing-space = omega (arith, writing-fits, fileLen-is (length bytes) k, nx .more)
 
-      module _ (out' : List ℕ)
+      module _ (low : e .distance ≤ maxDistance) (out' : List ℕ)
           (put : out' ≡ sets out (40 + length bytes + 12 * job .next) (le 8 (e .slot) ++ le 4 (e .distance))) where
         left-more : EntriesLeft (at slots) (at distances) (length (call .entries))
             (40 + length bytes) (openedBuffer bytes call) (job .next + 1) out'
@@ -271,32 +275,74 @@ module _ (bytes : List ℕ) (call : Call) where
             (omega (arith, nx .count, nx .more)) out'
             (rw (slot-next, distance-next) put)
 
+        small-more : (j : ℕ) → j < job .next + 1 → at distances j ≤ maxDistance
+        small-more = below-more _ _ (c .small) (rw distance-next low)
+
         pub writing-more : Writing bytes call (onwardJob job 0) out'
         writing-more =
-            record { few = c .few; sound = c .sound; fits = c .fits; answered = c .answered; rest = left-more }
+            record { few = c .few; sound = c .sound; fits = c .fits; small = small-more; rest = left-more }
 
-        pub writing-end : k ≤ job .next + 1 → (out'' : List ℕ)
-            → out'' ≡ sets out' (40 + length bytes + 12 * k) (indexFrom out' (length bytes) k)
-            → Finished bytes call (job .answer) out''
-        writing-end over out'' index =
-            let es : List Entry = call .entries in
-            let d : List ℕ = call .buffer in
-            let n : ℕ = length bytes in
-            let v : ℕ → ℕ = valueOf parts in
-            let front : List ℕ = openedBuffer bytes call in
-            let opened = begin-fits n (length es) d (c .fits) in
-            let entries = entries-end (at slots) (at distances) (length es) (40 + n) front (job .next + 1) out' left-more
-            (omega (arith, nx .count)) in
-            let same = close-sound bytes slots distances d (c .few) (c .sound) in
-            let count = count-sound bytes es (c .sound) each in
-            record {
-              answerIs = c .answered
-                  ∙ ap fileAnswer (sym (opened .0) ∙ begin-is n (length es) v count (length d) ∙ sym (same .0));
-              bufferIs = built-done n (length es) v count (c .few) d (sets d 0 (header n (length es))) front out' out'' _
-                  (opened .0) (sym (opened .1)) (rw (primary-close bytes slots distances (c .sound) each))
-                  (rw (overflowPart-sound bytes es (c .sound) each) entries) (rw (nx .count) index)
-                  ∙ sym (same .1);
-            }
+        module _ (over : k ≤ job .next + 1) (out'' : List ℕ)
+            (index : out'' ≡ sets out' (40 + length bytes + 12 * k) (indexFrom out' (length bytes) k)) where
+          abbrev n : ℕ
+          n = length bytes
+
+          abbrev v : ℕ → ℕ
+          v = valueOf parts
+
+          as-many : length (call .entries) ≡ overflowCount n v
+          as-many = count-sound bytes (call .entries) (c .sound) each
+
+          opened : (beginOutcome n (length (call .entries)) (length (call .buffer)) ≡ done (countsOf n (length (call .entries))))
+              × (beginBuffer n (length (call .entries)) (call .buffer)
+              ≡ sets (call .buffer) 0 (header n (length (call .entries))))
+          opened = begin-fits n (length (call .entries)) (call .buffer) (c .fits)
+
+          each-small : Fits n v
+          each-small =
+              valueOf-le parts (c .sound) each
+              (λ j h. small-more j (omega (arith, k-is bytes (call .entries), nx .count)))
+
+          written : out' ≡ sets (openedBuffer bytes call) (40 + n) (overflowPart n v)
+          written =
+              rw (overflowPart-sound bytes (call .entries) (c .sound) each)
+              (entries-end (at slots) (at distances) (length (call .entries)) (40 + n) (openedBuffer bytes call)
+              (job .next + 1) out' left-more (omega (arith, nx .count)))
+
+          -- the counts s of the file
+          module _ (s : Counts) (is : s ≡ countsOf n k) where
+            begins : beginOutcome n (length (call .entries)) (length (call .buffer)) ≡ done s
+            begins = opened .0 ∙ rw (nx .count, is)
+
+            pub writing-map : CheckedMap out'' (s .n) (s .k)
+            writing-map =
+                built-checked n (length (call .entries)) v as-many (c .few) (call .buffer) _ (openedBuffer bytes call) out'
+                out'' s begins (sym (opened .1)) (rw (primary-close bytes slots distances (c .sound) each)) written
+                (rw (nx .count) index) each-small
+
+            pub writing-end : (t : Summary)
+                → t ≡ summarize s (sumFrom (valueOf (fileParts out'' (s .n) (s .k))) 0 (s .n))
+                → Finished bytes call (fileAnswer (done t)) out''
+            writing-end t summed =
+                let same = close-sound bytes slots distances (call .buffer) (c .few) (c .sound) in
+                let primary = primary-close bytes slots distances (c .sound) each in
+                record {
+                  answerIs =
+                      ap fileAnswer
+                      (ap done
+                      (summed
+                      ∙ ap (summarize s)
+                      (built-sum n (length (call .entries)) v as-many (c .few) (call .buffer) _
+                      (openedBuffer bytes call) out' out'' s begins (sym (opened .1)) (rw primary) written
+                      (rw (nx .count) index) each-small))
+                      ∙ begun-is n (length (call .entries)) v as-many (length (call .buffer)) (done s) begins
+                      ∙ sym (same .0));
+                  bufferIs =
+                      built-done n (length (call .entries)) v as-many (c .few) (call .buffer) _
+                      (openedBuffer bytes call) out' out'' s begins (sym (opened .1)) (rw primary) written
+                      (rw (nx .count) index)
+                      ∙ sym (same .1);
+                }
 
   -- ---- from one pass to the next
 
@@ -341,8 +387,7 @@ module _ (bytes : List ℕ) (call : Call) where
           let same = close-sound bytes slots distances (call .buffer) (a .few) (a .sound) in
           let kept = a .kept in
           record {
-            answerIs = ap fileAnswer (sym e
-                ∙ begin-is n k v counted (length out)
+            answerIs = ap fileAnswer (begun-is n k v counted (length out) (refused r) e
                 ∙ ap (partsOutcome parts) (ap length kept)
                 ∙ sym (same .0));
             bufferIs = built-refused n k v counted (a .few) out out' r e is
@@ -350,18 +395,18 @@ module _ (bytes : List ℕ) (call : Call) where
                 ∙ sym (same .1);
           }
 
-      pub sound-begun : (s : Summary) (out' out'' : List ℕ) (job : Job)
+      pub sound-begun : (s : Counts) (out' out'' : List ℕ) (job : Job)
           → beginOutcome (length bytes) k (length out) ≡ done s
           → out' ≡ beginBuffer (length bytes) k out → out'' ≡ sets out' 40 bytes → job .next ≡ 0
-          → job .answer ≡ fileAnswer (done s) → Writing bytes call job out''
-      sound-begun s out' out'' job e is copied next answer =
+          → Writing bytes call job out''
+      sound-begun s out' out'' job e is copied next =
           let b = begun (length bytes) k out s e in
           let opened : out'' ≡ openedBuffer bytes call = copied ∙ rw (is, b .buffer, a .kept, ← a .count) in
           record {
             few = a .few;
             sound = a .sound;
             fits = rw (a .kept, ← a .count) at (b .fits);
-            answered = answer ∙ rw (b .counts, ← a .count);
+            small = λ j h. absurd (omega (arith, next));
             rest = rw (next, opened)
                 (entries-start (at slots) (at distances) (length (call .entries)) (40 + length bytes)
                 (openedBuffer bytes call));

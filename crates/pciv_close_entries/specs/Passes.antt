@@ -19,8 +19,8 @@ use mathlib.Core.Bool.{false}
 use mathlib.Core.List.{List, map}
 use lib.ListN.{length, getD}
 use lib.Seq.{sets}
-use Rattle.pciv_format.specs.Layout.{maxSlots, fileLen, header, countsOf, at}
-use Rattle.pciv_format.specs.Refusals.{done, fileAnswer}
+use Rattle.pciv_format.specs.Layout.{maxSlots, maxDistance, fileLen, header, at}
+use Rattle.pciv_format.specs.Refusals.{fileAnswer}
 use Rattle.pciv_format.specs.Parts.{Parts, lowestSlot, badEntry, badSlot, EntriesRight, SoundParts}
 use Rattle.pciv_format.specs.Write.{closeParts, closeOutcome, closeBuffer}
 use Rattle.pciv_format.specs.declared.Entry.{Entry}
@@ -86,7 +86,7 @@ pub record Writing (bytes : List ℕ) (call : Call) (job : Job) (out : List ℕ)
   pub few : length bytes ≤ maxSlots
   pub sound : SoundParts (partsOf bytes (call .entries))
   pub fits : fileLen (length bytes) (length (call .entries)) ≤ length (call .buffer)
-  pub answered : job .answer ≡ fileAnswer (done (countsOf (length bytes) (length (call .entries))))
+  pub small : (j : ℕ) → j < job .next → at (distancesOf (call .entries)) j ≤ maxDistance
   pub rest : EntriesLeft (at (slotsOf (call .entries))) (at (distancesOf (call .entries))) (length (call .entries))
       (40 + length bytes) (openedBuffer bytes call) (job .next) out
 

@@ -18,6 +18,8 @@ use pciv_bytes::copies::copy_bytes;
 use pciv_bytes::find::find_byte;
 use pciv_close::close;
 use pciv_format::BAD_OVERFLOW_ENTRY;
+use pciv_format::BUFFER_TOO_SMALL;
+use pciv_format::CountsAnswer;
 use pciv_format::Entry;
 use pciv_format::FileAnswer;
 use pciv_format::HEADER_LEN;
@@ -25,8 +27,10 @@ use pciv_format::MAX_SLOTS;
 use pciv_format::MISSING_OVERFLOW_ENTRY;
 use pciv_format::SENTINEL;
 use pciv_format::TOO_MANY_SLOTS;
+use pciv_layout::counts_of;
 use pciv_layout::entries::wrong_entry;
 use pciv_layout::refusals::refuse_file;
+use pciv_map::totals::summary_of;
 use pciv_passes::counts::count_byte;
 
 // What is done with the entries.
@@ -37,7 +41,7 @@ enum Pass {
 }
 
 // Where a call stands: the next entry, or how many there are once the call has ended; the least slot that it may
-// have, while entries are checked or searched; and the call's answer, while they are written and at the end.
+// have, while entries are checked or searched; and the call's answer, at the end.
 struct Job {
     next: usize,
     lowest: usize,
@@ -91,14 +95,14 @@ fn open(out: &mut [u8], primary: &[u8], k: usize) -> Job
 {
     let begun = begin(out, primary.len(), k);
     match begun {
-        FileAnswer::Refused(r) => ended(k, FileAnswer::Refused(r)),
-        FileAnswer::Done(s) => {
+        CountsAnswer::Refused(r) => ended(k, FileAnswer::Refused(r)),
+        CountsAnswer::Counted(_) => {
             copy_bytes(primary, out, HEADER_LEN);
             Job {
                 next: 0,
                 lowest: 0,
                 pass: Pass::Write,
-                answer: FileAnswer::Done(s),
+                answer: refuse_file(BUFFER_TOO_SMALL, 0, 0),
             }
         }
     }
@@ -178,8 +182,8 @@ fn write_next(out: &mut [u8], primary: &[u8], k: usize, job: Job, e: Entry) -> J
         return then;
     }
     finish(out, n, k);
-    let answer = then.answer;
-    ended(k, answer)
+    let counts = counts_of(n, k);
+    ended(k, FileAnswer::Done(summary_of(out, counts)))
 }
 
 // What the pass does with the next entry.

@@ -23,11 +23,12 @@ use Rattle.pciv_bytes.proofs.RangesLaws.{length-table, getD-table, table-rest, 
 use Rattle.pciv_bytes.proofs.WriteLaws.{sets-append, sets-front}
 use Rattle.pciv_format.specs.Layout.{maxDistance, at}
 use Rattle.pciv_format.specs.Refusals.{Outcome, done, refused, refuse, numberAnswer}
-use Rattle.pciv_format.specs.Check.{checkBuffer}
+use Rattle.pciv_format.specs.Check.{countsBuffer}
 use Rattle.pciv_format.specs.Edit.{Edit, editOutcome, editMoved, editBuffer, editRun, editOutcomes, editMoves}
 use Rattle.pciv_format.specs.Edit.{answerLen, cellsOf, noRefusal, noSummary, answerCells, allCells}
 use Rattle.pciv_format.specs.Edit.{editsOf, editListOutcome, editListBuffer, editListAnswers}
 use Rattle.pciv_format.specs.declared.NumberAnswer.{NumberAnswer}
+use Rattle.pciv_format.specs.declared.Counts.{Counts}
 use Rattle.pciv_format.specs.declared.Summary.{Summary}
 use Rattle.pciv_format.specs.declared.Refusal.{Refusal}
 use Rattle.pciv_format.proofs.PartsLaws.{eqb-not}
@@ -136,7 +137,7 @@ length-runCells b (e ∷ es) =
 module _ (b slots distances : List ℕ) where
   -- the run is refused: nothing changes
   module _ (r : Refusal) where
-    pub list-refused : checkBuffer 1 b ≡ refused r → (capacity : ℕ)
+    pub list-refused : countsBuffer 1 b ≡ refused r → (capacity : ℕ)
         → editListOutcome b slots distances capacity ≡ refused r
     unfolding editListOutcome
     list-refused is capacity = rw is
@@ -148,7 +149,7 @@ module _ (b slots distances : List ℕ) where
     unfolding editListBuffer editListAnswers
     refused-run out a answer is = (answer ∙ ap numberAnswer (sym is), (rw is, rw is))
 
-  module _ (s : Summary) (is : checkBuffer 1 b ≡ done s) (capacity : ℕ) where
+  module _ (s : Counts) (is : countsBuffer 1 b ≡ done s) (capacity : ℕ) where
     pub list-fewer-slots : length slots < length distances
         → editListOutcome b slots distances capacity ≡ refuse 9 0 (length slots)
     unfolding editListOutcome
@@ -177,7 +178,7 @@ module _ (b slots distances : List ℕ) where
           rw (is, eqb-not (length slots) (length distances) same, le-ltb capacity (answerLen * length slots) h)
 
   module _ (bytes : Bytes b) (small : (i : ℕ) → at distances i ≤ maxDistance)
-      (s : Summary) (is : checkBuffer 1 b ≡ done s)
+      (s : Counts) (is : countsBuffer 1 b ≡ done s)
       (same : length slots ≡ length distances) (out : List ℕ) (fits : answerLen * length slots ≤ length out) where
     -- the run is made: the editor's run is the plain editor's
     pub made-run : (b' out' : List ℕ) → b' ≡ editRun b (editsOf slots distances)

@@ -9,8 +9,9 @@ use pciv_format::EditAnswer;
 use pciv_format::FileAnswer;
 use pciv_slot::edit_checked;
 
-// Sets the slot to the distance, and answers the new file's summary and how many overflow entries of other slots have
-// another number now: 0 unless the slot moves into or out of overflow, else the old entries with a larger slot.
+// Sets the slot to the distance, and answers the new file's summary, its sum included, and how many overflow entries of
+// other slots have another number now: 0 unless the slot moves into or out of overflow, else the old entries with a larger
+// slot.
 // Refusals: 1 to 8, with map 1 and 5 only where the buffer is shorter than the file; then 9 and 12. Only the new file's
 // length is compared with the buffer. A refused call changes no byte and moves no entry.
 // Where the file gets shorter, what it leaves becomes 0; bytes past both files stay.
@@ -28,7 +29,8 @@ pub fn edit(buffer: &mut [u8], slot: usize, distance: u32) -> EditAnswer
         FileAnswer::Done(s) => {
             let n = s.n;
             let k = s.k;
-            edit_checked(buffer, n, k, slot, distance)
+            let sum = s.sum;
+            edit_checked(buffer, n, k, sum, slot, distance)
         }
     }
 }

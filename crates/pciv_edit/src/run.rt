@@ -5,10 +5,10 @@ ghost use Prim.Native.Nat.{_+_, _*_, _≤_};
 ghost use lib.ListN.{length};
 ghost use lib.Seq.{sets};
 ghost use Rattle.pciv_format.specs.Refusals.{numberAnswer};
-ghost use Rattle.pciv_format.specs.Check.{CheckedMap};
 ghost use Rattle.pciv_format.specs.Edit.{editOutcome, editMoved, editBuffer, editRun, editOutcomes, editMoves};
 ghost use Rattle.pciv_format.specs.Edit.{answerLen, cellsOf, answerCells, allCells, editsOf, editListOutcome};
 ghost use Rattle.pciv_format.specs.Edit.{editListBuffer, editListAnswers};
+ghost use Rattle.pciv_slot.specs.Change.{SummedMap};
 use pciv_check::check_buffer;
 use pciv_format::ANSWER_LEN;
 use pciv_format::BUFFER_TOO_SMALL;
@@ -19,6 +19,12 @@ use pciv_format::SLOT_OUT_OF_RANGE;
 use pciv_format::Summary;
 use pciv_layout::refusals::refuse_number;
 use pciv_slot::edit_checked;
+
+// What is known of the map between two edits: its overflow entries, and the sum of its distances.
+struct Carried {
+    k: usize,
+    sum: usize,
+}
 
 // Writes the numbers of one answer.
 fn put_cells(answers: &mut [usize], at: usize, r: Refusal, s: Summary, moved: usize)
@@ -34,6 +40,7 @@ fn put_cells(answers: &mut [usize], at: usize, r: Refusal, s: Summary, moved: us
         s.m,
         s.step,
         s.len,
+        s.sum,
         moved,
     ];
     let mut j = 0;
@@ -43,24 +50,25 @@ fn put_cells(answers: &mut [usize], at: usize, r: Refusal, s: Summary, moved: us
     }
 }
 
-// One edit of a checked map; its answer goes to the caller's list. Answers how many overflow entries there are now.
+// One edit of a checked map; its answer goes to the caller's list. Answers what the next edit has to know.
 fn edit_next(
     buffer: &mut [u8],
     answers: &mut [usize],
     at: usize,
     n: usize,
     k: usize,
+    sum: usize,
     slot: usize,
     distance: u32,
-) -> usize
-    requires { ⌜ CheckedMap (now buffer) n k ⌝ }
+) -> Carried
+    requires { ⌜ SummedMap (now buffer) n k sum ⌝ }
     requires { ⌜ at + answerLen ≤ length (now answers) ⌝ }
-    ensures map { λ r. ⌜ CheckedMap (now (buffer .exit)) n r ⌝ }
+    ensures map { λ r. ⌜ SummedMap (now (buffer .exit)) n (r .k) (r .sum) ⌝ }
     ensures buffer { λ _. ⌜ now (buffer .exit) ≡ editBuffer (now (buffer .entry)) (record { slot = slot; distance = distance }) ⌝ }
     ensures answers { λ _. ⌜ now (answers .exit) ≡ sets (now (answers .entry)) at (answerCells (editOutcome (now (buffer .entry)) (record { slot = slot; distance = distance }))
         (editMoved (now (buffer .entry)) (record { slot = slot; distance = distance }))) ⌝ }
 {
-    let edited = edit_checked(buffer, n, k, slot, distance);
+    let edited = edit_checked(buffer, n, k, sum, slot, distance);
     let moved = edited.moved;
     let told = edited.outcome;
     match told {
@@ -71,9 +79,10 @@ fn edit_next(
                 m: 0,
                 step: 0,
                 len: 0,
+                sum: 0,
             };
             put_cells(answers, at, r, no_summary, moved);
-            k
+            Carried { k, sum }
         }
         FileAnswer::Done(s) => {
             let no_refusal = Refusal {
@@ -82,7 +91,7 @@ fn edit_next(
                 place: 0,
             };
             put_cells(answers, at, no_refusal, s, moved);
-            s.k
+            Carried { k: s.k, sum: s.sum }
         }
     }
 }
@@ -93,10 +102,11 @@ fn edit_all(
     answers: &mut [usize],
     n: usize,
     k: usize,
+    sum: usize,
     slots: &[usize],
     distances: &[u32],
 )
-    requires { ⌜ CheckedMap (now buffer) n k ⌝ }
+    requires { ⌜ SummedMap (now buffer) n k sum ⌝ }
     requires { ⌜ length (now slots) ≡ length (now distances) ⌝ }
     requires { ⌜ answerLen * length (now slots) ≤ length (now answers) ⌝ }
     ensures buffer { λ _. ⌜ now (buffer .exit) ≡ editRun (now (buffer .entry)) (editsOf (now (slots .entry)) (now (distances .entry))) ⌝ }
@@ -104,14 +114,15 @@ fn edit_all(
         (editMoves (now (buffer .entry)) (editsOf (now (slots .entry)) (now (distances .entry))))) ⌝ }
 {
     let mut i = 0;
-    let mut count = k;
+    let mut held = Carried { k, sum };
     while i < slots.len() {
-        count = edit_next(
+        held = edit_next(
             buffer,
             answers,
             ANSWER_LEN * i,
             n,
-            count,
+            held.k,
+            held.sum,
             slots[i],
             distances[i],
         );
@@ -121,8 +132,8 @@ fn edit_all(
 
 // Makes a run of edits on the file at the front of the buffer: edit j sets slot `slots[j]` to `distances[j]`.
 // Its answer is ANSWER_LEN numbers from `answers[ANSWER_LEN * j]` on: refusal number, map and place, 0 where it is
-// made; then n, k, m, step and length of the new file, and how many overflow entries the edit moved, 0 where it is
-// refused. A refused edit changes no byte, and the run goes on. Answers how many edits.
+// made; then n, k, m, step, length and sum of the new file, and how many overflow entries the edit moved, all 0 where it
+// is refused. A refused edit changes no byte, and the run goes on. Answers how many edits.
 // Refusals of the run: 1 to 8, with map 1; then 9 where the lists differ in length, with the least position that has
 // no edit; then 12 where `answers` is too short. A refused run changes nothing. The 9 for lists of unequal length is
 // chosen here: the format's source has no such case.
@@ -142,6 +153,7 @@ pub fn edit_list(
         FileAnswer::Done(s) => {
             let n = s.n;
             let k = s.k;
+            let sum = s.sum;
             if slots.len() < distances.len() {
                 return refuse_number(SLOT_OUT_OF_RANGE, 0, slots.len());
             }
@@ -151,7 +163,7 @@ pub fn edit_list(
             if answers.len() / ANSWER_LEN < slots.len() {
                 return refuse_number(BUFFER_TOO_SMALL, 0, 0);
             }
-            edit_all(buffer, answers, n, k, slots, distances);
+            edit_all(buffer, answers, n, k, sum, slots, distances);
             NumberAnswer::Number(slots.len())
         }
     }

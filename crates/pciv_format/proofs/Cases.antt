@@ -1,11 +1,12 @@
 -- The worked examples of docs/FORMAT.md, proved for the definitions by computing them.
 --   A, B        the two maps of "Worked examples";  M  64 slots at 1 and one at 300;  ones  a word of set bits
 --   primaryOfA, lookedUp    the primary array of A; slots of A that are looked up
---   counts, found, setTo, Gives, LengthRow    short forms of what the statements repeat
+--   told, found, setTo, Gives, LengthRow    short forms of what the statements repeat
 --   cases       the cases that "Worked examples" marks as proved, under one statement: a component for each
 --   lengths     the table of "Derived counts"
 --   further     the near masks, shifts and lookups of "Worked examples", cases of the routines that these leave out, the
---               readings of a primary array, edits before other bytes, and masks of more than a word
+--               check of a buffer and without the sum, the readings of a primary array, edits before other bytes, and masks
+--               of more than a word
 --   examples    the other cases of "Worked examples", and texts of "The report program"
 -- A caller's buffer or list holds 7 in each place, so that what is left unchanged shows. Axioms: none.
 use mathlib.Core.Path.{_≡_, refl}
@@ -23,11 +24,11 @@ use Rattle.pciv_format.specs.Layout.{indexPart, header, file, countsOf, 
 use Rattle.pciv_format.specs.Layout.{summaryOf}
 use Rattle.pciv_format.specs.Refusals.{done, refuse}
 use Rattle.pciv_format.specs.Parts.{wrongEntry, badEntry, entryOf, badSlot, valueOf}
-use Rattle.pciv_format.specs.Check.{badIndexEntry, badCounts, checkParts, checkHeader, checkWith, checkFile}
+use Rattle.pciv_format.specs.Check.{badIndexEntry, badCounts, checkParts, checkHeader, checkWith, countsFile}
 use Rattle.pciv_format.specs.Read.{listOf, primaryPart, lookupOutcome, total, readings}
 use Rattle.pciv_format.specs.Read.{lookupListOutcome, lookupListBuffer, lookupListEntries}
-use Rattle.pciv_format.specs.Read.{scanOutcome, scanBuffer}
-use Rattle.pciv_format.specs.Write.{writeOutcome, writeBuffer, closeOutcome, closeBuffer}
+use Rattle.pciv_format.specs.Read.{checkFile, checkBuffer, scanOutcome, scanBuffer, sumOutcome}
+use Rattle.pciv_format.specs.Write.{fileInto, writeOutcome, writeBuffer, closeOutcome, closeBuffer}
 use Rattle.pciv_format.specs.Mask.{maskLen, bitAt, maskHas, word, maskOf, badMask, setBits}
 use Rattle.pciv_format.specs.Mask.{setBitsOutcome, combineOutcome, combineWords, complementOutcome}
 use Rattle.pciv_format.specs.Mask.{complementWords, mapOfMaskOutcome, mapOfMaskBuffer}
@@ -38,7 +39,7 @@ use Rattle.pciv_format.specs.Arith.{combineMapsOutcome, combineMapsBuffe
 use Rattle.pciv_format.specs.Arith.{shiftBuffer, signedDifferences, signedDifferenceOutcome}
 use Rattle.pciv_format.specs.Arith.{signedDifferenceList}
 use Rattle.pciv_format.specs.Figures.{quotient, distanceBetween, brayCurtisOutcome, countAt, jaccardOutcome}
-use Rattle.pciv_format.specs.Edit.{Edit, plainOutcome, editedFile, editOutcome, replaced, editBuffer}
+use Rattle.pciv_format.specs.Edit.{Edit, edited, plainOutcome, editedFile, editOutcome, replaced, editBuffer}
 use Rattle.pciv_format.specs.Edit.{entriesAbove, movedBy, plainMoved, editMoved, plainStart, plainStep}
 use Rattle.pciv_format.specs.Edit.{plainRun, plainOutcomes, plainMoves, bufferOf, answerCells, allCells}
 use Rattle.pciv_format.specs.Edit.{editsOf, editListOutcome, editListBuffer, editListAnswers}
@@ -59,8 +60,8 @@ A = 0 ∷ 254 ∷ 255 ∷ 300 ∷ []
 abbrev pub B : List ℕ
 B = 1 ∷ 1 ∷ 1 ∷ 4294967295 ∷ []
 
-abbrev pub counts : ℕ → ℕ → ℕ → ℕ → ℕ → Summary
-counts n k m step len = record { n = n; k = k; m = m; step = step; len = len }
+abbrev pub told : ℕ → ℕ → ℕ → ℕ → ℕ → ℕ → Summary
+told n k m step len sum = record { n = n; k = k; m = m; step = step; len = len; sum = sum }
 
 abbrev pub found : ℕ → Origin → Located
 found distance origin = record { distance = distance; origin = origin }
@@ -68,20 +69,20 @@ found distance origin = record { distance = distance; origin = origin }
 abbrev pub setTo : ℕ → ℕ → Edit
 setTo slot distance = record { slot = slot; distance = distance }
 
--- o on the maps of xs and ys is the map of zs: a file of len bytes with k overflow entries, read as zs
-abbrev pub Gives : SlotOp → List ℕ → List ℕ → List ℕ → ℕ → ℕ → Type 0
-Gives o xs ys zs k len =
-    (combineMapsOutcome o (fileOf xs) (fileOf ys) len ≡ done (counts 4 k 0 0 len))
+-- o on the maps of xs and ys is the map of zs: a file of len bytes with k overflow entries, read as zs, whose sum is told
+abbrev pub Gives : SlotOp → List ℕ → List ℕ → List ℕ → ℕ → ℕ → ℕ → Type 0
+Gives o xs ys zs k len sum =
+    (combineMapsOutcome o (fileOf xs) (fileOf ys) len ≡ done (told 4 k 0 0 len sum))
     × (combineMapsBuffer o (fileOf xs) (fileOf ys) (replicate (len + 3) 7) ≡ fileOf zs ++ (7 ∷ 7 ∷ 7 ∷ []))
     × (listOf (fileOf zs) ≡ zs)
 
 pub cases :
     -- empty map: L = 40, k = 0
-    ((length (fileOf []) ≡ 40) × (summaryOf [] .k ≡ 0) × (checkFile 1 (fileOf []) ≡ done (counts 0 0 0 0 40)))
+    ((length (fileOf []) ≡ 40) × (summaryOf [] .k ≡ 0) × (checkFile 1 (fileOf []) ≡ done (told 0 0 0 0 40 0)))
     -- primary of A: 00 FE FF FF, L = 68
     × ((primaryPart (fileOf A) ≡ 0x00 ∷ 0xFE ∷ 0xFF ∷ 0xFF ∷ [])
     × (length (fileOf A) ≡ 68)
-    × (checkFile 1 (fileOf A) ≡ done (counts 4 2 0 0 68)))
+    × (checkFile 1 (fileOf A) ≡ done (told 4 2 0 0 68 809)))
     -- overflow entries of A: slot 2 has 255, slot 3 has 300
     × ((overflowSlots 4 (at A) ≡ 2 ∷ 3 ∷ [])
     × (lookupOutcome (fileOf A) 2 ≡ done (found 255 (Overflow 0)))
@@ -90,18 +91,18 @@ pub cases :
     ≡ 2 ∷ 0 ∷ 0 ∷ 0 ∷ 0 ∷ 0 ∷ 0 ∷ 0 ∷ 0xFF ∷ 0x00 ∷ 0x00 ∷ 0x00
     ∷ 3 ∷ 0 ∷ 0 ∷ 0 ∷ 0 ∷ 0 ∷ 0 ∷ 0 ∷ 0x2C ∷ 0x01 ∷ 0x00 ∷ 0x00 ∷ []))
     -- minimum of A and B
-    × Gives Minimum A B (0 ∷ 1 ∷ 1 ∷ 300 ∷ []) 1 56
+    × Gives Minimum A B (0 ∷ 1 ∷ 1 ∷ 300 ∷ []) 1 56 302
     -- maximum of A and B
-    × Gives Maximum A B (1 ∷ 254 ∷ 255 ∷ 4294967295 ∷ []) 2 68
+    × Gives Maximum A B (1 ∷ 254 ∷ 255 ∷ 4294967295 ∷ []) 2 68 4294967805
     -- sum of A and B: refusal 11 at place 3, and the buffer is unchanged
     × ((combineMapsOutcome Sum (fileOf A) (fileOf B) 99 ≡ refuse 11 0 3)
     × (combineMapsBuffer Sum (fileOf A) (fileOf B) (replicate 99 7) ≡ replicate 99 7))
     -- A + (1, 1, 1, 1), L = 80
-    × Gives Sum A (1 ∷ 1 ∷ 1 ∷ 1 ∷ []) (1 ∷ 255 ∷ 256 ∷ 301 ∷ []) 3 80
+    × Gives Sum A (1 ∷ 1 ∷ 1 ∷ 1 ∷ []) (1 ∷ 255 ∷ 256 ∷ 301 ∷ []) 3 80 813
     -- difference A - B, L = 44
-    × Gives Difference A B (0 ∷ 253 ∷ 254 ∷ 0 ∷ []) 0 44
+    × Gives Difference A B (0 ∷ 253 ∷ 254 ∷ 0 ∷ []) 0 44 507
     -- difference B - A
-    × Gives Difference B A (1 ∷ 0 ∷ 0 ∷ 4294966995 ∷ []) 1 56
+    × Gives Difference B A (1 ∷ 0 ∷ 0 ∷ 4294966995 ∷ []) 1 56 4294966996
     -- mask of A, at most 254: one word, 3
     × ((thresholdOutcome AtMost (fileOf A) 254 1 ≡ done 1)
     × (thresholdWords AtMost (fileOf A) 254 (7 ∷ 7 ∷ []) ≡ 3 ∷ 7 ∷ []))
@@ -111,14 +112,14 @@ pub cases :
     × (setBits 4 (12 ∷ []) ≡ 2)
     × (setBitsOutcome 4 (12 ∷ []) ≡ done 2))
     -- edit of A, slot 2 to 254: L = 56, and bytes 56 to 67 become 0
-    × ((editOutcome (fileOf A) (setTo 2 254) ≡ done (counts 4 1 0 0 56))
+    × ((editOutcome (fileOf A) (setTo 2 254) ≡ done (told 4 1 0 0 56 808))
     × (editBuffer (fileOf A) (setTo 2 254) ≡ fileOf (0 ∷ 254 ∷ 254 ∷ 300 ∷ []) ++ replicate 12 0)
     × (drop 56 (editBuffer (fileOf A) (setTo 2 254)) ≡ replicate 12 0))
 unfolding
     firstFrom firstBelow table positions joined sumFrom le number get indexStep indexLen fileLen primary
     overflowSlots overflowCount overflowEntry overflowPart indexEntry indexPart header file countsOf summary
     wrongEntry badEntry entryOf badSlot valueOf badIndexEntry badCounts checkParts checkHeader checkWith
-    listOf primaryPart lookupOutcome bitAt maskHas word maskOf badMask setBits setBitsOutcome
+    listOf total primaryPart lookupOutcome bitAt maskHas word maskOf badMask setBits setBitsOutcome
     thresholdOutcome thresholdWords combineMapsOutcome combineMapsBuffer
     plainOutcome editedFile editOutcome replaced editBuffer
 cases = (
@@ -156,7 +157,7 @@ pub examples :
     -- edit of A, slot 1 to 255, in a buffer of 79 bytes and in one of 80
     (editOutcome (fileOf A ++ replicate 11 7) (setTo 1 255) ≡ refuse 12 0 0)
     × (editBuffer (fileOf A ++ replicate 11 7) (setTo 1 255) ≡ fileOf A ++ replicate 11 7)
-    × (editOutcome (fileOf A ++ replicate 12 7) (setTo 1 255) ≡ done (counts 4 3 0 0 80))
+    × (editOutcome (fileOf A ++ replicate 12 7) (setTo 1 255) ≡ done (told 4 3 0 0 80 810))
     × (editBuffer (fileOf A ++ replicate 12 7) (setTo 1 255) ≡ fileOf (0 ∷ 255 ∷ 255 ∷ 300 ∷ []))
     -- Bray-Curtis of (3) and (1): 0.5
     × (brayCurtisOutcome (fileOf (3 ∷ [])) (fileOf (1 ∷ [])) ≡ done (ofBits binary64 0x3FE0000000000000))
@@ -216,6 +217,14 @@ pub further :
     × (writeBuffer A (replicate 69 7) ≡ fileOf A ++ (7 ∷ []))
     × (closeBuffer (0 ∷ 254 ∷ 255 ∷ 255 ∷ []) (2 ∷ 3 ∷ []) (255 ∷ 300 ∷ []) (replicate 69 7) ≡ fileOf A ++ (7 ∷ []))
     × (closeOutcome (0 ∷ 254 ∷ 255 ∷ 255 ∷ []) (2 ∷ 3 ∷ []) (255 ∷ []) 99 ≡ refuse 6 1 1)
+    -- the check of A in 71 bytes; of a distance of 2 ^ 32 - 1 beside three of 1; without the sum
+    × (checkBuffer 1 (fileOf A ++ replicate 3 7) ≡ done (told 4 2 0 0 68 809))
+    × (checkFile 1 (fileOf B) ≡ done (told 4 1 0 0 56 4294967298))
+    × (countsFile 2 (fileOf A) ≡ done (record { n = 4; k = 2; m = 0; step = 0; len = 68 }))
+    -- the sum of A, and where A is written; after slot 2 to 254, in the list and as the check of the buffer answers it
+    × ((sumOutcome (fileOf A) ≡ done 809) × (fileInto 4 (at A) 68 ≡ done (told 4 2 0 0 68 809)))
+    × ((total (edited A (setTo 2 254)) + 255 ≡ total A + 254)
+    × (checkBuffer 1 (editBuffer (fileOf A) (setTo 2 254)) ≡ done (told 4 1 0 0 56 808)))
     -- the primary bytes of A have 3 readings, as have maps with that primary array; the empty array has none
     × (readings primaryOfA ≡ 3)
     × ((primaryPart (fileOf A) ≡ primaryOfA) × (readings A ≡ 3))
@@ -224,19 +233,19 @@ pub further :
     × (primaryPart (fileOf primaryOfA) ≡ primaryOfA)
     × ((primaryPart (fileOf []) ≡ []) × (readings [] ≡ 0))
     -- an edit of A in 71 bytes to the same distance; slot 2 to 254: 12 bytes freed, and those behind the file stay
-    × (editOutcome (fileOf A ++ replicate 3 7) (setTo 3 300) ≡ done (counts 4 2 0 0 68))
+    × (editOutcome (fileOf A ++ replicate 3 7) (setTo 3 300) ≡ done (told 4 2 0 0 68 809))
     × (editBuffer (fileOf A ++ replicate 3 7) (setTo 3 300) ≡ fileOf A ++ replicate 3 7)
     × (editBuffer (fileOf A ++ replicate 3 7) (setTo 2 254)
     ≡ fileOf (0 ∷ 254 ∷ 254 ∷ 300 ∷ []) ++ (replicate 12 0 ++ replicate 3 7))
     -- edits of A in 69 bytes: slot 2 to 254, slot 4, slot 0 to 7
-    × (editListOutcome (fileOf A ++ (7 ∷ [])) (2 ∷ 4 ∷ 0 ∷ []) (254 ∷ 1 ∷ 7 ∷ []) 28 ≡ done 3)
-    × (editListBuffer (fileOf A ++ (7 ∷ [])) (2 ∷ 4 ∷ 0 ∷ []) (254 ∷ 1 ∷ 7 ∷ []) 28
+    × (editListOutcome (fileOf A ++ (7 ∷ [])) (2 ∷ 4 ∷ 0 ∷ []) (254 ∷ 1 ∷ 7 ∷ []) 31 ≡ done 3)
+    × (editListBuffer (fileOf A ++ (7 ∷ [])) (2 ∷ 4 ∷ 0 ∷ []) (254 ∷ 1 ∷ 7 ∷ []) 31
     ≡ fileOf (7 ∷ 254 ∷ 254 ∷ 300 ∷ []) ++ (replicate 12 0 ++ (7 ∷ [])))
-    × (editListAnswers (fileOf A ++ (7 ∷ [])) (2 ∷ 4 ∷ 0 ∷ []) (254 ∷ 1 ∷ 7 ∷ []) (replicate 28 7)
-    ≡ 0 ∷ 0 ∷ 0 ∷ 4 ∷ 1 ∷ 0 ∷ 0 ∷ 56 ∷ 1
-    ∷ 9 ∷ 0 ∷ 0 ∷ 0 ∷ 0 ∷ 0 ∷ 0 ∷ 0 ∷ 0
-    ∷ 0 ∷ 0 ∷ 0 ∷ 4 ∷ 1 ∷ 0 ∷ 0 ∷ 56 ∷ 0 ∷ 7 ∷ [])
-    × (editListOutcome (fileOf A) (2 ∷ 4 ∷ []) (254 ∷ []) 28 ≡ refuse 9 0 1)
+    × (editListAnswers (fileOf A ++ (7 ∷ [])) (2 ∷ 4 ∷ 0 ∷ []) (254 ∷ 1 ∷ 7 ∷ []) (replicate 31 7)
+    ≡ 0 ∷ 0 ∷ 0 ∷ 4 ∷ 1 ∷ 0 ∷ 0 ∷ 56 ∷ 808 ∷ 1
+    ∷ 9 ∷ 0 ∷ 0 ∷ 0 ∷ 0 ∷ 0 ∷ 0 ∷ 0 ∷ 0 ∷ 0
+    ∷ 0 ∷ 0 ∷ 0 ∷ 4 ∷ 1 ∷ 0 ∷ 0 ∷ 56 ∷ 815 ∷ 0 ∷ 7 ∷ [])
+    × (editListOutcome (fileOf A) (2 ∷ 4 ∷ []) (254 ∷ []) 31 ≡ refuse 9 0 1)
     -- entries moved in A: slot 2 to 254; slot 1 to 255 in 80 bytes and, refused, in 79; slot 3 to 7; slot 3 to 400; slot 4.
     -- In 300, 0, 300 slot 1 to 255. The two entries, in the files of A and of A with slot 1 at 255
     × ((editMoved (fileOf A) (setTo 2 254) ≡ 1)
@@ -279,25 +288,25 @@ pub further :
     × (shiftBuffer (fileOf A) (negsuc 254) (replicate 45 7) ≡ fileOf (0 ∷ 1 ∷ 1 ∷ 45 ∷ []) ++ (7 ∷ []))
     × (shiftBuffer (fileOf A) (pos 0) (replicate 69 7) ≡ fileOf A ++ (7 ∷ []))
     × (shiftBuffer (fileOf A) (pos 1) (replicate 81 7) ≡ fileOf (0 ∷ 255 ∷ 256 ∷ 301 ∷ []) ++ (7 ∷ []))
-    × ((shiftOutcome (fileOf A) (pos 300) 80 ≡ done (counts 4 3 0 0 80))
+    × ((shiftOutcome (fileOf A) (pos 300) 80 ≡ done (told 4 3 0 0 80 1709))
     × (shiftBuffer (fileOf A) (pos 300) (replicate 81 7) ≡ fileOf (0 ∷ 554 ∷ 555 ∷ 600 ∷ []) ++ (7 ∷ [])))
     × ((shiftedBy (negsuc 0) 1 ≡ 1) × (shiftedBy (negsuc 4) 5 ≡ 1) × (shiftedBy (negsuc 2147483647) 5 ≡ 1))
     × ((shiftedBy (pos 2147483647) 0 ≡ 0) × (shiftedBy (negsuc 2147483647) 0 ≡ 0))
     × (shiftOutcome (fileOf B) (pos 1) 99 ≡ refuse 11 0 3)
-    × (shiftOutcome (fileOf []) (pos 300) 40 ≡ done (counts 0 0 0 0 40))
+    × (shiftOutcome (fileOf []) (pos 300) 40 ≡ done (told 0 0 0 0 40 0))
     × (signedDifferenceList (fileOf A) (fileOf B) (pos 7 ∷ pos 7 ∷ pos 7 ∷ pos 7 ∷ pos 7 ∷ [])
     ≡ pos 1 ∷ negsuc 252 ∷ negsuc 253 ∷ pos 4294966995 ∷ pos 7 ∷ [])
 unfolding
     firstFrom firstBelow table positions joined sumFrom le number get indexStep indexLen fileLen primary
     overflowSlots overflowCount overflowEntry overflowPart indexEntry indexPart header file countsOf summary
     wrongEntry badEntry entryOf badSlot valueOf badIndexEntry badCounts checkParts checkHeader checkWith
-    listOf primaryPart readings bitAt maskHas word maskOf badMask thresholdOutcome thresholdWords
+    listOf total primaryPart readings bitAt maskHas word maskOf badMask thresholdOutcome thresholdWords
     nearMaskOutcome nearMaskWords combineOutcome combineWords
     complementOutcome complementWords setBits setBitsOutcome mapOfMaskOutcome mapOfMaskBuffer
     keepMaskedOutcome keepMaskedBuffer incrementMaskedOutcome incrementMaskedBuffer
     quotient countAt jaccardOutcome ofBits ofInt div shiftedBy shiftOutcome shiftBuffer
     signedDifferences signedDifferenceOutcome signedDifferenceList xor
-    lookupOutcome lookupListOutcome lookupListBuffer lookupListEntries scanOutcome scanBuffer
+    lookupOutcome lookupListOutcome lookupListBuffer lookupListEntries scanOutcome scanBuffer sumOutcome
     writeOutcome writeBuffer closeOutcome closeBuffer
     plainOutcome editedFile editOutcome replaced editBuffer entriesAbove movedBy plainMoved editMoved
     plainStart plainStep plainRun plainOutcomes plainMoves bufferOf answerCells allCells editsOf
@@ -313,6 +322,11 @@ further = (
   refl,
   refl,
   refl,
+  refl,
+  refl,
+  refl,
+  (refl, refl),
+  (refl, refl),
   refl,
   (refl, refl),
   (refl, refl),

@@ -1,9 +1,9 @@
 -- Laws of the check: it is done exactly for what `CheckedMap` describes, and then answers the file's counts.
 --   checked-length                      a checked map's parts are inside of its bytes
---   checkHeader-done, checkWith-done, checkFile-done    done, from what is checked
---   Accepted wrong b n k s              what a done check says: the map, the right length, and the summary
---   done-checkHeader, done-checkFile    what is checked, from done
---   done-counts, done-buffer            the same at the counts of the summary, of a file and of a buffer
+--   checkHeader-done, checkWith-done, countsFile-done    done, from what is checked
+--   Accepted wrong b n k s              what a done check says: the map, the right length, and the counts
+--   done-checkHeader, done-countsFile    what is checked, from done
+--   done-counts, done-buffer            the same at those counts, of a file and of a buffer
 --   accepted-length                     a whole file has exactly its length
 -- Axioms: none.
 use mathlib.Core.Path.{_≡_, refl, sym, ap, ap₂, _∙_}
@@ -20,8 +20,8 @@ use Rattle.pciv_format.specs.Refusals.{done}
 use Rattle.pciv_format.specs.Parts.{badEntry, badSlot}
 use Rattle.pciv_format.specs.Check.{nField, kField, mField, stepField, fileParts, badIndexEntry}
 use Rattle.pciv_format.specs.Check.{badCounts, checkParts, checkHeader, checkWith, otherLength}
-use Rattle.pciv_format.specs.Check.{checkFile, checkBuffer, CheckedHeader, CheckedMap}
-use Rattle.pciv_format.specs.declared.Summary.{Summary}
+use Rattle.pciv_format.specs.Check.{countsFile, countsBuffer, CheckedHeader, CheckedMap}
+use Rattle.pciv_format.specs.declared.Counts.{Counts}
 use Rattle.pciv_format.proofs.PartsLaws.{or-false, not-eqb, eqb-not}
 use Rattle.pciv_format.proofs.RefusalsLaws.{refuseIf-done, refuseFirst-done, refuseFirst-none, andThen-done}
 use Rattle.pciv_format.proofs.LayoutLaws.{fileLen-is}
@@ -69,7 +69,7 @@ checkWith-done wrong mp b n k c right =
 
 -- ---- what is checked, from done
 
-pub done-checkHeader : (mp : ℕ) (b : List ℕ) (s : Summary) → checkHeader mp b ≡ done s
+pub done-checkHeader : (mp : ℕ) (b : List ℕ) (s : Counts) → checkHeader mp b ≡ done s
     → CheckedHeader b (nField b) (kField b) × (s ≡ countsOf (nField b) (kField b))
 unfolding checkHeader badCounts
 done-checkHeader mp b s e =
@@ -93,14 +93,14 @@ done-checkHeader mp b s e =
       cc,
     )
 
--- what a done check says: the map, the right length, and the summary
-pub record Accepted (wrong : ℕ → ℕ → Bool) (b : List ℕ) (n k : ℕ) (s : Summary) : Type 0 where
+-- what a done check says: the map, the right length, and the counts
+pub record Accepted (wrong : ℕ → ℕ → Bool) (b : List ℕ) (n k : ℕ) (s : Counts) : Type 0 where
   pub checked : CheckedMap b n k
   pub right : wrong (length b) (fileLen n k) ≡ false
   pub counts : s ≡ countsOf n k
 
 module _ (wrong : ℕ → ℕ → Bool) (fits : (len l : ℕ) → wrong len l ≡ false → l ≤ len)
-    (mp : ℕ) (b : List ℕ) (s : Summary) where
+    (mp : ℕ) (b : List ℕ) (s : Counts) where
   done-checkWith : checkWith wrong mp b ≡ done s → Accepted wrong b (nField b) (kField b) s
   unfolding checkWith checkParts countsOf
   done-checkWith e =
@@ -128,37 +128,37 @@ module _ (wrong : ℕ → ℕ → Bool) (fits : (len l : ℕ) → wrong len l �
 
 -- ---- of a whole file, and of a buffer to be edited
 
-pub checkFile-done : (mp : ℕ) (b : List ℕ) (n k : ℕ) → CheckedMap b n k → length b ≡ fileLen n k
-    → checkFile mp b ≡ done (countsOf n k)
-checkFile-done mp b n k c long = checkWith-done otherLength mp b n k c (eqb-not (length b) (fileLen n k) long)
+pub countsFile-done : (mp : ℕ) (b : List ℕ) (n k : ℕ) → CheckedMap b n k → length b ≡ fileLen n k
+    → countsFile mp b ≡ done (countsOf n k)
+countsFile-done mp b n k c long = checkWith-done otherLength mp b n k c (eqb-not (length b) (fileLen n k) long)
 
-pub done-checkFile : (mp : ℕ) (b : List ℕ) (s : Summary) → checkFile mp b ≡ done s
+pub done-countsFile : (mp : ℕ) (b : List ℕ) (s : Counts) → countsFile mp b ≡ done s
     → Accepted otherLength b (nField b) (kField b) s
-done-checkFile mp b s e =
+done-countsFile mp b s e =
     done-checkWith otherLength (λ len l q. (let z : len ≡ l = not-eqb len l q in omega arith)) mp b s e
 
-pub accepted-length : (b : List ℕ) (n k : ℕ) (s : Summary) → Accepted otherLength b n k s → length b ≡ fileLen n k
+pub accepted-length : (b : List ℕ) (n k : ℕ) (s : Counts) → Accepted otherLength b n k s → length b ≡ fileLen n k
 accepted-length b n k s a = not-eqb (length b) (fileLen n k) (a .right)
 
--- the same facts at the counts of a summary
-accepted-counts : (wrong : ℕ → ℕ → Bool) (b : List ℕ) (s : Summary) → Accepted wrong b (nField b) (kField b) s
+-- the same facts at the counts that it answers
+accepted-counts : (wrong : ℕ → ℕ → Bool) (b : List ℕ) (s : Counts) → Accepted wrong b (nField b) (kField b) s
     → Accepted wrong b (s .n) (s .k) s
 unfolding countsOf
 accepted-counts wrong b s a =
     let q = a .counts in
-    let n : s .n ≡ nField b = ap (λ (z : Summary). z .n) q in
-    let k : s .k ≡ kField b = ap (λ (z : Summary). z .k) q in
+    let n : s .n ≡ nField b = ap (λ (z : Counts). z .n) q in
+    let k : s .k ≡ kField b = ap (λ (z : Counts). z .k) q in
     record {
       checked = rw (n, k) (a .checked);
       right = rw (n, k) (a .right);
       counts = q ∙ ap₂ countsOf (sym n) (sym k);
     }
 
-pub done-counts : (mp : ℕ) (b : List ℕ) (s : Summary) → checkFile mp b ≡ done s
+pub done-counts : (mp : ℕ) (b : List ℕ) (s : Counts) → countsFile mp b ≡ done s
     → CheckedMap b (s .n) (s .k) × (length b ≡ fileLen (s .n) (s .k)) × (s ≡ countsOf (s .n) (s .k))
 done-counts mp b s e =
-    let a = accepted-counts otherLength b s (done-checkFile mp b s e) in
+    let a = accepted-counts otherLength b s (done-countsFile mp b s e) in
     (a .checked, accepted-length b (s .n) (s .k) s a, a .counts)
 
-pub done-buffer : (mp : ℕ) (b : List ℕ) (s : Summary) → checkBuffer mp b ≡ done s → CheckedMap b (s .n) (s .k)
+pub done-buffer : (mp : ℕ) (b : List ℕ) (s : Counts) → countsBuffer mp b ≡ done s → CheckedMap b (s .n) (s .k)
 done-buffer mp b s e = accepted-counts ltb b s (done-checkWith ltb (λ len l q. ltb-false len l q) mp b s e) .checked

@@ -4,25 +4,26 @@
 --   edit-checked        a checked map: the plain editor's answer
 --   edit-outside        the slot is none of the map's
 --   buffer-done         what an accepted edit leaves;  replaced-sets  the same, as writes
---   accepted-checked    it leaves a checked map, with the counts of its answer
+--   edit-adjusts        its sum is that of the check before, adjusted;  edit-check  the check afterwards answers the same
+--   accepted-checked, accepted-sum    it leaves a checked map, with the counts and the sum of its answer
 --   checked-run, checked-moves    the theorems on runs (RunLaws.antt), of the file at the front of a checked map
 -- Axioms: none.
 use mathlib.Core.Path.{_≡_, sym, ap, _∙_}
-use Prim.Native.Nat.{ℕ, _+_, _-_, _≤_, max}
+use Prim.Native.Nat.{ℕ, _+_, _-_, _≤_, _<_, max}
 use native.Mathlib.Nat.{add-zero}
 use native.Mathlib.Omega.{arith}
 use mathlib.Core.List.{List, _++_}
 use lib.ListN.{length, drop, replicate, length-drop, length-replicate}
 use lib.Seq.{sets, drop-drop}
 use lib.Dec.{ltb, leb}
-use borrow.Author.Tests.{le-ltb, le-leb}
+use borrow.Author.Tests.{le-ltb, le-leb, leb-false}
 use Rattle.pciv_bytes.specs.LittleEndian.{Bytes}
 use Rattle.pciv_bytes.proofs.WriteLaws.{sets-front, sets-behind}
 use Rattle.pciv_format.specs.Layout.{maxDistance, fileLen, overflowCount, countsOf, summary, at}
 use Rattle.pciv_format.specs.Layout.{fileOf, summaryOf, Limits}
 use Rattle.pciv_format.specs.Refusals.{done, refused, refuse}
-use Rattle.pciv_format.specs.Check.{checkBuffer, CheckedMap}
-use Rattle.pciv_format.specs.Read.{listOf}
+use Rattle.pciv_format.specs.Check.{countsBuffer, CheckedMap}
+use Rattle.pciv_format.specs.Read.{listOf, total, checkBuffer}
 use Rattle.pciv_format.specs.Edit.{Edit, edited, plainOutcome, editedFile, editOutcome, replaced}
 use Rattle.pciv_format.specs.Edit.{editBuffer, plainRun, plainOutcomes, plainMoves, bufferOf, editRun}
 use Rattle.pciv_format.specs.Edit.{editOutcomes, editMoves, RunLimits, startOf}
@@ -30,9 +31,9 @@ use Rattle.pciv_format.specs.declared.Summary.{Summary}
 use Rattle.pciv_format.specs.declared.Refusal.{Refusal}
 use Rattle.pciv_format.proofs.RefusalsLaws.{refuseIf-done}
 use Rattle.pciv_format.proofs.CheckLaws.{checkWith-done}
-use Rattle.pciv_format.proofs.FileLaws.{file-checked}
-use Rattle.pciv_format.proofs.FrontLaws.{Holds, checked-front, front-checked}
+use Rattle.pciv_format.proofs.FrontLaws.{Holds, checked-front, front-map, front-list}
 use Rattle.pciv_format.proofs.EditLaws.{length-edited, edited-limits}
+use Rattle.pciv_format.proofs.SummaryLaws.{summary-sum, sum-edited, front-check, buffer-held}
 use Rattle.pciv_format.proofs.RunLaws.{Distances, edit-run, moved-run}
 
 abbrev pub held : List ℕ → List ℕ
@@ -41,7 +42,7 @@ held b = listOf (editedFile b)
 -- ---- any buffer
 
 module _ (b : List ℕ) (e : Edit) where
-  pub edit-refused : (r : Refusal) → checkBuffer 1 b ≡ refused r → editOutcome b e ≡ refused r
+  pub edit-refused : (r : Refusal) → countsBuffer 1 b ≡ refused r → editOutcome b e ≡ refused r
   unfolding editOutcome
   edit-refused r is = rw is
 
@@ -85,9 +86,9 @@ module _ (b : List ℕ) (n k : ℕ) (bytes : Bytes b) (c : CheckedMap b n k) whe
   -- ---- an accepted edit
 
   module _ (e : Edit) (small : e .distance ≤ maxDistance) (s : Summary) (is : editOutcome b e ≡ done s) where
-    new-counts : s ≡ summaryOf (edited (held b) e)
+    new-summary : s ≡ summaryOf (edited (held b) e)
     unfolding plainOutcome
-    new-counts =
+    new-summary =
         let y : List ℕ = edited (held b) e in
         let g₁ = refuseIf-done (leb (length (held b)) (e .slot)) _ _ s (sym (edit-checked e) ∙ is) in
         let g₂ = refuseIf-done (ltb (length b) (length (fileOf y))) _ _ s (g₁ .1) in
@@ -101,9 +102,35 @@ module _ (b : List ℕ) (n k : ℕ) (bytes : Bytes b) (c : CheckedMap b n k) whe
         let l : Limits y = edited-limits (held b) e (there .limits) small in
         let slots : length y ≡ n = length-edited (held b) e ∙ there .slots in
         let k' : ℕ = overflowCount (length y) (at y) in
-        let count : s .k ≡ k' = ap (λ (z : Summary). z .k) new-counts in
-        let map = file-checked (length y) (at y) (l .count) (l .each) in
-        rw (is, count, ← slots) (front-checked (fileOf y) _ (length y) k' (map .fits) map)
+        let count : s .k ≡ k' = ap (λ (z : Summary). z .k) new-summary in
+        rw (is, count, ← slots) (front-map (length y) (at y) (l .count) (l .each) _)
+
+    slot-inside : e .slot < length (held b)
+    unfolding plainOutcome
+    slot-inside =
+        leb-false _ _ (refuseIf-done (leb (length (held b)) (e .slot)) _ _ s (sym (edit-checked e) ∙ is) .0)
+
+    -- the sum is adjusted: that of the check of the buffer, less the old distance, plus the new one
+    pub edit-adjusts : (mp : ℕ) (t : Summary) → checkBuffer mp b ≡ done t
+        → s .sum + at (held b) (e .slot) ≡ t .sum + e .distance
+    edit-adjusts mp t checked =
+        let old = buffer-held mp b t bytes checked .1 in
+        let new = ap (λ (z : Summary). z .sum) new-summary ∙ summary-sum (edited (held b) e) in
+        omega (arith, sum-edited (held b) e slot-inside)
+
+    -- the check of the buffer afterwards answers what the edit did
+    pub edit-check : (mp : ℕ) → checkBuffer mp (editBuffer b e) ≡ done s
+    unfolding editBuffer replaced
+    edit-check mp =
+        let y : List ℕ = edited (held b) e in
+        rw is (front-check y _ (edited-limits (held b) e (there .limits) small) mp ∙ ap done (sym new-summary))
+
+    pub accepted-sum : s .sum ≡ total (held (editBuffer b e))
+    unfolding editBuffer replaced
+    accepted-sum =
+        let y : List ℕ = edited (held b) e in
+        let l : Limits y = edited-limits (held b) e (there .limits) small in
+        rw (is, front-list y _ l) (ap (λ (z : Summary). z .sum) new-summary ∙ summary-sum y)
 
   -- ---- a run of edits
 

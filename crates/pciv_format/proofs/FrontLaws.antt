@@ -1,6 +1,9 @@
 -- A file at the front of a longer buffer is checked and read as it is by itself.
 --   front-checked              a file that is a checked map by itself is one in the buffer
---   front-check, front-file, front-list
+--   front-map, front-value, front-sum
+--                              the file of n slots with distances v is a checked map in the buffer too, is read as these
+--                              distances, and has their sum
+--   front-counts, front-file, front-list
 --                              a buffer with the file of a list at its front is accepted, and edited as that file and list
 --   Holds b n k x              b holds the file of the list x at its front
 --   checked-front              a checked buffer holds the list that it is read as
@@ -13,22 +16,25 @@ use lib.ListN.{length, take, drop, length-append, take-append-drop, List·getD-a
 use lib.Seq.{take-at, length-take-le}
 use lib.Dec.{ltb, lit≤}
 use borrow.Author.Tests.{le-ltb}
+use Rattle.pciv_bytes.specs.Ranges.{sumFrom}
 use Rattle.pciv_bytes.specs.LittleEndian.{get, Bytes}
+use Rattle.pciv_bytes.proofs.SumLaws.{sumFrom-cong}
 use Rattle.pciv_bytes.proofs.LittleEndianLaws.{bytes-take, get-in}
-use Rattle.pciv_format.specs.Layout.{indexStep, indexLen, fileLen, overflowCount, summary, countsOf}
-use Rattle.pciv_format.specs.Layout.{at, fileOf, summaryOf, Limits}
+use Rattle.pciv_format.specs.Layout.{maxSlots, maxDistance, indexStep, indexLen, fileLen, overflowCount}
+use Rattle.pciv_format.specs.Layout.{file, countsOf, at, fileOf, listCounts, Limits}
 use Rattle.pciv_format.specs.Refusals.{done}
 use Rattle.pciv_format.specs.Parts.{Parts, valueOf}
-use Rattle.pciv_format.specs.Check.{fileParts, badIndexEntry, checkBuffer, CheckedMap}
+use Rattle.pciv_format.specs.Check.{fileParts, badIndexEntry, countsBuffer, CheckedMap}
 use Rattle.pciv_format.specs.Read.{listOf}
 use Rattle.pciv_format.specs.Edit.{editedFile}
+use Rattle.pciv_format.proofs.PartsLaws.{primaryByte-min}
 use Rattle.pciv_format.proofs.SamePartsLaws.{SameParts, sound-same, same-back, valueOf-same}
 use Rattle.pciv_format.proofs.LayoutLaws.{index-inside, fileLen-is, length-file, overflowCount-cong}
-use Rattle.pciv_format.proofs.CheckLaws.{checkWith-done, checkFile-done}
-use Rattle.pciv_format.proofs.FileLaws.{file-checked}
+use Rattle.pciv_format.proofs.CheckLaws.{checkWith-done, countsFile-done}
+use Rattle.pciv_format.proofs.FileLaws.{file-byte, file-checked, file-value}
 use Rattle.pciv_format.proofs.CheckedFileLaws.{checked-count}
 use Rattle.pciv_format.proofs.ReadLaws.{length-listOf, at-list}
-use Rattle.pciv_format.proofs.Acceptance.{file-read, accepted-is-file}
+use Rattle.pciv_format.proofs.Acceptance.{file-read, counted-is-file}
 
 -- ---- a file f at the front
 
@@ -100,25 +106,41 @@ module _ (f t : List ℕ) (n k : ℕ) (fits : fileLen n k ≤ length f) where
         index = λ i hi. sym (index-same i hi) ∙ c .index i hi;
       }
 
+-- ---- the file of a map at the front
+
+module _ (n : ℕ) (v : ℕ → ℕ) (few : n ≤ maxSlots) (each : (i : ℕ) → i < n → v i ≤ maxDistance) (t : List ℕ) where
+  pub front-map : CheckedMap (file n v ++ t) n (overflowCount n v)
+  front-map =
+      let c = file-checked n v few each in
+      front-checked (file n v) t n (overflowCount n v) (c .fits) c
+
+  pub front-value : (i : ℕ) → i < n → valueOf (fileParts (file n v ++ t) n (overflowCount n v)) i ≡ v i
+  front-value i h =
+      let c = file-checked n v few each in
+      valueOf-same _ _ (front-parts (file n v) t n (overflowCount n v) (c .fits)) (c .parts) i h
+      (omega (arith, file-byte n v few each i h, primaryByte-min (v i)))
+      ∙ file-value n v few each i h
+
+  pub front-sum : sumFrom (valueOf (fileParts (file n v ++ t) n (overflowCount n v))) 0 n ≡ sumFrom v 0 n
+  front-sum = sumFrom-cong _ v 0 n (λ i h₁ h₂. front-value i (omega arith))
+
 -- ---- the file of a list at the front
 
 module _ (xs t : List ℕ) (l : Limits xs) where
-  counted : CheckedMap (fileOf xs) (length xs) (overflowCount (length xs) (at xs))
-  counted = file-checked (length xs) (at xs) (l .count) (l .each)
+  there : CheckedMap (fileOf xs ++ t) (length xs) (overflowCount (length xs) (at xs))
+  there = front-map (length xs) (at xs) (l .count) (l .each) t
 
-  pub front-check : (mp : ℕ) → checkBuffer mp (fileOf xs ++ t) ≡ done (summaryOf xs)
-  unfolding summary
-  front-check mp =
+  pub front-counts : (mp : ℕ) → countsBuffer mp (fileOf xs ++ t) ≡ done (listCounts xs)
+  front-counts mp =
       let k : ℕ = overflowCount (length xs) (at xs) in
       let b : List ℕ = fileOf xs ++ t in
-      let c : CheckedMap b (length xs) k = front-checked (fileOf xs) t (length xs) k (counted .fits) counted in
-      checkWith-done ltb mp b (length xs) k c (le-ltb (length b) (fileLen (length xs) k) (c .fits))
+      checkWith-done ltb mp b (length xs) k there (le-ltb (length b) (fileLen (length xs) k) (there .fits))
 
   pub front-file : editedFile (fileOf xs ++ t) ≡ fileOf xs
   unfolding editedFile
   front-file =
       let k : ℕ = overflowCount (length xs) (at xs) in
-      let h = front-checked (fileOf xs) t (length xs) k (counted .fits) counted .header in
+      let h = there .header in
       rw (h .nIs, h .kIs) (take-at (fileOf xs) t (fileLen (length xs) k) (length-file (length xs) (at xs)))
 
   pub front-list : listOf (editedFile (fileOf xs ++ t)) ≡ xs
@@ -154,7 +176,7 @@ module _ (b : List ℕ) (n k : ℕ) (bytes : Bytes b) (c : CheckedMap b n k) whe
       let alone : CheckedMap front n k = front-alone front past n k low (rw whole c) in
       let h = alone .header in
       let bytesF : Bytes front = bytes-take (fileLen n k) b bytes in
-      let is = accepted-is-file 1 front (countsOf n k) bytesF (checkFile-done 1 front n k alone long) in
+      let is = counted-is-file 1 front (countsOf n k) bytesF (countsFile-done 1 front n k alone long) in
       let x : List ℕ = listOf front in
       let P : List ℕ → Parts = λ l. fileParts l n k in
       let same : SameParts (P front) (P (front ++ past)) = front-parts front past n k low in
@@ -163,7 +185,7 @@ module _ (b : List ℕ) (n k : ℕ) (bytes : Bytes b) (c : CheckedMap b n k) whe
       at-list front n k (h .nIs) (h .kIs) i hi
       ∙ sym
       (ap (λ (l : List ℕ). valueOf (fileParts l n k) i) (sym whole)
-      ∙ valueOf-same (P front) (P (front ++ past)) same (alone .parts) (λ j. bytesF (40 + j)) i hi) in
+      ∙ valueOf-same (P front) (P (front ++ past)) same (alone .parts) i hi (bytesF (40 + i))) in
       rw editedFile-is
       (record {
         limits = is .limits;

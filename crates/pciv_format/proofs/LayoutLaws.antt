@@ -9,7 +9,7 @@
 --   primary-cong                 of distances with the same bytes
 --   overflowCount-cong, file-cong, summary-cong    of distances that agree on the slots
 -- Axioms: none.
-use mathlib.Core.Path.{_≡_, refl, sym, ap, _∙_}
+use mathlib.Core.Path.{_≡_, refl, sym, ap, ap₂, _∙_}
 use Prim.Native.Nat.{ℕ, suc, _+_, _-_, _*_, _/_, _≤_, _<_}
 use native.Mathlib.Nat.{le-div-iff-mul-le, suc-mul, div-le-self, add-zero}
 use native.Mathlib.Omega.{arith}
@@ -24,10 +24,11 @@ use Rattle.pciv_bytes.specs.LittleEndian.{le}
 use Rattle.pciv_bytes.proofs.RangesLaws.{length-table, table-cong}
 use Rattle.pciv_bytes.proofs.PositionsLaws.{positions-count, positions-at, positions-cong, positions-around}
 use Rattle.pciv_bytes.proofs.JoinedLaws.{length-joined, joined-cong}
+use Rattle.pciv_bytes.proofs.SumLaws.{sumFrom-cong}
 use Rattle.pciv_format.specs.Layout.{inOverflow, primaryByte, indexStep, indexLen, fileLen}
 use Rattle.pciv_format.specs.Layout.{primary, overflowSlots, overflowCount, overflowEntry}
 use Rattle.pciv_format.specs.Layout.{overflowPart, indexEntry, indexPart, header, file, countsOf}
-use Rattle.pciv_format.specs.Layout.{summary}
+use Rattle.pciv_format.specs.Layout.{summarize, summary}
 
 -- ---- derived counts
 
@@ -181,4 +182,6 @@ module _ (n : ℕ) (v w : ℕ → ℕ) (same : (i : ℕ) → i < n → v i ≡ w
 
   pub summary-cong : summary n v ≡ summary n w
   unfolding summary
-  summary-cong = ap (countsOf n) overflowCount-cong
+  summary-cong =
+      ap₂ (λ (k sum : ℕ). summarize (countsOf n k) sum) overflowCount-cong
+      (sumFrom-cong v w 0 n (λ i h₁ h₂. same i (omega arith)))

@@ -17,6 +17,7 @@ pub mod SamePartsLaws
 pub mod FrontLaws
 pub mod RunLaws
 pub mod EditLaws
+pub mod SummaryLaws
 pub mod LimitLaws
 pub mod EditCaseLaws
 pub mod MovedLaws

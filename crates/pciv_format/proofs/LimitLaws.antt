@@ -39,7 +39,7 @@ use Rattle.pciv_format.specs.declared.Refusal.{Refusal}
 use Rattle.pciv_format.proofs.LayoutLaws.{length-header, length-primary, length-overflowPart}
 use Rattle.pciv_format.proofs.LayoutLaws.{length-file, fileLen-is}
 use Rattle.pciv_format.proofs.RefusalsLaws.{refuseIf-done}
-use Rattle.pciv_format.proofs.FrontLaws.{front-check, front-list}
+use Rattle.pciv_format.proofs.FrontLaws.{front-counts, front-list}
 use Rattle.pciv_format.proofs.EditLaws.{edited-at, edited-other, file-edited, primary-edited}
 use Rattle.pciv_format.proofs.EditLaws.{file-inline, file-overflow, entries-in, entries-out}
 use Rattle.pciv_format.proofs.EditLaws.{count-below, count-inside, below-count}
@@ -137,7 +137,7 @@ buffer-refused b e r is = rw is
 module _ (x t : List ℕ) (l : Limits x) (e : Edit) where
   pub edit-plain : editOutcome (fileOf x ++ t) e ≡ plainOutcome x (length (fileOf x ++ t)) e
   unfolding editOutcome
-  edit-plain = rw (front-list x t l, front-check x t l 1)
+  edit-plain = rw (front-list x t l, front-counts x t l 1)
 
 -- ---- an accepted one
 

@@ -14,11 +14,12 @@
 --   ReadAs, WritesMap     a written map is accepted with the routine's answer, and is read as the list of results
 --   front-read            the file of a list is, with any bytes behind it
 --   Writable, map-read    that, once for all routines that write a computed map
+--   written-summary       the answer of writing a map is that of the check of its file
 --   write-read, shift-read, masked-read, keepMasked-read, incrementMasked-read, combineMaps-read, mapOfMask-read,
 --   close-read            that of each of them
 --   overflowDistances     the distances in overflow, in order of their slots
 --   map-close             close accepts the parts of every map, and writes the map's file
--- Check is `file-accepted` (Acceptance.antt), and of a buffer `front-check` (FrontLaws.antt). The routines on masks
+-- Check is `file-accepted` (Acceptance.antt), and of a buffer `front-check` (SummaryLaws.antt). The routines on masks
 -- alone (and, or, xor, complement, set_bits, map_of_mask) are given no file: their definitions are on the words.
 -- Axioms: none.
 use mathlib.Core.Path.{_≡_, refl, sym, ap, _∙_}
@@ -40,11 +41,11 @@ use Rattle.pciv_format.specs.Layout.{overflowCount, header, file, counts
 use Rattle.pciv_format.specs.Layout.{summaryOf, Limits}
 use Rattle.pciv_format.specs.Refusals.{Outcome, done, refuse, refuseIf, refuseFirst, written}
 use Rattle.pciv_format.specs.Parts.{Parts, badEntry, badSlot, valueOf, SoundParts}
-use Rattle.pciv_format.specs.Check.{fileParts, checkFile}
+use Rattle.pciv_format.specs.Check.{fileParts}
 use Rattle.pciv_format.specs.Read.{listOf, primaryPart, behind, primaryPlace, lookupOutcome}
 use Rattle.pciv_format.specs.Read.{entryNumber, itemsInto, lookupListOutcome, lookupListBuffer}
 use Rattle.pciv_format.specs.Read.{lookupListEntries, scanOutcome, scanBuffer, total, readings}
-use Rattle.pciv_format.specs.Read.{sumOutcome, readingsOutcome}
+use Rattle.pciv_format.specs.Read.{checkFile, sumOutcome, readingsOutcome}
 use Rattle.pciv_format.specs.Write.{fileInto, mapInto, writeOutcome, writeBuffer, closeParts}
 use Rattle.pciv_format.specs.Write.{closeOutcome, closeBuffer}
 use Rattle.pciv_format.specs.Mask.{maskLen, maskHas, maskOf, badMask, holds, isNear, selectOutcome}
@@ -71,10 +72,11 @@ use Rattle.pciv_format.proofs.LayoutLaws.{length-header, length-primary
 use Rattle.pciv_format.proofs.PrimaryLaws.{primary-byte}
 use Rattle.pciv_format.proofs.FileLaws.{file-header, file-byte, file-slot, file-distance}
 use Rattle.pciv_format.proofs.FileLaws.{file-checked, file-value}
-use Rattle.pciv_format.proofs.Acceptance.{file-accepted, file-read, file-table, summary-table, table-limits}
+use Rattle.pciv_format.proofs.Acceptance.{file-counted, file-accepted, file-read, file-table, summary-table}
+use Rattle.pciv_format.proofs.Acceptance.{table-limits}
 use Rattle.pciv_format.proofs.OriginLaws.{entryIn, originIn, originOf-entryIn, file-entryNumber}
 use Rattle.pciv_format.proofs.SamePartsLaws.{SameParts, sound-same, same-back, valueOf-same}
-use Rattle.pciv_format.proofs.FrontLaws.{front-check, front-list}
+use Rattle.pciv_format.proofs.FrontLaws.{front-counts, front-list}
 use Rattle.pciv_format.proofs.LimitLaws.{edit-plain}
 
 module _ {A B : Type 0} where
@@ -101,21 +103,21 @@ module _ (xs : List ℕ) (l : Limits xs) where
   pub file-primary : primaryPart (fileOf xs) ≡ primary (length xs) (at xs)
   unfolding primaryPart
   file-primary =
-      rw (file-accepted 1 xs l, file-header (length xs) (at xs) (l .count) (l .each) .nIs)
+      rw (file-counted 1 xs l, file-header (length xs) (at xs) (l .count) (l .each) .nIs)
       (primary-part (length xs) (at xs))
 
   pub file-primaryPlace : (p : ℕ × ℕ) → primaryPlace (fileOf xs) p ≡ behind 40 p
   unfolding primaryPlace
-  file-primaryPlace p = rw (file-accepted 1 xs l)
+  file-primaryPlace p = rw (file-counted 1 xs l)
 
   pub file-lookup : (slot : ℕ)
       → lookupOutcome (fileOf xs) slot
       ≡ refuseIf (leb (length xs) slot) (refuse 9 0 0)
       (done (record { distance = at xs slot; origin = originIn xs slot }))
-  unfolding lookupOutcome summary countsOf
+  unfolding lookupOutcome countsOf
   file-lookup slot =
       rw (
-        file-accepted 1 xs l,
+        file-counted 1 xs l,
         file-read xs l,
         file-entryNumber xs l slot,
         file-header (length xs) (at xs) (l .count) (l .each) .kIs,
@@ -125,30 +127,30 @@ module _ (xs : List ℕ) (l : Limits xs) where
   pub file-lookupList : (slots : List ℕ) (c₂ : ℕ)
       → Writes (λ c₁. lookupListOutcome (fileOf xs) slots c₁ c₂) (lookupListBuffer (fileOf xs) slots c₂)
       (λ c₁. lookupsInto xs slots c₁ c₂) (map (at xs) slots)
-  unfolding lookupListOutcome lookupListBuffer summary countsOf
-  file-lookupList slots c₂ out = rw (file-accepted 1 xs l, file-read xs l) (refl, refl)
+  unfolding lookupListOutcome lookupListBuffer countsOf
+  file-lookupList slots c₂ out = rw (file-counted 1 xs l, file-read xs l) (refl, refl)
 
   pub file-lookupEntries : (slots : List ℕ) (c₁ : ℕ)
       → Writes (lookupListOutcome (fileOf xs) slots c₁) (lookupListEntries (fileOf xs) slots c₁)
       (lookupsInto xs slots c₁) (map (entryIn xs) slots)
-  unfolding lookupListOutcome lookupListEntries summary countsOf
+  unfolding lookupListOutcome lookupListEntries countsOf
   file-lookupEntries slots c₁ out =
       rw (
-        file-accepted 1 xs l,
+        file-counted 1 xs l,
         map-cong (entryNumber (fileOf xs)) (entryIn xs) slots (λ i h. file-entryNumber xs l (getD slots i 0)),
       ) (refl, refl)
 
   pub file-scan : Writes (scanOutcome (fileOf xs)) (scanBuffer (fileOf xs)) (itemsInto (length xs)) xs
-  unfolding scanOutcome scanBuffer summary countsOf
-  file-scan out = rw (file-accepted 1 xs l, file-read xs l) (refl, refl)
+  unfolding scanOutcome scanBuffer countsOf
+  file-scan out = rw (file-counted 1 xs l, file-read xs l) (refl, refl)
 
   pub file-sum : sumOutcome (fileOf xs) ≡ done (total xs)
   unfolding sumOutcome
-  file-sum = rw (file-accepted 1 xs l, file-read xs l)
+  file-sum = rw (file-counted 1 xs l, file-read xs l)
 
   pub file-readings : readingsOutcome (fileOf xs) ≡ done (readings xs)
   unfolding readingsOutcome
-  file-readings = rw (file-accepted 1 xs l, file-read xs l)
+  file-readings = rw (file-counted 1 xs l, file-read xs l)
 
   -- ---- masks of a map
 
@@ -156,8 +158,8 @@ module _ (xs : List ℕ) (l : Limits xs) where
   pub file-select : (p : ℕ → Bool)
       → Writes (selectOutcome (fileOf xs)) (selectWords p (fileOf xs)) (itemsInto (maskLen (length xs)))
       (maskOf (length xs) (λ i. p (at xs i)))
-  unfolding summary countsOf
-  file-select p out = rw (file-accepted 1 xs l, file-read xs l) (refl, refl)
+  unfolding countsOf
+  file-select p out = rw (file-counted 1 xs l, file-read xs l) (refl, refl)
 
   pub file-threshold : (c : Comparison) (t : ℕ)
       → Writes (thresholdOutcome c (fileOf xs) t) (thresholdWords c (fileOf xs) t) (itemsInto (maskLen (length xs)))
@@ -188,14 +190,14 @@ module _ (xs : List ℕ) (l : Limits xs) where
   pub file-shift : (d : ℤ)
       → Writes (shiftOutcome (fileOf xs) d) (shiftBuffer (fileOf xs) d) (mapInto (length xs) (shiftedAt d xs))
       (file (length xs) (shiftedAt d xs))
-  unfolding shiftOutcome shiftBuffer summary countsOf
-  file-shift d out = rw (file-accepted 1 xs l, file-read xs l) (refl, refl)
+  unfolding shiftOutcome shiftBuffer countsOf
+  file-shift d out = rw (file-counted 1 xs l, file-read xs l) (refl, refl)
 
   pub file-masked : (f : Bool → ℕ → ℕ) (ws : List ℕ)
       → Writes (maskedOutcome f (fileOf xs) ws) (maskedBuffer f (fileOf xs) ws) (maskedInto f ws xs)
       (file (length xs) (maskedAt f ws xs))
-  unfolding summary countsOf
-  file-masked f ws out = rw (file-accepted 1 xs l, file-read xs l) (refl, refl)
+  unfolding countsOf
+  file-masked f ws out = rw (file-counted 1 xs l, file-read xs l) (refl, refl)
 
   pub file-keepMasked : (ws : List ℕ)
       → Writes (keepMaskedOutcome (fileOf xs) ws) (keepMaskedBuffer (fileOf xs) ws) (maskedInto keptIf ws xs)
@@ -219,8 +221,8 @@ module _ {A : Type 0} where
 module _ (xs ys : List ℕ) (l : Limits xs) (m : Limits ys) where
   pub file-pair : {A : Type 0} (next : ℕ → Outcome A)
       → pairOutcome (fileOf xs) (fileOf ys) next ≡ refuseSizes xs ys (next (length xs))
-  unfolding summary countsOf
-  file-pair next = rw (file-accepted 1 xs l, file-accepted 2 ys m)
+  unfolding countsOf
+  file-pair next = rw (file-counted 1 xs l, file-counted 2 ys m)
 
   pub file-combineMaps : (o : SlotOp)
       → Writes (combineMapsOutcome o (fileOf xs) (fileOf ys)) (combineMapsBuffer o (fileOf xs) (fileOf ys))
@@ -254,8 +256,8 @@ reportOf xs = textOf (refuseIf (ltb 65536 (summaryOf xs .len)) (refuse 12 0 0) (
 
 module _ (xs : List ℕ) (l : Limits xs) where
   pub file-reportText : reportText (fileOf xs) ≡ reportOf xs
-  unfolding reportText summary countsOf
-  file-reportText = rw (file-accepted 1 xs l, file-read xs l, length-file (length xs) (at xs))
+  unfolding reportText countsOf summary total
+  file-reportText = rw (file-counted 1 xs l, file-read xs l, length-file (length xs) (at xs))
 
   pub file-report :
       Writes (reportOutcome (fileOf xs)) (reportBuffer (fileOf xs)) (itemsInto (length (reportOf xs))) (reportOf xs)
@@ -291,13 +293,13 @@ module _ (xs t : List ℕ) (l : Limits xs) where
       ≡ ifAccepted (runInto slots distances c) (bufferOf (plainRun (length b) (plainStart xs) es) b) b))
   unfolding editListOutcome editListAnswers editListBuffer
   front-editList slots distances = (
-    λ out. rw (front-check xs t l 1, front-list xs t l) (refl, refl),
-    λ c. rw (front-check xs t l 1, front-list xs t l),
+    λ out. rw (front-counts xs t l 1, front-list xs t l) (refl, refl),
+    λ c. rw (front-counts xs t l 1, front-list xs t l),
   )
 
 -- ---- what is read from a written map
 
--- the file at the front of b, as long as s says, is accepted with the counts s and is read as zs
+-- the file at the front of b, as long as s says, is accepted with the summary s and is read as zs
 pub record ReadAs (b : List ℕ) (s : Summary) (zs : List ℕ) : Type 0 where
   pub accepted : (mp : ℕ) → checkFile mp (take (s .len) b) ≡ done s
   pub read : listOf (take (s .len) b) ≡ zs
@@ -313,23 +315,29 @@ front-read zs t l =
     take-at (fileOf zs) t (summaryOf zs .len) (length-file (length zs) (at zs)) in
     record { accepted = λ mp. ap (checkFile mp) front ∙ file-accepted mp zs l; read = ap listOf front ∙ file-read zs l }
 
--- n slots with distances v are within the limits, and s are the counts of their file
+-- n slots with distances v are within the limits, and s is the summary of their file
 pub record Writable (n : ℕ) (v : ℕ → ℕ) (s : Summary) : Type 0 where
   pub few : n ≤ maxSlots
   pub each : (i : ℕ) → i < n → v i ≤ maxDistance
-  pub counts : summary n v ≡ s
+  pub summaryIs : summary n v ≡ s
 
 module _ (n : ℕ) (v : ℕ → ℕ) where
   fileInto-done : n ≤ maxSlots → ((i : ℕ) → i < n → v i ≤ maxDistance) → (c : ℕ) (s : Summary) → fileInto n v c ≡ done s
       → Writable n v s
   fileInto-done few each c s e =
       let is : done (summary n v) ≡ done s = refuseIf-done (ltb c (length (file n v))) _ _ s e .1 in
-      record { few = few; each = each; counts = cc }
+      record { few = few; each = each; summaryIs = cc }
 
   mapInto-done : n ≤ maxSlots → (c : ℕ) (s : Summary) → mapInto n v c ≡ done s → Writable n v s
   mapInto-done few c s e =
       let g = refuseFirst-done 11 0 (λ (i : ℕ). ltb maxDistance (v i)) n (fileInto n v c) s e in
       fileInto-done few (λ i h. ltb-false maxDistance (v i) (g .0 i h)) c s (g .1)
+
+  pub written-summary : n ≤ maxSlots → ((i : ℕ) → i < n → v i ≤ maxDistance) → (c : ℕ) (s : Summary) → fileInto n v c ≡ done s
+      → (mp : ℕ) → checkFile mp (file n v) ≡ done s
+  written-summary few each c s e mp =
+      rw (← fileInto-done few each c s e .summaryIs, file-table n v, summary-table n v)
+      (file-accepted mp (table v 0 n) (table-limits n v few each))
 
   -- after a routine whose answer o and buffer `after` are those of o', the arithmetic on lists
   pub map-read : {o o' : Outcome Summary} {after : List ℕ} (out : List ℕ) (s : Summary)
@@ -338,7 +346,7 @@ module _ (n : ℕ) (v : ℕ → ℕ) where
   map-read out s law last e =
       let is = sym (law .0) ∙ e in
       let w = last is in
-      rw (law .1, is, ← w .counts, file-table n v, summary-table n v)
+      rw (law .1, is, ← w .summaryIs, file-table n v, summary-table n v)
       (front-read (table v 0 n) _ (table-limits n v (w .few) (w .each)))
 
 module _ (xs : List ℕ) (l : Limits xs) where
@@ -348,7 +356,7 @@ module _ (xs : List ℕ) (l : Limits xs) where
       let w =
       fileInto-done (length xs) (at xs) (l .count) (l .each) (length out) s
       (refuseIf-done (ltb maxSlots (length xs)) _ _ s e .1) in
-      rw (e, ← w .counts) (front-read xs _ l)
+      rw (e, ← w .summaryIs) (front-read xs _ l)
 
   pub shift-read : (d : ℤ)
       → WritesMap (shiftOutcome (fileOf xs) d) (shiftBuffer (fileOf xs) d) (table (shiftedAt d xs) 0 (length xs))
@@ -456,7 +464,7 @@ module _ (n : ℕ) (v : ℕ → ℕ) (few : n ≤ maxSlots) (each : (i : ℕ) �
   value : (i : ℕ) → i < n → valueOf parts i ≡ v i
   value i h =
       let inside : i < parts .n = omega (arith, length-primary n v) in
-      sym (valueOf-same parts _ (same-back _ parts same) sound (primary-bytes n v) i inside)
+      sym (valueOf-same parts _ (same-back _ parts same) sound i inside (primary-bytes n v i))
       ∙ file-value n v few each i h
 
   parts-file : file (length (primary n v)) (valueOf parts) ≡ file n v

@@ -4,7 +4,7 @@
 --   bit-of-word, slot-bit  a slot as a number, and bit by bit;  word-of-mask  a word is 64 slots
 --   words-ext              lists of words with the same slots are equal
 --   isMask, mask-covers    how to tell a mask; its words have all of its slots
---   sum-slots              a sum over all slots of its words, where those past n do not count
+--   sum-slots              a sum over all slots of its words, where those past n do not count;  setBits-sum  of set bits
 --   maskWord n p w         word w of the mask made of p;  -lt, -full, -last
 --   maskOf-table, length-maskOf, getD-maskOf, maskOf-words    it has these words, to be written one by one
 --   maskHas-maskOf, -past  its slots;  maskOf-good  it is a mask
@@ -117,6 +117,11 @@ sum-slots {n} {ws} mask f past =
       sumFrom-cong f none n c (λ i h₁ h₂. past i h₁),
       sumFrom-le none 0 (λ i. omega arith) n c,
     )
+
+-- the bits past n do not count: the set bits of its words are the sum of the map that it makes
+pub setBits-sum : (n : ℕ) (ws : List ℕ) → IsMask n ws
+    → sumFrom (maskValue ws) 0 (64 * length ws) ≡ sumFrom (maskValue ws) 0 n
+setBits-sum n ws mask = sum-slots mask (maskValue ws) (λ i h. ap flag (mask .past i h))
 
 -- ---- a mask made of a property
 

@@ -22,10 +22,11 @@ use Rattle.pciv_bytes.specs.LittleEndian.{Bytes}
 use Rattle.pciv_bytes.proofs.PositionsLaws.{positions-cong, positions-none, positions-around}
 use Rattle.pciv_format.specs.Layout.{maxDistance, inOverflow, overflowCount, at, fileOf, Limits}
 use Rattle.pciv_format.specs.Refusals.{Outcome, done, refused}
-use Rattle.pciv_format.specs.Check.{nField, kField, checkBuffer, CheckedMap}
+use Rattle.pciv_format.specs.Check.{nField, kField, countsBuffer, CheckedMap}
 use Rattle.pciv_format.specs.Read.{entryNumber}
 use Rattle.pciv_format.specs.Edit.{Edit, edited, plainOutcome, editedFile, editOutcome, replaced, ifAccepted}
 use Rattle.pciv_format.specs.Edit.{editBuffer, entriesAbove, movedBy, plainMoved, editMoved}
+use Rattle.pciv_format.specs.declared.Counts.{Counts}
 use Rattle.pciv_format.specs.declared.Summary.{Summary}
 use Rattle.pciv_format.specs.declared.Refusal.{Refusal}
 use Rattle.pciv_format.proofs.RefusalsLaws.{refuseIf-done, andThen-done}
@@ -120,10 +121,10 @@ module _ (b : List ℕ) (e : Edit) where
 -- an accepted edit of a buffer of bytes
 module _ (b : List ℕ) (bytes : Bytes b) (e : Edit) (s : Summary) (is : editOutcome b e ≡ done s) where
   -- its counts, that it is a checked map with them, and the plain editor's outcome
-  accepted : (c : Summary) × CheckedMap b (c .n) (c .k) × (plainOutcome (held b) (length b) e ≡ done s)
+  accepted : (c : Counts) × CheckedMap b (c .n) (c .k) × (plainOutcome (held b) (length b) e ≡ done s)
   unfolding editOutcome
   accepted =
-      let c = andThen-done (checkBuffer 1 b) _ s is in
+      let c = andThen-done (countsBuffer 1 b) _ s is in
       (c .0, done-buffer 1 b (c .0) (c .1), c .2)
 
   there : Holds b (accepted .0 .n) (accepted .0 .k) (held b)

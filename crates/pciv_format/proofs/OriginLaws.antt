@@ -31,10 +31,10 @@ use Rattle.pciv_bytes.proofs.RangesLaws.{getD-inside, firstBelow-le, firstBelow
 use Rattle.pciv_format.specs.Layout.{inOverflow, overflowCount, at, fileOf, Limits}
 use Rattle.pciv_format.specs.Refusals.{Outcome, done, refused, refuse, refuseIf, refuseFirst, andThen, written}
 use Rattle.pciv_format.specs.Parts.{Parts, entryOf, valueOf, SoundParts}
-use Rattle.pciv_format.specs.Check.{nField, kField, fileParts, checkFile}
+use Rattle.pciv_format.specs.Check.{nField, kField, fileParts, countsFile}
 use Rattle.pciv_format.specs.Read.{listOf, entryNumber, originOf, originNumber, located, lookupOutcome}
 use Rattle.pciv_format.specs.Read.{itemsInto, lookupListOutcome, lookupListBuffer, lookupListEntries}
-use Rattle.pciv_format.specs.declared.Summary.{Summary}
+use Rattle.pciv_format.specs.declared.Counts.{Counts}
 use Rattle.pciv_format.specs.declared.Origin.{Origin}
 use Rattle.pciv_format.specs.declared.Origin.the-variants.{Inline, Overflow}
 use Rattle.pciv_format.specs.declared.Located.{Located}
@@ -137,7 +137,7 @@ sound-parts b n k nIs kIs sound = rw (nIs, kIs) sound
 pub lookup-found : (b : List ℕ) (slot : ℕ) (a : Located) → lookupOutcome b slot ≡ done a → Found b slot a
 unfolding lookupOutcome
 lookup-found b slot a e =
-    let c = andThen-done (checkFile 1 b) _ a e in
+    let c = andThen-done (countsFile 1 b) _ a e in
     let map = checked b (c .0) (c .1) in
     let t = refuseIf-done (leb (c .0 .n) slot) _ _ a (c .2) in
     let inside : slot < nField b = omega (arith, leb-false (c .0 .n) slot (t .0), map .header .nIs) in
@@ -156,9 +156,9 @@ lookup-found b slot a e =
 
 pub lookup-distance-stays : (b : List ℕ) (slot : ℕ)
     → andThen (lookupOutcome b slot) (λ a. done (a .distance))
-    ≡ andThen (checkFile 1 b) (λ s. refuseIf (leb (s .n) slot) (refuse 9 0 0) (done (at (listOf b) slot)))
+    ≡ andThen (countsFile 1 b) (λ s. refuseIf (leb (s .n) slot) (refuse 9 0 0) (done (at (listOf b) slot)))
 unfolding lookupOutcome
-lookup-distance-stays b slot = file (checkFile 1 b)
+lookup-distance-stays b slot = file (countsFile 1 b)
   where
     a : Located
     a = located (at (listOf b) slot) (kField b) (entryNumber b slot)
@@ -168,7 +168,7 @@ lookup-distance-stays b slot = file (checkFile 1 b)
     inside true = refl
     inside false = refl
 
-    file : (o : Outcome Summary)
+    file : (o : Outcome Counts)
         → andThen (andThen o (λ s. refuseIf (leb (s .n) slot) (refuse 9 0 0) (done a))) (λ a. done (a .distance))
         ≡ andThen o (λ s. refuseIf (leb (s .n) slot) (refuse 9 0 0) (done (a .distance)))
     file (done s) = inside (leb (s .n) slot)
@@ -178,13 +178,13 @@ module _ (b slots : List ℕ) where
   -- the outcome of a list of lookups that answer the distance alone, into a list of c elements
   abbrev pub distancesOutcome : ℕ → Outcome ℕ
   distancesOutcome c =
-      andThen (checkFile 1 b)
+      andThen (countsFile 1 b)
       (λ s. refuseFirst 9 0 (λ (i : ℕ). leb (s .n) (at slots i)) (length slots) (itemsInto (length slots) c))
 
   outcome-stays : (c₁ c₂ : ℕ) → length slots ≤ c₂ → lookupListOutcome b slots c₁ c₂ ≡ distancesOutcome c₁
   unfolding lookupListOutcome
   outcome-stays c₁ c₂ h =
-      ap (λ (o : Outcome ℕ). andThen (checkFile 1 b)
+      ap (λ (o : Outcome ℕ). andThen (countsFile 1 b)
       (λ s. refuseFirst 9 0 (λ (i : ℕ). leb (s .n) (at slots i)) (length slots) o))
       (elim (decLe (length slots) c₁) [
         | yes d ↦ items-fit (length slots) (min c₁ c₂) (omega arith) ∙ sym (items-fit (length slots) c₁ d)
@@ -202,7 +202,7 @@ module _ (b slots : List ℕ) where
   short-refused : (c₁ c₂ : ℕ) → min c₁ c₂ < length slots → (c : ℕ) → lookupListOutcome b slots c₁ c₂ ≡ done c → ⊥
   unfolding lookupListOutcome
   short-refused c₁ c₂ h c e =
-      let s = andThen-done (checkFile 1 b) _ c e in
+      let s = andThen-done (countsFile 1 b) _ c e in
       let items = refuseFirst-done 9 0 (λ (i : ℕ). leb (s .0 .n) (at slots i)) (length slots) _ c (s .2) .1 in
       other (sym (items-short (length slots) (min c₁ c₂) h) ∙ items)
     where
@@ -305,7 +305,7 @@ module _ (b slots distances entries : List ℕ) (c : ℕ)
       lookupOutcome b slot ≡ done (located (at (listOf b) slot) (kField b) (entryNumber b slot)))
   unfolding lookupListOutcome lookupOutcome
   found i h =
-      let s = andThen-done (checkFile 1 b) _ c e in
+      let s = andThen-done (countsFile 1 b) _ c e in
       let inside = refuseFirst-done 9 0 (λ (i : ℕ). leb (s .0 .n) (at slots i)) (length slots) _ c (s .2) .0 i h in
       rw (s .1, inside)
 

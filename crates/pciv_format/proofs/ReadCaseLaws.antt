@@ -8,7 +8,7 @@
 --   list-inside, list-buffer, list-entries
 --                                      where no slot is outside: each is below n, and what is written to either list
 --   scan-short, scan-done, scan-buffer    all slots: refusal 12, or n, and what is written
---   sum-done, readings-done            the totals
+--   readings-done                      how many are not 0 (the sum: check-sum, SummaryLaws.antt)
 -- Axioms: none.
 use mathlib.Core.Path.{_≡_, ap, ap₂, _∙_}
 use Prim.Native.Nat.{ℕ, _≤_, _<_, min}
@@ -19,26 +19,26 @@ use lib.ListN.{length, getD, take, drop, length-map}
 use lib.Seq.{sets}
 use lib.Dec.{leb}
 use borrow.Author.Tests.{le-leb, lt-leb, leb-false}
-use Rattle.pciv_bytes.specs.Ranges.{firstBelow, table, sumFrom}
+use Rattle.pciv_bytes.specs.Ranges.{firstBelow, table}
 use Rattle.pciv_bytes.proofs.RangesLaws.{map-cong, firstBelow-all, length-table}
 use Rattle.pciv_bytes.proofs.WriteLaws.{sets-front}
 use Rattle.pciv_format.specs.Layout.{at}
 use Rattle.pciv_format.specs.Refusals.{done, refused, refuse}
 use Rattle.pciv_format.specs.Parts.{entryOf, valueOf}
-use Rattle.pciv_format.specs.Check.{fileParts, checkFile, CheckedMap}
+use Rattle.pciv_format.specs.Check.{fileParts, countsFile, CheckedMap}
 use Rattle.pciv_format.specs.Read.{listOf, primaryPart, behind, primaryPlace, entryNumber, located}
 use Rattle.pciv_format.specs.Read.{lookupOutcome, itemsInto, lookupListOutcome, lookupListBuffer}
 use Rattle.pciv_format.specs.Read.{lookupListEntries, scanOutcome, scanBuffer, readings, sumOutcome}
 use Rattle.pciv_format.specs.Read.{readingsOutcome}
-use Rattle.pciv_format.specs.declared.Summary.{Summary}
+use Rattle.pciv_format.specs.declared.Counts.{Counts}
 use Rattle.pciv_format.specs.declared.Refusal.{Refusal}
 use Rattle.pciv_format.proofs.RefusalsLaws.{refuseFirst-none, refuseFirst-some}
 use Rattle.pciv_format.proofs.CheckLaws.{done-counts}
-use Rattle.pciv_format.proofs.ReadLaws.{listOf-is, at-list, total-is, items-fit, items-short}
+use Rattle.pciv_format.proofs.ReadLaws.{listOf-is, at-list, items-fit, items-short}
 
 -- ---- the file is refused
 
-module _ (b : List ℕ) (r : Refusal) (e : checkFile 1 b ≡ refused r) where
+module _ (b : List ℕ) (r : Refusal) (e : countsFile 1 b ≡ refused r) where
   pub primary-refused : primaryPart b ≡ []
   unfolding primaryPart
   primary-refused = rw e
@@ -69,7 +69,7 @@ module _ (b : List ℕ) (r : Refusal) (e : checkFile 1 b ≡ refused r) where
 
 -- ---- the file is a map
 
-module _ (b : List ℕ) (s : Summary) (e : checkFile 1 b ≡ done s) where
+module _ (b : List ℕ) (s : Counts) (e : countsFile 1 b ≡ done s) where
   pub checked : CheckedMap b (s .n) (s .k)
   checked = done-counts 1 b s e .0
 
@@ -162,11 +162,7 @@ module _ (b : List ℕ) (s : Summary) (e : checkFile 1 b ≡ done s) where
       rw (scan-done (length out) h, listOf-is b (s .n) (s .k) (checked .header .nIs) (checked .header .kIs))
       (sets-front (table f 0 (s .n)) out (rw length-table h))
 
-  -- totals
-  pub sum-done : sumOutcome b ≡ done (sumFrom (valueOf (fileParts b (s .n) (s .k))) 0 (s .n))
-  unfolding sumOutcome
-  sum-done = rw (e, total-is b (s .n) (s .k) (checked .header .nIs) (checked .header .kIs))
-
+  -- how many are not 0
   pub readings-done : readingsOutcome b ≡ done (readings (listOf b))
   unfolding readingsOutcome
   readings-done = rw e

@@ -2,7 +2,8 @@
 --   refuseIf-done, refuseFirst-done    past a test that refuses, and past a test of every place
 --   refuseFirst-none, -some            where no place is bad, and at the least place that is
 --   andThen-done                       past an outcome that something follows
---   fileAnswer-done, -refused, numberAnswer-number, -refused    the outcome of an answer
+--   countsAnswer-counted, -refused, fileAnswer-done, -refused, numberAnswer-number, -refused
+--                                      the outcome of an answer
 -- Axioms: none.
 use mathlib.Core.Path.{_≡_, refl}
 use Prim.Native.Nat.{ℕ, _<_}
@@ -13,9 +14,11 @@ use borrow.Author.Tests.{lt-ltb, le-ltb, ltb-false}
 use Rattle.pciv_bytes.specs.Ranges.{firstBelow}
 use Rattle.pciv_bytes.proofs.RangesLaws.{firstBelow-all, firstBelow-none}
 use Rattle.pciv_format.specs.Refusals.{Outcome, done, refused, refuse, refuseIf, refuseFirst, andThen}
-use Rattle.pciv_format.specs.Refusals.{fileAnswer, numberAnswer}
+use Rattle.pciv_format.specs.Refusals.{countsAnswer, fileAnswer, numberAnswer}
+use Rattle.pciv_format.specs.declared.Counts.{Counts}
 use Rattle.pciv_format.specs.declared.Summary.{Summary}
 use Rattle.pciv_format.specs.declared.Refusal.{Refusal}
+use Rattle.pciv_format.specs.declared.CountsAnswer.the-variants as InCounts
 use Rattle.pciv_format.specs.declared.FileAnswer.the-variants as InFile
 use Rattle.pciv_format.specs.declared.NumberAnswer.the-variants as InNumber
 
@@ -52,6 +55,14 @@ module _ {A B : Type 0} where
   andThen-done (refused r) f b e = let z : _≡_ {A = ℕ} 0 1 = cc in absurd (omega arith)
 
 -- ---- answers
+
+pub countsAnswer-counted : (o : Outcome Counts) (c : Counts) → InCounts.Counted c ≡ countsAnswer o → o ≡ done c
+countsAnswer-counted (done x) c e = cc
+countsAnswer-counted (refused r) c e = cc
+
+pub countsAnswer-refused : (o : Outcome Counts) (r : Refusal) → InCounts.Refused r ≡ countsAnswer o → o ≡ refused r
+countsAnswer-refused (done x) r e = cc
+countsAnswer-refused (refused x) r e = cc
 
 pub fileAnswer-done : (o : Outcome Summary) (s : Summary) → InFile.Done s ≡ fileAnswer o → o ≡ done s
 fileAnswer-done (done x) s e = cc

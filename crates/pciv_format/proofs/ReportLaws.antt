@@ -20,8 +20,7 @@ use lib.ListN.{length, length-append}
 use lib.Dec.{ltb}
 use borrow.Author.Tests.{lt-ltb, le-ltb, ltb-false}
 use Rattle.pciv_format.specs.Refusals.{Outcome, done, refused, refuse, refuseIf}
-use Rattle.pciv_format.specs.Check.{checkFile}
-use Rattle.pciv_format.specs.Read.{listOf}
+use Rattle.pciv_format.specs.Read.{listOf, checkFile}
 use Rattle.pciv_format.specs.Report.{digits, decimal, field, line, refusedWord, mapWord, placeWord}
 use Rattle.pciv_format.specs.Report.{slotsWord, farWord, stepWord, indexWord, sumWord, readingsWord}
 use Rattle.pciv_format.specs.Report.{mapLines, refusedLine, textOf, reportText, reportOutcome}

@@ -7,12 +7,13 @@
 use mathlib.Core.Path.{_≡_, refl, sym, ap, ap₂, _∙_}
 use Prim.Native.Nat.{ℕ, zero, suc, _+_, _<_}
 use native.Mathlib.Omega.{arith}
+use native.Mathlib.Decide.{decLe}
 use mathlib.Core.Bool.{Bool, _&&_}
 use lib.Dec.{leb, eqb}
 use Rattle.pciv_bytes.specs.Ranges.{firstBelow}
 use Rattle.pciv_bytes.proofs.RangesLaws.{firstBelow-cong}
 use Rattle.pciv_format.specs.Parts.{Parts, lowestSlot, entryOf, badSlot, valueOf, SoundParts}
-use Rattle.pciv_format.proofs.PartsLaws.{badEntry-good, entry-good, valueOf-slot, valueOf-inline, slot-cases}
+use Rattle.pciv_format.proofs.PartsLaws.{badEntry-good, entry-good, slot-entry, valueOf-slot, valueOf-inline}
 
 -- Q has the numbers of P
 pub record SameParts (P Q : Parts) : Type 0 where
@@ -71,14 +72,18 @@ same-back P Q s =
     }
 
 -- and each slot its distance
-pub valueOf-same : (P Q : Parts) → SameParts P Q → SoundParts P → ((i : ℕ) → P .byte i < 256) → (i : ℕ) → i < P .n
+pub valueOf-same : (P Q : Parts) → SameParts P Q → SoundParts P → (i : ℕ) → i < P .n → P .byte i < 256
     → valueOf Q i ≡ valueOf P i
-valueOf-same P Q same sound bytes i h =
+valueOf-same P Q same sound i h byte =
     let soundQ = sound-same P Q same sound in
-    slot-cases P sound bytes i h
-    (λ small e. valueOf-inline Q soundQ i (rw (same .byteSame i h) small) ∙ same .byteSame i h ∙ sym e)
-    (λ j hj there e w overflows.
-    ap (valueOf Q) (sym (same .slotSame j hj ∙ there))
-    ∙ valueOf-slot Q soundQ j (omega (arith, same .kSame))
-    ∙ same .distanceSame j hj
-    ∙ sym w)
+    elim (decLe 255 (P .byte i)) [
+      | yes d ↦ (let q = slot-entry P sound i h (omega arith) in
+          let j : ℕ = q .0 in
+          ap (valueOf Q) (sym (same .slotSame j (q .1) ∙ q .2))
+          ∙ valueOf-slot Q soundQ j (omega (arith, same .kSame, q .1))
+          ∙ same .distanceSame j (q .1)
+          ∙ sym (ap (valueOf P) (sym (q .2)) ∙ valueOf-slot P sound j (q .1)))
+      | no d ↦ valueOf-inline Q soundQ i (rw (same .byteSame i h) (omega arith))
+          ∙ same .byteSame i h
+          ∙ sym (valueOf-inline P sound i (omega arith))
+    ]

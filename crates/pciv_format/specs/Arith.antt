@@ -17,7 +17,7 @@ use lib.IntN.{ℤ, pos, negsuc, _+ℤ_, _-ℤ_}
 use Rattle.pciv_bytes.specs.Ranges.{table}
 use Rattle.pciv_format.specs.Layout.{at}
 use Rattle.pciv_format.specs.Refusals.{Outcome, refuse, refuseIf, andThen, written}
-use Rattle.pciv_format.specs.Check.{checkFile}
+use Rattle.pciv_format.specs.Check.{countsFile}
 use Rattle.pciv_format.specs.Read.{listOf, itemsInto}
 use Rattle.pciv_format.specs.Write.{mapInto, fileBuffer}
 use Rattle.pciv_format.specs.declared.Summary.{Summary}
@@ -34,8 +34,8 @@ slotOp Difference x y = x - y
 module _ {A : Type 0} where
   abbrev pub pairOutcome : List ℕ → List ℕ → (ℕ → Outcome A) → Outcome A
   pairOutcome a b next =
-      andThen (checkFile 1 a)
-      (λ s. andThen (checkFile 2 b) (λ t. refuseIf (not (eqb (s .n) (t .n))) (refuse 10 0 0) (next (s .n))))
+      andThen (countsFile 1 a)
+      (λ s. andThen (countsFile 2 b) (λ t. refuseIf (not (eqb (s .n) (t .n))) (refuse 10 0 0) (next (s .n))))
 
 -- the distance of the result at slot i
 abbrev pub combinedAt : SlotOp → List ℕ → List ℕ → ℕ → ℕ
@@ -59,7 +59,7 @@ unfoldable pub shiftedBy : ℤ → ℕ → ℕ
 shiftedBy d x = cond (eqb x 0) 0 (max 1 (atLeastZero (pos x +ℤ d)))
 
 unfoldable pub shiftOutcome : List ℕ → ℤ → ℕ → Outcome Summary
-shiftOutcome b d capacity = andThen (checkFile 1 b) (λ s. mapInto (s .n) (λ i. shiftedBy d (at (listOf b) i)) capacity)
+shiftOutcome b d capacity = andThen (countsFile 1 b) (λ s. mapInto (s .n) (λ i. shiftedBy d (at (listOf b) i)) capacity)
 
 unfoldable pub shiftBuffer : List ℕ → ℤ → List ℕ → List ℕ
 shiftBuffer b d out =

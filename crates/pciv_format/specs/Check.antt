@@ -1,12 +1,13 @@
--- What a check answers: refusals 1 to 8, first case first, else the summary (docs/FORMAT.md, "Refusals").
+-- What a check finds: refusals 1 to 8, first case first, else the counts (docs/FORMAT.md, "Refusals"). What it answers
+-- has the sum of all distances too (Read.antt).
 --   nField b, kField b, mField b, stepField b   the counts in the header of b
 --   fileParts b n k           the primary array and overflow entries of a file with n slots and k entries
 --   badIndexEntry b n k i     index entry i is wrong (refusal 8)
 --   checkHeader, checkParts   refusals 1 to 4, and 6 to 8
 --   badCounts n k m step      the counts of a header are wrong (refusal 4)
 --   checkWith wrong mp b      the check, by what a wrong length is; otherLength, that of a whole file
---   checkFile mp b            the check of a whole file, as map mp
---   checkBuffer mp b          the check of a buffer to be edited, which may be longer than the file at its front
+--   countsFile mp b           the check of a whole file, as map mp
+--   countsBuffer mp b         the check of a buffer to be edited, which may be longer than the file at its front
 --   CheckedHeader, CheckedMap b n k    what inner routines know of b: a file of n slots and k overflow entries stands
 --                             at its front
 -- Laws are in proofs/CheckLaws.antt. Axioms: none.
@@ -20,7 +21,7 @@ use Rattle.pciv_bytes.specs.LittleEndian.{get}
 use Rattle.pciv_format.specs.Layout.{maxSlots, magic, indexStep, indexLen, fileLen, countsOf}
 use Rattle.pciv_format.specs.Refusals.{Outcome, done, refuse, refuseIf, refuseFirst, andThen}
 use Rattle.pciv_format.specs.Parts.{Parts, refuseParts, SoundParts}
-use Rattle.pciv_format.specs.declared.Summary.{Summary}
+use Rattle.pciv_format.specs.declared.Counts.{Counts}
 
 abbrev pub nField : List ℕ → ℕ
 nField b = get 8 b 8
@@ -54,7 +55,7 @@ unfoldable pub badCounts : ℕ → ℕ → ℕ → ℕ → Bool
 badCounts n k m step = ltb n k || not (eqb step (indexStep k)) || not (eqb m (indexLen k))
 
 -- refusals 1 to 4, else the counts of the header
-unfoldable pub checkHeader : ℕ → List ℕ → Outcome Summary
+unfoldable pub checkHeader : ℕ → List ℕ → Outcome Counts
 checkHeader mp b =
     refuseIf (ltb (length b) 40) (refuse 1 mp 0)
     (refuseIf (not (eqb (get 8 b 0) magic)) (refuse 2 mp 0)
@@ -63,12 +64,12 @@ checkHeader mp b =
     (done (countsOf (nField b) (kField b))))))
 
 -- refusals 6 to 8, else the counts
-unfoldable pub checkParts : ℕ → List ℕ → ℕ → ℕ → Outcome Summary
+unfoldable pub checkParts : ℕ → List ℕ → ℕ → ℕ → Outcome Counts
 checkParts mp b n k =
     refuseParts mp (fileParts b n k) (refuseFirst 8 mp (badIndexEntry b n k) (indexLen k) (done (countsOf n k)))
 
 -- all of them; `wrong len l` tells if a buffer of len bytes has the wrong length for a file of l (refusal 5)
-unfoldable pub checkWith : (ℕ → ℕ → Bool) → ℕ → List ℕ → Outcome Summary
+unfoldable pub checkWith : (ℕ → ℕ → Bool) → ℕ → List ℕ → Outcome Counts
 checkWith wrong mp b =
     andThen (checkHeader mp b)
     (λ s. refuseIf (wrong (length b) (s .len)) (refuse 5 mp 0) (checkParts mp b (s .n) (s .k)))
@@ -77,11 +78,11 @@ checkWith wrong mp b =
 abbrev pub otherLength : ℕ → ℕ → Bool
 otherLength len l = not (eqb len l)
 
-abbrev pub checkFile : ℕ → List ℕ → Outcome Summary
-checkFile mp b = checkWith otherLength mp b
+abbrev pub countsFile : ℕ → List ℕ → Outcome Counts
+countsFile mp b = checkWith otherLength mp b
 
-abbrev pub checkBuffer : ℕ → List ℕ → Outcome Summary
-checkBuffer mp b = checkWith ltb mp b
+abbrev pub countsBuffer : ℕ → List ℕ → Outcome Counts
+countsBuffer mp b = checkWith ltb mp b
 
 -- ---- what a check has shown
 

@@ -36,7 +36,7 @@ use lib.Dec.{ltb, leb, eqb}
 use Rattle.pciv_bytes.specs.Ranges.{table, positions}
 use Rattle.pciv_format.specs.Layout.{fileLen, inOverflow, overflowCount, at, fileOf, summaryOf}
 use Rattle.pciv_format.specs.Refusals.{Outcome, done, refused, refuse, refuseIf, andThen, written, fileAnswer}
-use Rattle.pciv_format.specs.Check.{nField, kField, checkBuffer}
+use Rattle.pciv_format.specs.Check.{nField, kField, countsBuffer}
 use Rattle.pciv_format.specs.Read.{listOf}
 use Rattle.pciv_format.specs.declared.Summary.{Summary}
 use Rattle.pciv_format.specs.declared.Refusal.{Refusal}
@@ -61,7 +61,7 @@ unfoldable pub editedFile : List ℕ → List ℕ
 editedFile b = take (fileLen (nField b) (kField b)) b
 
 unfoldable pub editOutcome : List ℕ → Edit → Outcome Summary
-editOutcome b e = andThen (checkBuffer 1 b) (λ s. plainOutcome (listOf (editedFile b)) (length b) e)
+editOutcome b e = andThen (countsBuffer 1 b) (λ s. plainOutcome (listOf (editedFile b)) (length b) e)
 
 -- the file of y in the place of the file of x: what it leaves free becomes 0, and bytes past both stay
 unfoldable pub replaced : List ℕ → List ℕ → List ℕ → List ℕ
@@ -197,17 +197,17 @@ RunLimits R z b (e ∷ es) = StepLimits R (z .list) b e × RunLimits R (plainSte
 
 -- how many numbers an answer is
 abbrev pub answerLen : ℕ
-answerLen = 9
+answerLen = 10
 
 -- a refusal and a summary, one of which is all 0, and the number of entries moved
 abbrev pub cellsOf : Refusal → Summary → ℕ → List ℕ
-cellsOf r s moved = r .number ∷ r .map ∷ r .place ∷ s .n ∷ s .k ∷ s .m ∷ s .step ∷ s .len ∷ moved ∷ []
+cellsOf r s moved = r .number ∷ r .map ∷ r .place ∷ s .n ∷ s .k ∷ s .m ∷ s .step ∷ s .len ∷ s .sum ∷ moved ∷ []
 
 abbrev pub noRefusal : Refusal
 noRefusal = record { number = 0; map = 0; place = 0 }
 
 abbrev pub noSummary : Summary
-noSummary = record { n = 0; k = 0; m = 0; step = 0; len = 0 }
+noSummary = record { n = 0; k = 0; m = 0; step = 0; len = 0; sum = 0 }
 
 unfoldable pub answerCells : Outcome Summary → ℕ → List ℕ
 answerCells (done s) moved = cellsOf noRefusal s moved
@@ -227,7 +227,7 @@ editsOf slots distances = table (λ (j : ℕ). record { slot = at slots j; dista
 -- 9 for lists of unequal length is chosen here: the format's source has no such case
 unfoldable pub editListOutcome : List ℕ → List ℕ → List ℕ → ℕ → Outcome ℕ
 editListOutcome b slots distances capacity =
-    andThen (checkBuffer 1 b)
+    andThen (countsBuffer 1 b)
     (λ s.
     refuseIf (not (eqb (length slots) (length distances))) (refuse 9 0 (min (length slots) (length distances)))
     (refuseIf (ltb capacity (answerLen * length slots)) (refuse 12 0 0) (done (length slots))))

@@ -10,7 +10,10 @@
 --   overflowPart n v     their entries, each an overflowEntry v s
 --   indexPart ss         the sparse index of overflow slots ss, each an indexEntry ss step i
 --   magic, header n k    the first eight bytes as a number; the header
---   file n v, fileOf xs  the whole file;  summary n v, summaryOf xs  its counts;  countsOf n k  those of n and k
+--   file n v, fileOf xs  the whole file
+--   countsOf n k, listCounts xs    the counts of a file with n slots and k overflow entries; of the file of a list
+--   summarize c sum      the summary with the counts c and the sum of all distances
+--   summary n v, summaryOf xs    the summary of a file
 --   Limits xs            a list that a file can hold
 -- Laws are in proofs/LayoutLaws.antt. Axioms: none.
 use Prim.Native.Nat.{ℕ, _+_, _*_, _≤_, _<_}
@@ -18,8 +21,9 @@ use mathlib.Core.Bool.{Bool, cond}
 use mathlib.Core.List.{List, _++_}
 use lib.ListN.{length, getD}
 use lib.Dec.{ltb, leb, eqb}
-use Rattle.pciv_bytes.specs.Ranges.{ceilDiv, table, positions, joined}
+use Rattle.pciv_bytes.specs.Ranges.{ceilDiv, table, positions, joined, sumFrom}
 use Rattle.pciv_bytes.specs.LittleEndian.{le}
+use Rattle.pciv_format.specs.declared.Counts.{Counts}
 use Rattle.pciv_format.specs.declared.Summary.{Summary}
 
 -- the most slots, and the largest distance
@@ -86,12 +90,16 @@ header n k = le 8 magic ++ (le 8 n ++ (le 8 k ++ (le 8 (indexLen k) ++ le 8 (ind
 unfoldable pub file : ℕ → (ℕ → ℕ) → List ℕ
 file n v = header n (overflowCount n v) ++ (primary n v ++ (overflowPart n v ++ indexPart (overflowSlots n v)))
 
--- the summary of a file with n slots and k overflow entries
-unfoldable pub countsOf : ℕ → ℕ → Summary
+-- the counts of a file with n slots and k overflow entries
+unfoldable pub countsOf : ℕ → ℕ → Counts
 countsOf n k = record { n = n; k = k; m = indexLen k; step = indexStep k; len = fileLen n k }
 
+-- the counts, and behind them the sum of all distances
+abbrev pub summarize : Counts → ℕ → Summary
+summarize c sum = record { n = c .n; k = c .k; m = c .m; step = c .step; len = c .len; sum = sum }
+
 unfoldable pub summary : ℕ → (ℕ → ℕ) → Summary
-summary n v = countsOf n (overflowCount n v)
+summary n v = summarize (countsOf n (overflowCount n v)) (sumFrom v 0 n)
 
 -- ---- of a list
 
@@ -100,6 +108,9 @@ at xs i = getD xs i 0
 
 abbrev pub fileOf : List ℕ → List ℕ
 fileOf xs = file (length xs) (at xs)
+
+abbrev pub listCounts : List ℕ → Counts
+listCounts xs = countsOf (length xs) (overflowCount (length xs) (at xs))
 
 abbrev pub summaryOf : List ℕ → Summary
 summaryOf xs = summary (length xs) (at xs)

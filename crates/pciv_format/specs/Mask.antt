@@ -21,7 +21,7 @@ use lib.Dec.{ltb, leb, eqb}
 use Rattle.pciv_bytes.specs.Ranges.{flag, ceilDiv, firstFrom, table, sumFrom}
 use Rattle.pciv_format.specs.Layout.{maxSlots, at}
 use Rattle.pciv_format.specs.Refusals.{Outcome, done, refuse, refuseIf, andThen, written}
-use Rattle.pciv_format.specs.Check.{checkFile}
+use Rattle.pciv_format.specs.Check.{countsFile}
 use Rattle.pciv_format.specs.Read.{listOf, itemsInto}
 use Rattle.pciv_format.specs.Write.{mapInto, fileBuffer}
 use Rattle.pciv_format.specs.declared.Summary.{Summary}
@@ -66,7 +66,7 @@ holds AtLeast x t = leb t x
 
 -- a mask of the slots of b into a list of `capacity` words
 abbrev pub selectOutcome : List ℕ → ℕ → Outcome ℕ
-selectOutcome b capacity = andThen (checkFile 1 b) (λ s. itemsInto (maskLen (s .n)) capacity)
+selectOutcome b capacity = andThen (countsFile 1 b) (λ s. itemsInto (maskLen (s .n)) capacity)
 
 abbrev pub selectWords : (ℕ → Bool) → List ℕ → List ℕ → List ℕ
 selectWords p b out =
@@ -138,7 +138,7 @@ mapOfMaskBuffer n ws out = fileBuffer (mapOfMaskOutcome n ws (length out)) n (ma
 -- the map of f at each slot's set bit and distance
 abbrev pub maskedOutcome : (Bool → ℕ → ℕ) → List ℕ → List ℕ → ℕ → Outcome Summary
 maskedOutcome f b ws capacity =
-    andThen (checkFile 1 b)
+    andThen (countsFile 1 b)
     (λ s. refuseIf (badMask (s .n) ws) (refuse 13 0 0) (mapInto (s .n) (λ i. f (maskHas ws i) (at (listOf b) i)) capacity))
 
 abbrev pub maskedBuffer : (Bool → ℕ → ℕ) → List ℕ → List ℕ → List ℕ → List ℕ

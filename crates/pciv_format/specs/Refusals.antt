@@ -7,7 +7,7 @@
 --   andThen o f                  f of what o is done with; a refusal stays
 --   written o f d                a buffer or list d after the outcome o of writing f: f and then what stood behind
 --                                it, or d unchanged after a refusal
---   fileAnswer, numberAnswer, lookupAnswer, figureAnswer
+--   countsAnswer, fileAnswer, numberAnswer, lookupAnswer, figureAnswer
 --                                the outcome as a value of the answer's type
 -- Laws are in proofs/RefusalsLaws.antt. Axioms: none.
 use Prim.Native.Nat.{ℕ}
@@ -17,8 +17,11 @@ use lib.ListN.{length, drop}
 use lib.Dec.{ltb}
 use lib.Ieee.{Float}
 use Rattle.pciv_bytes.specs.Ranges.{firstBelow}
+use Rattle.pciv_format.specs.declared.Counts.{Counts}
 use Rattle.pciv_format.specs.declared.Summary.{Summary}
 use Rattle.pciv_format.specs.declared.Refusal.{Refusal}
+use Rattle.pciv_format.specs.declared.CountsAnswer.{CountsAnswer}
+use Rattle.pciv_format.specs.declared.CountsAnswer.the-variants as InCounts
 use Rattle.pciv_format.specs.declared.FileAnswer.{FileAnswer}
 use Rattle.pciv_format.specs.declared.FileAnswer.the-variants as InFile
 use Rattle.pciv_format.specs.declared.NumberAnswer.{NumberAnswer}
@@ -55,6 +58,10 @@ module _ {A B : Type 0} where
   written (refused r) f d = d
 
 -- ---- as the answers' types: each case's number and values
+
+abbrev pub countsAnswer : Outcome Counts → CountsAnswer
+countsAnswer (done c) = InCounts.Counted c
+countsAnswer (refused r) = InCounts.Refused r
 
 abbrev pub fileAnswer : Outcome Summary → FileAnswer
 fileAnswer (done s) = InFile.Done s

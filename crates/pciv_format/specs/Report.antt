@@ -14,8 +14,7 @@ use mathlib.Core.List.{List, [], _∷_, _++_}
 use lib.ListN.{length}
 use lib.Dec.{ltb}
 use Rattle.pciv_format.specs.Refusals.{Outcome, done, refused, refuse, refuseIf, written}
-use Rattle.pciv_format.specs.Check.{checkFile}
-use Rattle.pciv_format.specs.Read.{listOf, total, readings, itemsInto}
+use Rattle.pciv_format.specs.Read.{listOf, total, readings, checkFile, itemsInto}
 use Rattle.pciv_format.specs.declared.Summary.{Summary}
 use Rattle.pciv_format.specs.declared.Refusal.{Refusal}
 
@@ -64,7 +63,7 @@ mapWord = 109 ∷ 97 ∷ 112 ∷ []
 abbrev pub placeWord : List ℕ
 placeWord = 112 ∷ 108 ∷ 97 ∷ 99 ∷ 101 ∷ []
 
--- the report of a map with the counts s: six lines
+-- the report of a map with the summary s, its sum and the number of readings: six lines
 unfoldable pub mapLines : Summary → ℕ → ℕ → List ℕ
 mapLines s sum count =
     line (field slotsWord (s .n))

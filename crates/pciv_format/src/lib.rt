@@ -16,7 +16,7 @@ pub const MAX_DISTANCE: u32 = 4294967295;
 // Up to this many overflow entries a file has no sparse index.
 pub const UNINDEXED_MAX: usize = 2048;
 // How many numbers an answer of a run of edits is.
-pub const ANSWER_LEN: usize = 9;
+pub const ANSWER_LEN: usize = 10;
 
 // The refusals' numbers.
 pub const TRUNCATED_HEADER: usize = 1;
@@ -46,7 +46,7 @@ pub const BUFFER_TOO_SMALL: usize = 12;
 pub const BAD_MASK: usize = 13;
 
 // The counts of a file: slots, overflow entries, index entries, the index's step, and its length in bytes.
-pub struct Summary {
+pub struct Counts {
     pub n: usize,
     pub k: usize,
     pub m: usize,
@@ -54,11 +54,27 @@ pub struct Summary {
     pub len: usize,
 }
 
+// The summary of a file: its counts, and the sum of all its distances.
+pub struct Summary {
+    pub n: usize,
+    pub k: usize,
+    pub m: usize,
+    pub step: usize,
+    pub len: usize,
+    pub sum: usize,
+}
+
 // Why a call is refused: the refusal's number, the map at fault (1 or 2, else 0) and the place.
 pub struct Refusal {
     pub number: usize,
     pub map: usize,
     pub place: usize,
+}
+
+// The answer of a check without the sum, and of the beginning of a file: the file's counts.
+pub enum CountsAnswer {
+    Counted(Counts),
+    Refused(Refusal),
 }
 
 // The answer of a check, and of every routine that writes a file: the file's summary.

@@ -1,29 +1,44 @@
-// What the layout derives from n slots and k overflow entries: counts, lengths, the summary (docs/FORMAT.md, "Derived
-// counts"); the primary byte of a distance; the test of an overflow entry; refusals as answers.
+// What the layout derives from n slots and k overflow entries: counts, lengths (docs/FORMAT.md, "Derived counts"); a
+// summary of its parts; the primary byte of a distance; the test of an overflow entry; refusals as answers.
 pub mod entries;
 pub mod refusals;
 
 ghost use mathlib.Core.Path.{_≡_};
 ghost use Prim.Native.Nat.{_≤_, _+_, _^_, _<_};
-ghost use Rattle.pciv_format.specs.Layout.{maxSlots, countsOf, primaryByte, indexStep, indexLen, fileLen};
+ghost use Rattle.pciv_format.specs.Layout.{maxSlots, countsOf, summarize, primaryByte, indexStep, indexLen, fileLen};
 ghost use Rattle.pciv_bytes.specs.Ranges.{ceilDiv};
 ghost use Rattle.pciv_format.specs.Mask.{maskLen};
+use pciv_format::Counts;
 use pciv_format::HEADER_LEN;
 use pciv_format::SENTINEL;
 use pciv_format::Summary;
 use pciv_format::UNINDEXED_MAX;
 
-// The summary of a file with n slots and k overflow entries.
-pub fn summary_of(n: usize, k: usize) -> Summary
+// The counts of a file with n slots and k overflow entries.
+pub fn counts_of(n: usize, k: usize) -> Counts
     requires { ⌜ (n ≤ maxSlots) × (k ≤ n) ⌝ }
     ensures { λ r. ⌜ r ≡ countsOf n k ⌝ }
 {
-    Summary {
+    Counts {
         n,
         k,
         m: index_len(k),
         step: index_step(k),
         len: file_len(n, k),
+    }
+}
+
+// The summary with these counts and the sum of all distances.
+pub fn summarized(counts: Counts, sum: usize) -> Summary
+    ensures { λ r. ⌜ r ≡ summarize counts sum ⌝ }
+{
+    Summary {
+        n: counts.n,
+        k: counts.k,
+        m: counts.m,
+        step: counts.step,
+        len: counts.len,
+        sum,
     }
 }
 

@@ -1,11 +1,19 @@
 // Refusals as answers, by number, map and place (docs/FORMAT.md, "Refusals").
 ghost use mathlib.Core.Path.{_≡_};
-ghost use Rattle.pciv_format.specs.Refusals.{refuse, fileAnswer, numberAnswer};
+ghost use Rattle.pciv_format.specs.Refusals.{refuse, countsAnswer, fileAnswer, numberAnswer};
+use pciv_format::CountsAnswer;
 use pciv_format::FileAnswer;
 use pciv_format::NumberAnswer;
 use pciv_format::Refusal;
 
-// Of a check, or of a routine that writes a file.
+// Of a check without the sum, or of the beginning of a file.
+pub fn refuse_counts(number: usize, map: usize, place: usize) -> CountsAnswer
+    ensures { λ r. ⌜ r ≡ countsAnswer (refuse number map place) ⌝ }
+{
+    CountsAnswer::Refused(Refusal { number, map, place })
+}
+
+// Of a routine that writes a file.
 pub fn refuse_file(number: usize, map: usize, place: usize) -> FileAnswer
     ensures { λ r. ⌜ r ≡ fileAnswer (refuse number map place) ⌝ }
 {

@@ -15,11 +15,12 @@ use Rattle.pciv_bytes.proofs.RangesLaws.{flag-le}
 use Rattle.pciv_format.specs.Layout.{maxSlots, at}
 use Rattle.pciv_format.specs.Refusals.{Outcome, done, refused, refuse, fileAnswer}
 use Rattle.pciv_format.specs.Parts.{valueOf}
-use Rattle.pciv_format.specs.Check.{fileParts, checkFile, CheckedMap}
+use Rattle.pciv_format.specs.Check.{fileParts, countsFile, CheckedMap}
 use Rattle.pciv_format.specs.Read.{listOf}
 use Rattle.pciv_format.specs.Write.{fileInto, mapInto, fileBuffer}
 use Rattle.pciv_format.specs.Mask.{maskHas, badMask, maskValue, mapOfMaskOutcome, mapOfMaskBuffer}
 use Rattle.pciv_format.specs.Mask.{maskedOutcome, maskedBuffer}
+use Rattle.pciv_format.specs.declared.Counts.{Counts}
 use Rattle.pciv_format.specs.declared.Summary.{Summary}
 use Rattle.pciv_format.specs.declared.Refusal.{Refusal}
 use Rattle.pciv_format.specs.declared.FileAnswer.{FileAnswer}
@@ -59,7 +60,7 @@ module _ (n : ℕ) (ws : List ℕ) where
 -- ---- what a mask makes of a map
 
 module _ (f : Bool → ℕ → ℕ) (b ws : List ℕ) where
-  pub masked-refused : (r : Refusal) → checkFile 1 b ≡ refused r → (capacity : ℕ)
+  pub masked-refused : (r : Refusal) → countsFile 1 b ≡ refused r → (capacity : ℕ)
       → maskedOutcome f b ws capacity ≡ refused r
   masked-refused r e capacity = rw e
 
@@ -68,7 +69,7 @@ module _ (f : Bool → ℕ → ℕ) (b ws : List ℕ) where
   masked-kept out r e =
       ap (λ (o : Outcome Summary). fileBuffer o (length (listOf b)) (λ i. f (maskHas ws i) (at (listOf b) i)) out) e
 
-  module _ (s : Summary) (e : checkFile 1 b ≡ done s) where
+  module _ (s : Counts) (e : countsFile 1 b ≡ done s) where
     pub masked-bad : badMask (s .n) ws ≡ true → (capacity : ℕ) → maskedOutcome f b ws capacity ≡ refuse 13 0 0
     masked-bad bad capacity = rw (e, bad)
 

@@ -14,18 +14,22 @@ ghost use Rattle.pciv_format.specs.Mask.{incrementMaskedOutcome, incrementMaske
 ghost use Rattle.pciv_format.specs.Words.{IsMask};
 ghost use Rattle.pciv_mask_primary.specs.Masked.{maskedOf};
 use crate::masked::masked_into;
+use pciv_bits::masks::count_bits;
 use pciv_bits::masks::is_mask;
 use pciv_build::begin;
-use pciv_check::check;
+use pciv_check::check_counts;
 use pciv_format::BAD_MASK;
+use pciv_format::CountsAnswer;
 use pciv_format::FileAnswer;
 use pciv_format::MAX_SLOTS;
 use pciv_format::TOO_MANY_SLOTS;
 use pciv_layout::refusals::refuse_file;
+use pciv_layout::summarized;
 use pciv_mask_bytes::bits::put_bits;
 use pciv_mask_primary::MaskedOp;
 
-// Writes the file of a mask as a map of 0 and 1, which has no overflow entry and no index. Refusal: 12.
+// Writes the file of a mask as a map of 0 and 1, which has no overflow entry and no index. Its sum is the number of set
+// bits. Refusal: 12.
 fn bits_into(n: usize, words: &[u64], out: &mut [u8]) -> FileAnswer
     requires { ⌜ n ≤ maxSlots ⌝ }
     requires { ⌜ IsMask n (now words) ⌝ }
@@ -34,10 +38,10 @@ fn bits_into(n: usize, words: &[u64], out: &mut [u8]) -> FileAnswer
 {
     let begun = begin(out, n, 0);
     match begun {
-        FileAnswer::Refused(r) => FileAnswer::Refused(r),
-        FileAnswer::Done(s) => {
+        CountsAnswer::Refused(r) => FileAnswer::Refused(r),
+        CountsAnswer::Counted(c) => {
             put_bits(out, n, words);
-            FileAnswer::Done(s)
+            FileAnswer::Done(summarized(c, count_bits(words)))
         }
     }
 }
@@ -62,10 +66,10 @@ fn mask_map(op: MaskedOp, file: &[u8], words: &[u64], out: &mut [u8]) -> FileAns
     ensures answer { λ r. ⌜ r ≡ fileAnswer (maskedOutcome (maskedOf op) (now (file .entry)) (now (words .entry)) (length (now (out .entry)))) ⌝ }
     ensures buffer { λ _. ⌜ now (out .exit) ≡ maskedBuffer (maskedOf op) (now (file .entry)) (now (words .entry)) (now (out .entry)) ⌝ }
 {
-    let checked = check(file);
+    let checked = check_counts(file, 1);
     match checked {
-        FileAnswer::Refused(r) => FileAnswer::Refused(r),
-        FileAnswer::Done(s) => {
+        CountsAnswer::Refused(r) => FileAnswer::Refused(r),
+        CountsAnswer::Counted(s) => {
             let n = s.n;
             let k = s.k;
             if !is_mask(n, words) {

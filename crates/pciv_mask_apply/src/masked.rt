@@ -17,10 +17,11 @@ use crate::kept::count_kept;
 use crate::kept::put_kept;
 use pciv_build::begin;
 use pciv_build::finish;
+use pciv_format::CountsAnswer;
 use pciv_format::DISTANCE_OVERFLOW;
 use pciv_format::FileAnswer;
-use pciv_format::Refusal;
 use pciv_layout::refusals::refuse_file;
+use pciv_map::totals::summary_of;
 use pciv_mask_increment::count_incremented;
 use pciv_mask_increment::first_too_large;
 use pciv_mask_increment::put_incremented;
@@ -96,12 +97,12 @@ pub(crate) fn masked_into(
     let count = count_overflow(op, file, n, k, words);
     let begun = begin(out, n, count);
     match begun {
-        FileAnswer::Refused(r) => FileAnswer::Refused(r),
-        FileAnswer::Done(s) => {
+        CountsAnswer::Refused(r) => FileAnswer::Refused(r),
+        CountsAnswer::Counted(c) => {
             put_primary(out, op, file, n, k, words);
             put_entries(out, op, file, n, k, words, count);
             finish(out, n, count);
-            FileAnswer::Done(s)
+            FileAnswer::Done(summary_of(out, c))
         }
     }
 }

@@ -2,7 +2,6 @@
 --   combined-words, flipped-words    the words of and, or, exclusive or, and of not, are those of a mask
 --   flip-full, -last    not, of a word that the slots fill, and of the last one where they do not
 --   one-bit-pos         a single bit is not 0
---   setBits-all         the set bits of all words are those of the slots
 -- Axioms: none.
 use mathlib.Core.Path.{_≡_, refl, sym, ap, ap₂, _∙_}
 use Prim.Native.Nat.{ℕ, zero, suc, _+_, _-_, _*_, _/_, _%_, _^_, _≤_, _<_, min, max}
@@ -10,16 +9,16 @@ use native.Mathlib.Nat.{pow-suc, one-mul, mod-eq-of-lt}
 use native.Mathlib.Omega.{arith}
 use mathlib.Core.Bool.{Bool, true, false, not, xor}
 use mathlib.Core.List.{List}
-use lib.ListN.{length, getD}
+use lib.ListN.{getD}
 use lib.Bits.{bitXor, differ, and-lt, or-lt, xor-lt}
 use lib.Pow.{pow-pos, pow-lt, pow-mono}
-use Rattle.pciv_bytes.specs.Ranges.{flag, table, sumFrom}
-use Rattle.pciv_format.specs.Mask.{maskLen, bitAt, maskHas, word, maskOf, combined, setBits}
+use Rattle.pciv_bytes.specs.Ranges.{flag, table}
+use Rattle.pciv_format.specs.Mask.{maskLen, bitAt, maskHas, word, maskOf, combined}
 use Rattle.pciv_format.specs.declared.MaskOp.{MaskOp}
 use Rattle.pciv_format.specs.declared.MaskOp.the-variants.{And, Or, Xor}
 use Rattle.pciv_format.specs.Words.{Words, IsMask}
 use Rattle.pciv_format.proofs.BitLaws.{bitAt-and, bitAt-or, bitAt-xor, bitAt-word, bitAt-word-past}
-use Rattle.pciv_format.proofs.MaskLaws.{flag-maskHas, sum-slots, table-maskOf}
+use Rattle.pciv_format.proofs.MaskLaws.{flag-maskHas, table-maskOf}
 use Rattle.pciv_mask_logic.specs.Logic.{bitOp, opAt, lowBits, flipAt}
 
 -- ---- and, or, exclusive or
@@ -133,11 +132,3 @@ flip-last n ws w last =
     let e : n % 64 ≡ min 64 (n - 64 * w) = omega arith in
     ap (λ (x : ℕ). bitXor (getD ws w 0) (x - 1)) (one-bit (n % 64) (omega arith))
     ∙ ap (λ (c : ℕ). bitXor (getD ws w 0) (lowBits c)) e
-
--- ---- set bits
-
--- the bits past n do not count
-pub setBits-all : (n : ℕ) (ws : List ℕ) → IsMask n ws
-    → sumFrom (λ (i : ℕ). flag (maskHas ws i)) 0 (64 * length ws) ≡ setBits n ws
-unfolding setBits
-setBits-all n ws mask = sum-slots mask (λ (i : ℕ). flag (maskHas ws i)) (λ i h. ap flag (mask .past i h))

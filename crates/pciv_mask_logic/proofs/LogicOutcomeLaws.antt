@@ -26,9 +26,9 @@ use Rattle.pciv_format.specs.declared.MaskOp.{MaskOp}
 use Rattle.pciv_format.specs.declared.Refusal.{Refusal}
 use Rattle.pciv_format.proofs.RefusalsLaws.{refuseIf-done}
 use Rattle.pciv_format.specs.Words.{Words, IsMask}
-use Rattle.pciv_format.proofs.MaskLaws.{or-false, badMask-good, good-badMask, length-maskOf}
+use Rattle.pciv_format.proofs.MaskLaws.{or-false, badMask-good, good-badMask, length-maskOf, setBits-sum}
 use Rattle.pciv_mask_logic.specs.Logic.{opAt, flipAt}
-use Rattle.pciv_mask_logic.proofs.LogicLaws.{combined-words, flipped-words, setBits-all}
+use Rattle.pciv_mask_logic.proofs.LogicLaws.{combined-words, flipped-words}
 
 -- ---- too many slots, then a mask at fault, then what follows
 
@@ -160,7 +160,7 @@ module _ (n : ℕ) (ws : List ℕ) where
 
     pub setBits-done : IsMask n ws
         → setBitsOutcome n ws ≡ done (sumFrom (λ (i : ℕ). flag (maskHas ws i)) 0 (64 * length ws))
-    unfolding setBitsOutcome
+    unfolding setBitsOutcome setBits
     setBits-done mask =
         masks-good n (badMask n ws) (done (setBits n ws)) few (good-badMask n ws mask)
-        ∙ ap done (sym (setBits-all n ws mask))
+        ∙ ap done (sym (setBits-sum n ws mask))

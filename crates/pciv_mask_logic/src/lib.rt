@@ -3,18 +3,18 @@
 // result in the caller's list stays as it was.
 ghost use mathlib.Core.Path.{_≡_};
 ghost use mathlib.Core.Bool.{not};
-ghost use Prim.Native.Nat.{ℕ, _*_, _≤_};
-ghost use lib.Count.{ones};
+ghost use Prim.Native.Nat.{_≤_};
 ghost use lib.ListN.{length};
 ghost use lib.Seq.{sets};
-ghost use Rattle.pciv_bytes.specs.Ranges.{flag, table, sumFrom};
+ghost use Rattle.pciv_bytes.specs.Ranges.{table};
 ghost use Rattle.pciv_format.specs.Refusals.{numberAnswer};
 ghost use Rattle.pciv_format.specs.Read.{itemsInto};
-ghost use Rattle.pciv_format.specs.Mask.{maskLen, maskHas, refuseMasks, combineOutcome, combineWords};
+ghost use Rattle.pciv_format.specs.Mask.{maskLen, refuseMasks, combineOutcome, combineWords};
 ghost use Rattle.pciv_format.specs.Mask.{complementOutcome, complementWords, setBitsOutcome};
 ghost use Rattle.pciv_format.specs.declared.MaskOp.the-variants.{And, Or, Xor};
 ghost use Rattle.pciv_mask_logic.specs.Logic.{bitOp, opAt, flipAt};
 use pciv_bits::masks::ALL_BITS;
+use pciv_bits::masks::count_bits;
 use pciv_bits::masks::is_mask;
 use pciv_format::BAD_MASK;
 use pciv_format::BUFFER_TOO_SMALL;
@@ -135,27 +135,6 @@ pub fn complement(n: usize, words: &[u64], out: &mut [u64]) -> NumberAnswer
             answer
         }
     }
-}
-
-// The set bits of a word.
-fn count_word(x: u64) -> usize
-    ensures { λ r. ⌜ (r ≡ ones x) × (r ≤ 64) ⌝ }
-{
-    u64::count_ones(x) as usize
-}
-
-// The set bits of all words.
-fn count_bits(words: &[u64]) -> usize
-    requires { ⌜ length (now words) ≤ 16384 ⌝ }
-    ensures { λ r. ⌜ r ≡ sumFrom (λ (i : ℕ). flag (maskHas (now (words .entry)) i)) 0 (64 * length (now (words .entry))) ⌝ }
-{
-    let mut sum: usize = 0;
-    let mut i = 0;
-    while i < words.len() {
-        sum += count_word(words[i]);
-        i += 1;
-    }
-    sum
 }
 
 // The number of set bits. Refusals: 3 with map 1, then 13.

@@ -22,10 +22,10 @@ use Rattle.pciv_bytes.proofs.WriteLaws.{sets-front}
 use Rattle.pciv_format.specs.Layout.{at}
 use Rattle.pciv_format.specs.Refusals.{Outcome, done, refused, refuse, written}
 use Rattle.pciv_format.specs.Parts.{Parts, valueOf, SoundParts}
-use Rattle.pciv_format.specs.Check.{checkFile, fileParts, CheckedMap}
+use Rattle.pciv_format.specs.Check.{countsFile, fileParts, CheckedMap}
 use Rattle.pciv_format.specs.Read.{listOf}
 use Rattle.pciv_format.specs.Mask.{maskLen, maskOf, holds, isNear, selectOutcome, selectWords}
-use Rattle.pciv_format.specs.declared.Summary.{Summary}
+use Rattle.pciv_format.specs.declared.Counts.{Counts}
 use Rattle.pciv_format.specs.declared.Refusal.{Refusal}
 use Rattle.pciv_format.specs.declared.Comparison.{Comparison}
 use Rattle.pciv_format.specs.declared.Comparison.the-variants.{Below, AtMost, Above, AtLeast}
@@ -121,13 +121,13 @@ module _ (p : ℕ → Bool) (b out : List ℕ) where
 
 -- ---- the file is refused
 
-pub select-refused : (b : List ℕ) (r : Refusal) → checkFile 1 b ≡ refused r
+pub select-refused : (b : List ℕ) (r : Refusal) → countsFile 1 b ≡ refused r
     → (capacity : ℕ) → selectOutcome b capacity ≡ refused r
 select-refused b r e capacity = rw e
 
 -- ---- the file is a map
 
-module _ (b : List ℕ) (s : Summary) (e : checkFile 1 b ≡ done s) where
+module _ (b : List ℕ) (s : Counts) (e : countsFile 1 b ≡ done s) where
   pub select-short : (capacity : ℕ) → capacity < maskLen (s .n) → selectOutcome b capacity ≡ refuse 12 0 0
   select-short capacity h = rw e (items-short (maskLen (s .n)) capacity h)
 

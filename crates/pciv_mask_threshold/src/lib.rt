@@ -18,10 +18,10 @@ use crate::entries::flip_entries;
 use pciv_bits::flags::fill;
 use pciv_bits::flags::flags_into;
 use pciv_bits::flags::near_into;
-use pciv_check::check;
+use pciv_check::check_counts;
 use pciv_format::BUFFER_TOO_SMALL;
 use pciv_format::Comparison;
-use pciv_format::FileAnswer;
+use pciv_format::CountsAnswer;
 use pciv_format::HEADER_LEN;
 use pciv_format::NumberAnswer;
 use pciv_format::SENTINEL;
@@ -131,10 +131,10 @@ fn select(file: &[u8], asked: Asked, out: &mut [u64]) -> NumberAnswer
     ensures answer { λ r. ⌜ r ≡ numberAnswer (selectOutcome (now (file .entry)) (length (now (out .entry)))) ⌝ }
     ensures words { λ _. ⌜ now (out .exit) ≡ selectWords (askedOf asked) (now (file .entry)) (now (out .entry)) ⌝ }
 {
-    let checked = check(file);
+    let checked = check_counts(file, 1);
     match checked {
-        FileAnswer::Refused(r) => NumberAnswer::Refused(r),
-        FileAnswer::Done(s) => {
+        CountsAnswer::Refused(r) => NumberAnswer::Refused(r),
+        CountsAnswer::Counted(s) => {
             let n = s.n;
             let k = s.k;
             let count = mask_len(n);

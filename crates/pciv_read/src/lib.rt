@@ -13,7 +13,9 @@ ghost use Rattle.pciv_format.specs.Read.{lookupListOutcome, lookupListBuffer, l
 ghost use Rattle.pciv_format.specs.Read.{scanOutcome, scanBuffer};
 ghost use Rattle.pciv_format.specs.Read.{sumOutcome, readingsOutcome};
 use pciv_check::check;
+use pciv_check::check_counts;
 use pciv_format::BUFFER_TOO_SMALL;
+use pciv_format::CountsAnswer;
 use pciv_format::FileAnswer;
 use pciv_format::HEADER_LEN;
 use pciv_format::LookupAnswer;
@@ -23,7 +25,6 @@ use pciv_format::SLOT_OUT_OF_RANGE;
 use pciv_layout::refusals::refuse_number;
 use pciv_map::scan::scan_into;
 use pciv_map::totals::readings_of;
-use pciv_map::totals::sum_of;
 use pciv_map_lookup::list::locate_into;
 use pciv_map_lookup::locate;
 
@@ -43,10 +44,10 @@ pub fn primary(file: &[u8]) -> &[u8]
     ensures part { λ r. ⌜ now r ≡ primaryPart (now (file .entry)) ⌝ }
     ensures place { λ r. ⌜ ptr r ≡ primaryPlace (now (file .entry)) (ptr (file .entry)) ⌝ }
 {
-    let checked = check(file);
+    let checked = check_counts(file, 1);
     match checked {
-        FileAnswer::Refused(_) => part(file, 0, 0),
-        FileAnswer::Done(s) => {
+        CountsAnswer::Refused(_) => part(file, 0, 0),
+        CountsAnswer::Counted(s) => {
             let n = s.n;
             part(file, HEADER_LEN, n)
         }
@@ -57,10 +58,10 @@ pub fn primary(file: &[u8]) -> &[u8]
 pub fn lookup(file: &[u8], slot: usize) -> LookupAnswer
     ensures answer { λ r. ⌜ r ≡ lookupAnswer (lookupOutcome (now (file .entry)) slot) ⌝ }
 {
-    let checked = check(file);
+    let checked = check_counts(file, 1);
     match checked {
-        FileAnswer::Refused(r) => LookupAnswer::Refused(r),
-        FileAnswer::Done(s) => {
+        CountsAnswer::Refused(r) => LookupAnswer::Refused(r),
+        CountsAnswer::Counted(s) => {
             let n = s.n;
             let k = s.k;
             if n <= slot {
@@ -119,10 +120,10 @@ pub fn lookup_list(
         ≡ lookupListEntries (now (file .entry)) (now (slots .entry))
         (length (now (distances .entry))) (now (entries .entry)) ⌝ }
 {
-    let checked = check(file);
+    let checked = check_counts(file, 1);
     match checked {
-        FileAnswer::Refused(r) => NumberAnswer::Refused(r),
-        FileAnswer::Done(s) => {
+        CountsAnswer::Refused(r) => NumberAnswer::Refused(r),
+        CountsAnswer::Counted(s) => {
             let n = s.n;
             let k = s.k;
             let outside = first_outside(slots, n);
@@ -144,10 +145,10 @@ pub fn scan(file: &[u8], out: &mut [u32]) -> NumberAnswer
     ensures answer { λ r. ⌜ r ≡ numberAnswer (scanOutcome (now (file .entry)) (length (now (out .entry)))) ⌝ }
     ensures buffer { λ _. ⌜ now (out .exit) ≡ scanBuffer (now (file .entry)) (now (out .entry)) ⌝ }
 {
-    let checked = check(file);
+    let checked = check_counts(file, 1);
     match checked {
-        FileAnswer::Refused(r) => NumberAnswer::Refused(r),
-        FileAnswer::Done(s) => {
+        CountsAnswer::Refused(r) => NumberAnswer::Refused(r),
+        CountsAnswer::Counted(s) => {
             let n = s.n;
             let k = s.k;
             if out.len() < n {
@@ -166,11 +167,7 @@ pub fn sum(file: &[u8]) -> NumberAnswer
     let checked = check(file);
     match checked {
         FileAnswer::Refused(r) => NumberAnswer::Refused(r),
-        FileAnswer::Done(s) => {
-            let n = s.n;
-            let k = s.k;
-            NumberAnswer::Number(sum_of(file, n, k))
-        }
+        FileAnswer::Done(s) => NumberAnswer::Number(s.sum),
     }
 }
 
@@ -178,10 +175,10 @@ pub fn sum(file: &[u8]) -> NumberAnswer
 pub fn readings(file: &[u8]) -> NumberAnswer
     ensures answer { λ r. ⌜ r ≡ numberAnswer (readingsOutcome (now (file .entry))) ⌝ }
 {
-    let checked = check(file);
+    let checked = check_counts(file, 1);
     match checked {
-        FileAnswer::Refused(r) => NumberAnswer::Refused(r),
-        FileAnswer::Done(s) => {
+        CountsAnswer::Refused(r) => NumberAnswer::Refused(r),
+        CountsAnswer::Counted(s) => {
             let n = s.n;
             let end = HEADER_LEN + n;
             NumberAnswer::Number(readings_of(&file[HEADER_LEN..end]))

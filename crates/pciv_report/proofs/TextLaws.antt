@@ -2,7 +2,7 @@
 --   put-then           a piece written after another
 --   put-length         writing keeps the length
 --   put-front          what stands at the front of a list after a text was written there
---   reportText-done    an accepted file's text, by the answers of the totals
+--   reportText-done    an accepted file's text, by the check's sum and the answer of `readings`
 -- Axioms: none.
 use mathlib.Core.Path.{_≡_, sym, ap, ap₂, _∙_}
 use Prim.Native.Nat.{ℕ, _≤_}
@@ -13,10 +13,10 @@ use lib.Seq.{sets, length-sets, take-append-seam}
 use borrow.Author.Tests.{le-ltb}
 use Rattle.pciv_bytes.proofs.WriteLaws.{sets-append, sets-front}
 use Rattle.pciv_format.specs.Refusals.{done, numberAnswer}
-use Rattle.pciv_format.specs.Check.{checkFile}
-use Rattle.pciv_format.specs.Read.{sumOutcome, readingsOutcome}
+use Rattle.pciv_format.specs.Read.{checkFile, readingsOutcome}
 use Rattle.pciv_format.specs.Report.{mapLines, reportText}
 use Rattle.pciv_format.specs.declared.Summary.{Summary}
+use Rattle.pciv_format.proofs.SummaryLaws.{counts-refuse-alike}
 use Rattle.pciv_report.specs.Text.{Put, numberOf}
 
 module _ {d e : List ℕ} {p q : ℕ} {a : List ℕ} where
@@ -41,8 +41,10 @@ module _ {d e : List ℕ} {q : ℕ} {a : List ℕ} where
 
 -- ---- the text of an accepted file
 
--- it has the totals that the routines answer
+-- it has the sum of the check, and the count that `readings` answers
 pub reportText-done : (b : List ℕ) (s : Summary) → length b ≤ 65536 → checkFile 1 b ≡ done s
-    → reportText b ≡ mapLines s (numberOf (numberAnswer (sumOutcome b))) (numberOf (numberAnswer (readingsOutcome b)))
-unfolding reportText sumOutcome readingsOutcome
-reportText-done b s short good = rw (le-ltb 65536 (length b) short, good)
+    → reportText b ≡ mapLines s (s .sum) (numberOf (numberAnswer (readingsOutcome b)))
+unfolding reportText readingsOutcome
+reportText-done b s short good =
+    let a = counts-refuse-alike 1 b .1 s .0 good in
+    rw (le-ltb 65536 (length b) short, good, a .0, a .1)

@@ -18,7 +18,6 @@ use pciv_format::NumberAnswer;
 use pciv_format::Refusal;
 use pciv_format::Summary;
 use pciv_read::readings;
-use pciv_read::sum;
 
 // The longest input that is reported on.
 pub const MAX_INPUT: usize = 65536;
@@ -90,7 +89,7 @@ fn put_report(out: &mut [u8], input: &[u8]) -> usize
         return put_refusal(out, TOO_LONG);
     }
     match check(input) {
-        FileAnswer::Done(s) => put_map(out, s, number_of(sum(input)), number_of(readings(input))),
+        FileAnswer::Done(s) => put_map(out, s, s.sum, number_of(readings(input))),
         FileAnswer::Refused(r) => put_refusal(out, r),
     }
 }

@@ -19,10 +19,13 @@ use Rattle.pciv_bytes.specs.LittleEndian.{le, Bytes}
 use Rattle.pciv_bytes.proofs.LittleEndianLaws.{length-le}
 use Rattle.pciv_bytes.proofs.WriteLaws.{sets-append, set-behind, sets-behind, sets-first, sets-swap}
 use Rattle.pciv_format.specs.Layout.{fileLen, primaryByte, primary, overflowSlots, overflowCount}
-use Rattle.pciv_format.specs.Layout.{overflowEntry, overflowPart, indexPart, header, file, countsOf, at, fileOf}
-use Rattle.pciv_format.specs.Refusals.{done}
+use Rattle.pciv_format.specs.Layout.{overflowEntry, overflowPart, indexPart, header, file, countsOf, summarize}
+use Rattle.pciv_format.specs.Layout.{at, fileOf}
+use Rattle.pciv_format.specs.Refusals.{Outcome, done}
 use Rattle.pciv_format.specs.Check.{fileParts}
+use Rattle.pciv_format.specs.Read.{total, withSum}
 use Rattle.pciv_format.specs.Edit.{Edit, edited, replaced, editOutcome, movedBy, editMoved, editBuffer}
+use Rattle.pciv_format.specs.declared.Counts.{Counts}
 use Rattle.pciv_format.proofs.PartsLaws.{primaryByte-inline, primaryByte-overflow}
 use Rattle.pciv_format.proofs.LayoutLaws.{fileLen-is, length-header, length-primary, length-overflowPart}
 use Rattle.pciv_format.proofs.LayoutLaws.{length-file, overflowCount-le}
@@ -101,8 +104,8 @@ rewritten hd P A Z hd' n a s byte h h' hp ha inside =
 -- what follows for an edit after which there are `count` overflow entries
 pub record SlotMoves (b : List ℕ) (n k : ℕ) (e : Edit) (count : ℕ) : Type 0 where
   pub few : count ≤ n
-  -- the answer is that of beginning the new file
-  pub answer : editOutcome b e ≡ beginOutcome n count (length b)
+  -- the answer is that of beginning the new file, with the new sum
+  pub answer : editOutcome b e ≡ withSum (beginOutcome n count (length b)) (total (edited (held b) e))
   pub space : (j : ℕ) → j ≡ entriesBelow (fileParts b n k) (e .slot) → fileLen n count ≤ length b
       → Changes (length b) n k j (e .slot) (e .distance)
   pub entriesMoved : (j : ℕ) → j ≡ entriesBelow (fileParts b n k) (e .slot) → fileLen n count ≤ length b
@@ -352,8 +355,9 @@ module _ (b : List ℕ) (n k : ℕ) (bytes : Bytes b) (e : Edit) (p : EditAt b n
     pub slot-moves : SlotMoves b n k e count
     slot-moves =
         let answer = edit-counted b n k bytes e p count moved-count in
-        let accepted : fileLen n count ≤ length b → editOutcome b e ≡ done (countsOf n count) =
-        λ fits. answer ∙ begin-fits n count b fits .0 in
+        let sum : ℕ = total (edited (held b) e) in
+        let accepted : fileLen n count ≤ length b → editOutcome b e ≡ done (summarize (countsOf n count) sum) =
+        λ fits. answer ∙ ap (λ (o : Outcome Counts). withSum o sum) (begin-fits n count b fits .0) in
         record {
           few = moved-few;
           answer = answer;

@@ -6,9 +6,11 @@
 --   takenOut d n k j slot distance   d with the distance as the slot's byte, and entry j of k taken out
 --   changed                          the one or the other, by the distance
 --   finished d n k count             d with the index of its `count` entries, and zeros where it was longer with k
+--   SummedMap b n k sum              b is a checked map, and sum that of its distances
 --   EditAt b n k slot                b is a checked map, and slot one of its slots
 --   Changes                          what the change asks for, of a buffer of len bytes
 -- Laws are in proofs/ChangeLaws.antt. Axioms: none.
+use mathlib.Core.Path.{_≡_}
 use Prim.Native.Nat.{ℕ, _+_, _-_, _*_, _≤_, _<_}
 use mathlib.Core.Bool.{cond}
 use mathlib.Core.List.{List, _++_}
@@ -18,6 +20,8 @@ use lib.Dec.{ltb}
 use Rattle.pciv_bytes.specs.LittleEndian.{le}
 use Rattle.pciv_format.specs.Layout.{fileLen}
 use Rattle.pciv_format.specs.Check.{CheckedMap}
+use Rattle.pciv_format.specs.Read.{listOf, total}
+use Rattle.pciv_format.specs.Edit.{editedFile}
 use Rattle.pciv_build.specs.Build.{indexFrom}
 
 abbrev pub entryAt : ℕ → ℕ → ℕ
@@ -50,6 +54,10 @@ unfoldable pub finished : List ℕ → ℕ → ℕ → ℕ → List ℕ
 finished d n k count =
     sets (sets d (entryAt n count) (indexFrom d n count)) (fileLen n count)
     (replicate (fileLen n k - fileLen n count) 0)
+
+pub record SummedMap (b : List ℕ) (n k sum : ℕ) : Type 0 where
+  pub checked : CheckedMap b n k
+  pub sumIs : sum ≡ total (listOf (editedFile b))
 
 pub record EditAt (b : List ℕ) (n k slot : ℕ) : Type 0 where
   pub checked : CheckedMap b n k

@@ -15,6 +15,7 @@ use pciv_build::finish;
 use pciv_build::put_entry;
 use pciv_build::slots::put_slots;
 use pciv_bytes::little_endian::get64;
+use pciv_format::CountsAnswer;
 use pciv_format::FileAnswer;
 use pciv_format::HEADER_LEN;
 use pciv_format::MAX_SLOTS;
@@ -22,6 +23,7 @@ use pciv_format::SENTINEL;
 use pciv_format::TOO_MANY_SLOTS;
 use pciv_layout::primary_byte;
 use pciv_layout::refusals::refuse_file;
+use pciv_map::totals::summary_of;
 
 // The least distance that is in overflow.
 const OVERFLOW_MIN: u32 = SENTINEL as u32;
@@ -91,12 +93,12 @@ pub fn write(distances: &[u32], out: &mut [u8]) -> FileAnswer
     let k = count_overflow(distances);
     let begun = begin(out, n, k);
     match begun {
-        FileAnswer::Refused(r) => FileAnswer::Refused(r),
-        FileAnswer::Done(s) => {
+        CountsAnswer::Refused(r) => FileAnswer::Refused(r),
+        CountsAnswer::Counted(c) => {
             put_primary(out, distances);
             put_entries(out, distances, k);
             finish(out, n, k);
-            FileAnswer::Done(s)
+            FileAnswer::Done(summary_of(out, c))
         }
     }
 }

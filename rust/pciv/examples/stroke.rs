@@ -46,8 +46,10 @@ fn stroke(map: &OsStr, distance: u32, out: &OsStr) -> Result<(), Box<dyn Error>>
     }
     let mut file = Vec::new();
     source.read_to_end(&mut file)?;
-    let pciv::Summary { n, k, len, .. } = pciv::check(&file)?;
-    println!("{n} slots, {k} in overflow, {len} bytes");
+    let summary = pciv::check(&file)?;
+    let pciv::Summary { n, k, len, .. } = summary;
+    let mean = mean_distance(&summary);
+    println!("{n} slots, {k} in overflow, {len} bytes, mean {mean:.1} cm");
 
     let mut mask = vec![0; pciv::mask_len(n)];
     pciv::near_mask(&file, distance, &mut mask)?;
@@ -70,9 +72,19 @@ fn stroke(map: &OsStr, distance: u32, out: &OsStr) -> Result<(), Box<dyn Error>>
     }
     let pciv::Edited { summary, moved } = painted?;
     let pciv::Summary { k, len, .. } = summary;
-    let edits = slots.len();
-    println!("{edits} edits: {k} in overflow, {len} bytes, {moved} entries moved");
+    let (edits, mean) = (slots.len(), mean_distance(&summary));
+    println!(
+        "{edits} edits: {k} in overflow, {len} bytes, mean {mean:.1} cm, {moved} entries moved"
+    );
     Ok(())
+}
+
+/// The mean distance in cm, 0 of a map without slots.
+fn mean_distance(summary: &pciv::Summary) -> f64 {
+    match summary.n {
+        0 => 0.0,
+        n => summary.sum as f64 / n as f64,
+    }
 }
 
 fn named(file: &OsStr, what: impl std::fmt::Display) -> String {

@@ -117,15 +117,17 @@ pub fn signed_difference(a: &[u8], b: &[u8], out: &mut [i64]) -> Result<usize, R
 #[cfg(test)]
 mod tests {
     use super::*;
+    use crate::check;
 
     const MAP_A: &[u8] = include_bytes!("../../../examples/map-a.pciv");
 
     #[test]
     fn a_map_with_itself() {
         let mut out = [0; 68];
-        assert_eq!(minimum(MAP_A, MAP_A, &mut out).unwrap().len, 68);
+        assert_eq!(minimum(MAP_A, MAP_A, &mut out), check(MAP_A));
         assert_eq!(out, *MAP_A);
-        assert_eq!(difference(MAP_A, MAP_A, &mut out).unwrap().len, 44);
+        let zeros = difference(MAP_A, MAP_A, &mut out).unwrap();
+        assert_eq!((zeros.len, zeros.sum), (44, 0));
         assert_eq!(out[40..44], [0; 4]);
     }
 

@@ -13,7 +13,7 @@ pub struct Edited {
 }
 
 /// How many numbers an [`EditAnswer`] consists of.
-pub const ANSWER_LEN: usize = 9;
+pub const ANSWER_LEN: usize = 10;
 
 /// The answer to one edit of a list, laid out as in the C interface: `refusal` is all zero where the
 /// edit was made, `summary` and `moved` where it was refused.
@@ -59,7 +59,7 @@ impl EditAnswer {
 /// ```
 /// let mut buffer = *include_bytes!("../../../examples/map-a.pciv");
 /// let pciv::Edited { summary, moved } = pciv::edit(&mut buffer, 2, 254)?;
-/// assert_eq!(summary.len, 56);
+/// assert_eq!((summary.len, summary.sum), (56, 808));
 /// assert_eq!(pciv::primary(&buffer[..56]), [0, 254, 254, 255]);
 /// assert_eq!(buffer[56..], [0; 12]);
 /// // The entry of slot 3, which was the second one, is the first one now.
@@ -87,6 +87,7 @@ pub fn edit(buffer: &mut [u8], slot: u64, distance: u32) -> Result<Edited, Refus
 /// let refusal = answers[1].result().unwrap_err();
 /// assert_eq!(refusal.number, pciv::Refusal::SLOT_OUT_OF_RANGE);
 /// assert_eq!(answers[2].result()?.summary.k, 1);
+/// assert_eq!(answers.map(|answer| answer.summary.sum), [562, 0, 561]);
 /// assert_eq!(answers.map(|answer| answer.moved), [0, 0, 1]);
 ///
 /// let mut distances = [0; 4];

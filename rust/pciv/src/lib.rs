@@ -53,7 +53,22 @@ pub use read::{check, lookup, lookup_list, primary, readings, report, scan, sum,
 pub use refusal::{refusal_text, Refusal};
 pub use write::{close, close_entries, write, Entry};
 
-/// What the header of a sound file says, and the length of the file.
+/// What the header of a sound file says, the length of the file, and the sum of its distances.
+///
+/// The mean distance is `sum / n`; `n` may be 0, and a map without slots has no mean. As an `f64` the
+/// sum is exact: it is below 2^52. Zero distances, where nothing was measured, count among the `n`;
+/// [`readings`] counts the others.
+///
+/// ```
+/// let summary = pciv::check(include_bytes!("../../../examples/map-a.pciv"))?;
+/// assert_eq!((summary.sum, summary.n), (809, 4));
+/// assert_eq!(summary.sum.checked_div(summary.n), Some(202));
+/// assert_eq!(summary.sum as f64 / summary.n as f64, 202.25);
+///
+/// let empty = pciv::write(&[], &mut [0; 40])?;
+/// assert_eq!(empty.sum.checked_div(empty.n), None);
+/// # Ok::<(), pciv::Refusal>(())
+/// ```
 #[repr(C)]
 #[derive(Clone, Copy, Debug, Default, PartialEq, Eq, Hash)]
 pub struct Summary {
@@ -67,6 +82,8 @@ pub struct Summary {
     pub step: u64,
     /// Length of the file in bytes.
     pub len: u64,
+    /// Sum of all distances, 0 where `n` is 0.
+    pub sum: u64,
 }
 
 /// Makes a result of a call in the manner of [`raw`].

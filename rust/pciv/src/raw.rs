@@ -270,7 +270,7 @@ mod c {
 // of them past the call and writes only numbers, and `Summary`, `Refusal` and `Entry` are laid out
 // as in the header.
 const _: () = {
-    assert!(size_of::<Summary>() == 5 * size_of::<u64>());
+    assert!(size_of::<Summary>() == 6 * size_of::<u64>());
     assert!(size_of::<Refusal>() == 3 * size_of::<u64>());
     assert!(size_of::<Entry>() == 16 && offset_of!(Entry, distance) == 8);
 };

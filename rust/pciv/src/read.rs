@@ -7,7 +7,7 @@ use crate::{answer, count, raw, Refusal, Summary};
 /// ```
 /// let file = include_bytes!("../../../examples/map-a.pciv");
 /// let summary = pciv::check(file)?;
-/// assert_eq!((summary.n, summary.k, summary.len), (4, 2, 68));
+/// assert_eq!((summary.n, summary.k, summary.len, summary.sum), (4, 2, 68, 809));
 ///
 /// let truncated = pciv::check(&file[..67]).unwrap_err();
 /// assert_eq!(truncated.number, pciv::Refusal::BAD_LENGTH);
@@ -119,7 +119,7 @@ pub fn scan(file: &[u8], distances: &mut [u32]) -> Result<usize, Refusal> {
     count(|count, refusal| raw::scan(file, distances, count, refusal))
 }
 
-/// The sum of all distances. Refusals 1 to 8.
+/// The sum of all distances, which the [`Summary`] has too. Refusals 1 to 8.
 ///
 /// ```
 /// let file = include_bytes!("../../../examples/map-a.pciv");

@@ -19,7 +19,7 @@ pub struct Entry {
 /// ```
 /// let mut out = [7; 70];
 /// let summary = pciv::write(&[0, 254, 255, 300], &mut out)?;
-/// assert_eq!((summary.n, summary.k, summary.len), (4, 2, 68));
+/// assert_eq!((summary.n, summary.k, summary.len, summary.sum), (4, 2, 68, 809));
 /// assert_eq!(out[..68], *include_bytes!("../../../examples/map-a.pciv"));
 /// assert_eq!(out[68..], [7, 7]);
 /// # Ok::<(), pciv::Refusal>(())

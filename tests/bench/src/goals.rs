@@ -1,7 +1,7 @@
 //! The goals for the speed of each routine, and how the library stands to them.
 //!
 //! A goal that leaves the checks of the files out takes off, on both sides, what the checks alone
-//! take in the same race. Such a difference is a number only where it is well above what its parts
+//! take in the same race, without the sum. Such a difference is a number only where it is well above what its parts
 //! differ by from pass to pass; else the goal cannot be measured, and nothing is said of it.
 
 use crate::own::{self, Recorded};
@@ -128,21 +128,22 @@ enum Of {
     Memcpy,
     /// The library's time by that of SSE2 instructions written by hand; at most the goal.
     Sse2,
-    /// The library's time by its time of [`AT_MOST`] on the same maps; at most the goal.
-    AtMost,
+    /// The library's time by its time of another call on the same maps; at most the goal.
+    Own(&'static str),
 }
 
-/// The mask that near masks are measured by.
-const AT_MOST: &str = "mask_at_most 200";
+/// Near masks are measured by this mask, and edits by the check of the file.
+const AT_MOST: Of = Of::Own("mask_at_most 200");
+const CHECK: Of = Of::Own("check");
 
 impl Of {
-    fn named(self) -> &'static str {
+    fn named(self) -> String {
         match self {
-            Of::Independent => "independent / library",
-            Of::Flat => "best flat / library",
-            Of::Memcpy => "library / memcpy",
-            Of::Sse2 => "library / SSE2 by hand",
-            Of::AtMost => "library / library's mask_at_most 200",
+            Of::Independent => "independent / library".into(),
+            Of::Flat => "best flat / library".into(),
+            Of::Memcpy => "library / memcpy".into(),
+            Of::Sse2 => "library / SSE2 by hand".into(),
+            Of::Own(call) => format!("library / library's {call}"),
         }
     }
 
@@ -198,14 +199,21 @@ const fn noted(note: &'static str, maps: Maps, goal: Goal) -> Goal {
 }
 
 const WITH_CHECKS: &str = ", checks included";
+/// The primary array is a check without the sum, and nothing else.
+const WITHOUT_SUM: &str = ", without the sum";
 
-const GOALS: [Goal; 69] = [
+const GOALS: [Goal; 70] = [
     goal("check", Checks::Kept, Of::Independent, 12.0),
-    goal("check", Checks::Kept, Of::Memcpy, 1.1),
+    goal("check", Checks::Kept, Of::Memcpy, 2.2),
     noted(
         ", 10 % clustered",
         MANY_CLUSTERED,
         goal("check", Checks::Kept, Of::Independent, 4.0),
+    ),
+    noted(
+        WITHOUT_SUM,
+        USUAL,
+        goal("primary", Checks::Kept, Of::Memcpy, 1.1),
     ),
     goal("sum", Checks::Off, Of::Independent, 10.0),
     goal("sum", Checks::Off, Of::Flat, 3.0),
@@ -217,12 +225,12 @@ const GOALS: [Goal; 69] = [
     noted(
         WITH_CHECKS,
         USUAL,
-        goal("near_mask 200", Checks::Kept, Of::AtMost, 1.1),
+        goal("near_mask 200", Checks::Kept, AT_MOST, 1.1),
     ),
     noted(
         WITH_CHECKS,
         USUAL,
-        goal("near_mask 300", Checks::Kept, Of::AtMost, 1.15),
+        goal("near_mask 300", Checks::Kept, AT_MOST, 1.15),
     ),
     goal("minimum", Checks::Off, Of::Independent, 9.0),
     goal("minimum", Checks::Off, Of::Flat, 2.5),
@@ -314,7 +322,7 @@ const GOALS: [Goal; 69] = [
     noted(
         WITH_CHECKS,
         USUAL,
-        goal("edit, inline", Checks::Kept, Of::Memcpy, 1.2),
+        goal("edit, inline", Checks::Kept, CHECK, 1.05),
     ),
     noted(
         WITH_CHECKS,
@@ -324,7 +332,7 @@ const GOALS: [Goal; 69] = [
     noted(
         WITH_CHECKS,
         USUAL,
-        goal("edit, into and out", Checks::Kept, Of::Memcpy, 1.2),
+        goal("edit, into and out", Checks::Kept, CHECK, 1.05),
     ),
     goal("mask_and", Checks::Kept, Of::Independent, 1.0),
     goal("mask_and", Checks::Kept, Of::Memcpy, 1.15),
@@ -360,9 +368,9 @@ impl Goal {
             Of::Flat => Ratio::new(best_flat(row)?.1, library),
             Of::Memcpy => Ratio::new(library, time(row, Who::Memcpy)?),
             Of::Sse2 => Ratio::new(library, time(row, Who::Sse2)?),
-            Of::AtMost => {
-                let at_most = without(table.find(AT_MOST)?, Who::Library, Who::Checks)?;
-                Ratio::new(library, at_most)
+            Of::Own(call) => {
+                let other = without(table.find(call)?, Who::Library, Who::Checks)?;
+                Ratio::new(library, other)
             }
         })
     }
@@ -406,9 +414,9 @@ impl Standing {
     fn cell(&self) -> String {
         let goal = self.goal.goal;
         let name = match self.goal.of {
-            Of::Sse2 => "of SSE2 ",
-            Of::AtMost => "of mask_at_most 200 ",
-            _ => "",
+            Of::Sse2 => "of SSE2 ".into(),
+            Of::Own(call) => format!("of {call} "),
+            _ => String::new(),
         };
         match (self.ratio, self.verdict) {
             (Ratio::Of { value, .. }, Verdict::Short) => {
@@ -473,7 +481,7 @@ pub fn section(standings: &[Standing], own: &[Table], before: &Recorded) -> Stri
             times.map_or(String::from(" | | "), |times| times.cells()),
             cell(|of| of == Of::Independent),
             cell(|of| of == Of::Flat),
-            cell(|of| matches!(of, Of::Memcpy | Of::Sse2 | Of::AtMost)),
+            cell(|of| matches!(of, Of::Memcpy | Of::Sse2 | Of::Own(_))),
         );
     }
     text
@@ -549,7 +557,8 @@ mod tests {
     #[test]
     fn near_masks_are_measured_by_the_mask_for_at_most() {
         let row = |call, library| samples::row(call, library, 100.0, 100.0);
-        let tables = |near| samples::of_rows([row(AT_MOST, 50.0), row("near_mask 200", near)]);
+        let tables =
+            |near| samples::of_rows([row("mask_at_most 200", 50.0), row("near_mask 200", near)]);
         let told = |near| tsv(&standings(&[&tables(near)]));
         let goal = "included\tlibrary / library's mask_at_most 200\t<=\t1.1\t";
         let met = told(55.0);

@@ -110,23 +110,21 @@ divided by the library's.
 ## Goals
 
 At 1,024 by 768 with 1 % in overflow, scattered, unless a line says otherwise. Before and after are the library's own
-microseconds, checks included: of an earlier state (`tests/bench/before.tsv`) and of this one, each from `bench own` with its
-archive. {same_machine}.
+microseconds, checks included: of an earlier state (`tests/bench/before.tsv`) and of this one, by `bench own`. {same_machine}.
 
-Ratios leave the checks of the files out on both sides, unless a line includes them: what they alone take in the same race is
-taken off. Behind a ratio stands its goal, in brackets; a ratio in bold is short of it, by more than 1 %.
-Best flat is the fastest of flat Rust, numpy and OpenCV. The goals were set on another machine. From build to build the
-independent program's check is compiled in one of two ways.
+Ratios leave the checks of the files, without the sum, out on both sides, unless a line includes them: what they alone take in
+the same race is taken off. Behind a ratio stands its goal, in brackets; a ratio in bold is short of it, by more than 1 %.
+Best flat is the fastest of flat Rust, numpy and OpenCV. The goals were set on another machine. A summary has the sum of
+all distances: check, edits and what writes a file take a pass over the bytes for it, as long as the check.
 
 {goals}
 {masks}{others}
 ## Where we are behind
 
-Who is ahead at 1,024 by 768, and how many times as long the library takes: the independent program, and the fastest on flat
-arrays, in the worst call of a line. What matters most comes first: calls that are made often, large ratios, at 1 % above all,
-and those of the independent program, which does the same work. Lines without a ratio are short of a goal. A slot in overflow
-takes 12 bytes of a file where a flat array has 4, and is found, written and filled in one by one; so flat arrays win at 10 %
-wherever entries are written.
+Who is ahead at 1,024 by 768, and how many times as long the library takes in the worst call of a line: the independent
+program, the fastest on flat arrays. What matters most comes first: calls made often, large ratios, at 1 % above all. Lines
+without a ratio are short of a goal. A slot in overflow takes 12 bytes of a file where a flat array has 4, and is found,
+written and filled in one by one; so flat arrays win at 10 % wherever entries are written.
 
 {behind}
 ## How to read it
@@ -134,28 +132,28 @@ wherever entries are written.
 | Contestant | What it does |
 |---|---|
 | library | the routine, called from Rust; every file is checked in the same call |
-| independent | the same on the same files, checks included: `tests/reference`, a straightforward Rust program |
+| independent | the same on the same files: `tests/reference`, a straightforward Rust program |
 | flat Rust | a plain loop over arrays of `u32` (`tests/bench/src/flat.rs`) |
 | numpy, OpenCV | the same on the same arrays (`tests/bench/flat.py`); OpenCV's masks have a byte for each slot |
 | SSE2 by hand | the number of set bits by SSE2 instructions, in Rust |
 | memcpy | a copy in memory |
 
-A flat array has four bytes for each slot and nothing to check, neither its input nor that a sum is a distance. For `write`,
-it is copied; for `close`, it is made of the same bytes and entries.
+A flat array has four bytes a slot and nothing to check, neither its input nor that a sum is a distance. For `write` it is
+copied; for `close` it is made of the same bytes and entries.
 {MEMCPY}
 
 Times are microseconds a call, one thread. Contestants take turns, {ROUNDS} rounds in each of {PASSES} passes over all calls
 (the library's own times: alone, {own_passes} passes, a process each); a turn starts with a call that is not timed, so buffers are warm.
-A time is that of the best round; its spread is what the best rounds of the passes differ by, without the worst third.
+A time is that of the best round; its spread is what the passes' best rounds differ by, without the worst third.
 A change is noise where it is at most both spreads together, or at most 13 %: builds of the bench over one archive
-differed by up to 12 % in a call, and so do ratios. A difference of two times is not measurable here where their spreads
+differed by up to 12 % in a call. A difference of two times is not measurable here where their spreads
 together are more than half of it. All but numpy, OpenCV and memcpy are compiled for every x86-64 processor, without AVX.
-numpy and OpenCV have to give flat Rust's results before they are timed; `cargo test -p bench` holds these to the library's.
+numpy and OpenCV have to give flat Rust's results before they are timed; `cargo test -p bench` holds these to ours.
 
 ## Tables
 
-Tab-separated, with headings, of the same run. `overflow` is the share of slots in overflow in per cent,
-`layout` is scattered or clustered (runs of 256 slots).
+Tab-separated, of the same run. `overflow` is the share of slots in overflow in per cent, `layout` is scattered or clustered
+(runs of 256 slots).
 
 | File | A line for | Columns |
 |---|---|---|

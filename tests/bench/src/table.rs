@@ -13,11 +13,11 @@ const PAGE_OFFSET: usize = 2_112;
 #[derive(Clone, Copy, Debug, PartialEq, Eq)]
 pub enum Who {
     Library,
-    /// The library's checks of the files of the call, and nothing else.
+    /// The library's checks of the files of the call, without the sum, and nothing else.
     Checks,
     /// The straightforward program on the same files.
     Independent,
-    /// Its checks of the files of the call, and nothing else.
+    /// Its checks of the files of the call, without the sum, and nothing else.
     IndependentChecks,
     /// A plain loop over flat arrays.
     FlatRust,
@@ -259,9 +259,9 @@ impl<'a> Table<'a> {
         let flat_library = |name| python.and_then(|python| python.contestant(name, call));
         let mut contestants = [
             Some(library),
-            checks(|file| keep(pciv::check(file))),
+            checks(|file| keep(pciv::primary(file))),
             Some(independent),
-            checks(|file| keep(reference::check(file))),
+            checks(|file| keep(reference::primary(file))),
             flat.contestant(self.size.slots()),
             sse2,
             flat_library("numpy"),

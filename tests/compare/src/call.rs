@@ -77,6 +77,7 @@ impl Dirty for Summary {
             m: u64::dirty(i + 2),
             step: u64::dirty(i + 3),
             len: u64::dirty(i + 4),
+            sum: u64::dirty(i + 5),
         }
     }
 }
@@ -101,7 +102,7 @@ impl Dirty for Located {
 /// Of an edit the number of entries moved is always written.
 impl Dirty for Edited {
     fn dirty(i: usize) -> Edited {
-        let (summary, moved) = (Summary::dirty(i), u64::dirty(i + 5));
+        let (summary, moved) = (Summary::dirty(i), u64::dirty(i + 6));
         Edited { summary, moved }
     }
 
@@ -119,8 +120,22 @@ pub type Answer<T> = Result<T, reference::Refusal>;
 
 /// The reference's summary in the library's type.
 pub fn summary_of(summary: reference::Summary) -> Summary {
-    let reference::Summary { n, k, m, step, len } = summary;
-    Summary { n, k, m, step, len }
+    let reference::Summary {
+        n,
+        k,
+        m,
+        step,
+        len,
+        sum,
+    } = summary;
+    Summary {
+        n,
+        k,
+        m,
+        step,
+        len,
+        sum,
+    }
 }
 
 /// What an edit of the reference has done in the library's type.
@@ -239,8 +254,16 @@ impl Judge {
         reference: impl FnOnce(&mut [u8]) -> Answer<reference::Summary>,
         library: impl FnOnce(&mut [u8], &mut Summary, &mut Refusal) -> u64,
     ) {
-        let reference = |out: &mut [u8]| reference(out).map(summary_of);
+        let mut done = None;
+        let reference = |out: &mut [u8]| {
+            let answer = reference(out).map(summary_of);
+            done = answer.ok();
+            answer
+        };
         self.buffer(call, capacity, reference, library);
+        if let Some(summary) = done {
+            self.sum(call.routine, &summary);
+        }
     }
 
     /// Compares a call that writes to a buffer of `capacity` elements.

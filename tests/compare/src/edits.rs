@@ -1,16 +1,18 @@
 //! Cases about edits: runs of edits one by one and as a list, against the reference's editor, which
 //! rewrites the file, and against the plain editor, which keeps a list.
 
-use crate::call::{edited_of, Call, Dirty, Guarded};
+use crate::call::{edited_of, summary_of, Call, Dirty, Guarded};
 use crate::damage::ends_and_middle;
 use crate::files::encode;
 use crate::judge::Judge;
+use crate::moves::Moves;
 use crate::routines::and_beside;
 use crate::run::{Run, Subject};
+use crate::sums::Change;
 use compare::lists::{self, Spread};
 use compare::rng::Rng;
-use pciv::{raw, Edited};
-use reference::{file_len, PlainEditor, ANSWER_LEN, HEADER_LEN};
+use pciv::{raw, Edited, Summary};
+use reference::{file_len, Map, PlainEditor, ANSWER_LEN, HEADER_LEN};
 
 /// All groups of such cases.
 pub fn run_all(run: &mut Run) {
@@ -20,8 +22,10 @@ pub fn run_all(run: &mut Run) {
     overflow_counts(run);
     shorter_needs_more(run);
     moved_entries(run);
+    changed_sums(run);
     lists_of_unequal_length(run);
     largest_map(run);
+    largest_sum(run);
 }
 
 /// A starting list, the capacity of the buffer, and the edits.
@@ -79,6 +83,10 @@ impl Edits {
             let answer = plain.edit(slot, distance);
             let edited = reference::edit(&mut buffer.clone(), slot, distance);
             judge.same(&format_args!("{call}: the plain editor"), answer, edited);
+            if let Ok(reference::Edited { summary, .. }) = answer {
+                let what = format_args!("{call}: the sum of the edited list");
+                judge.same(&what, lists::sum(plain.list()), summary.sum);
+            }
             let stray = limits.first_stray(&buffer, &after);
             judge.same(
                 &format_args!("{call}: a byte that may not change"),
@@ -139,8 +147,7 @@ pub fn compare_edit(judge: &mut Judge, buffer: &[u8], slot: u64, distance: u32) 
         raw::edit(buffer, slot, distance, summary, moved, refusal)
     });
     judge.same_guarded(&call, "buffer", &wanted, &got);
-    let done = answer.map(|Edited { summary, moved }| (summary.k, moved));
-    judge.moves(call.routine, buffer, [(distance, done.ok())].into_iter());
+    judge.edits(call.routine, buffer, [(distance, answer.ok())].into_iter());
     got.contents().to_vec()
 }
 
@@ -178,17 +185,48 @@ pub fn compare_list(
     });
     judge.same_guarded(&call, "buffer", &wanted.0, &got.0);
     judge.same_guarded(&call, "answers", &wanted.1, &got.1);
-    let answers = wanted.1.contents().chunks_exact(ANSWER_LEN);
-    let done = answers.map(|answer| (answer[0] == 0).then_some((answer[4], answer[8])));
-    judge.moves(
-        call.routine,
-        buffer,
-        distances
-            .iter()
-            .copied()
-            .zip(done)
-            .take(answer.unwrap_or(0) as usize),
-    );
+    let (answers, _) = wanted.1.contents().as_chunks();
+    let edits = distances.iter().copied().zip(answers.iter().map(done));
+    let edits = edits.take(answer.unwrap_or(0) as usize);
+    judge.edits(call.routine, buffer, edits);
+}
+
+/// What an edit has done by its answer in a list, `None` where it is refused.
+fn done(answer: &[u64; ANSWER_LEN]) -> Option<Edited> {
+    let [number, _, _, n, k, m, step, len, sum, moved] = *answer;
+    let summary = Summary {
+        n,
+        k,
+        m,
+        step,
+        len,
+        sum,
+    };
+    (number == 0).then_some(Edited { summary, moved })
+}
+
+impl Judge {
+    /// Notes what edits of the file at the front of a buffer have to do, each told by its distance and
+    /// by what it does, a refused one by `None`.
+    fn edits(
+        &mut self,
+        routine: &'static str,
+        buffer: &[u8],
+        edits: impl Iterator<Item = (u32, Option<Edited>)>,
+    ) {
+        let file = Map::open_front(buffer).ok();
+        let mut old = file.map_or_else(Summary::default, |file| summary_of(file.summary()));
+        for (distance, done) in edits {
+            let moves = Moves::of(&old, distance, done);
+            self.moves.insert((routine, moves));
+            let change = Change::of(&old, distance, done);
+            self.changes.insert((routine, change));
+            if let Some(Edited { summary, .. }) = done {
+                self.sum(routine, &summary);
+                old = summary;
+            }
+        }
+    }
 }
 
 /// A distance to edit to: inline, in overflow, or at a border.
@@ -360,6 +398,42 @@ fn there_and_back(list: &[u32]) -> (Vec<u64>, Vec<u32>) {
     there_and_back.chain([(n, 255), (u64::MAX, 0)]).unzip()
 }
 
+/// Edits that change the sum by nothing, by one and by much, on maps with none, half and all of their
+/// slots in overflow. In an exact buffer an edit that makes the file longer is refused.
+fn changed_sums(run: &mut Run) {
+    let mut number = 0;
+    for n in [1, 2, 64, 300, 4_097] {
+        for k in [0, n / 2, n] {
+            for extra in [0, 40_000] {
+                run.case("sums that edits change", number, |rng| {
+                    let list = lists::with_overflow(rng, n, k, Spread::Scattered);
+                    let (slots, distances) = up_and_down(&list);
+                    Edits {
+                        capacity: encode(&list).len() + extra,
+                        list,
+                        slots,
+                        distances,
+                    }
+                });
+                number += 1;
+            }
+        }
+    }
+}
+
+/// Slots at both ends of a list and in the middle: each gets the distance that it has, one less, one
+/// more, the least, the largest, and its own twice. Then a slot beyond n.
+fn up_and_down(list: &[u32]) -> (Vec<u64>, Vec<u32>) {
+    let slots = ends_and_middle(list.len()).into_iter();
+    let edits = slots.flat_map(|slot| {
+        let distance = list[slot];
+        let (less, more) = (distance.saturating_sub(1), distance.saturating_add(1));
+        let distances = [distance, less, more, 0, u32::MAX, distance, distance];
+        distances.map(|distance| (slot as u64, distance))
+    });
+    edits.chain([(list.len() as u64, 7)]).unzip()
+}
+
 /// Lists of slots and of distances with different lengths.
 fn lists_of_unequal_length(run: &mut Run) {
     for number in 0..200 {
@@ -417,6 +491,22 @@ fn largest_map(run: &mut Run) {
                 list,
                 slots,
                 distances,
+            }
+        });
+    }
+}
+
+/// All distances are the largest one: edits that keep it, and out of overflow and back.
+fn largest_sum(run: &mut Run) {
+    let n = reference::MAX_SLOTS;
+    for (number, extra) in [0, 100].into_iter().enumerate() {
+        run.case("edits at the largest sum", number, |_| {
+            let list = vec![u32::MAX; n as usize];
+            Edits {
+                capacity: encode(&list).len() + extra,
+                list,
+                slots: vec![0, n - 1, n - 1, n / 2, n / 2, n],
+                distances: vec![u32::MAX, u32::MAX - 1, u32::MAX, 254, u32::MAX, 0],
             }
         });
     }

@@ -2,6 +2,7 @@
 
 use crate::moves::Moves;
 use crate::origins::Stored;
+use crate::sums::{Change, Sum};
 use std::collections::HashSet;
 use std::fmt::{Debug, Display};
 
@@ -20,6 +21,10 @@ pub struct Judge {
     pub stored: HashSet<(&'static str, Stored)>,
     /// Which entries edits had to move, by routine.
     pub moves: HashSet<(&'static str, Moves)>,
+    /// The sums that had to be answered, by routine.
+    pub sums: HashSet<(&'static str, Sum)>,
+    /// What edits had to do to the sum, by routine.
+    pub changes: HashSet<(&'static str, Change)>,
     /// Holds any file, for the reference alone.
     scratch: Vec<u8>,
 }

@@ -31,6 +31,11 @@ pub fn size(rng: &mut Rng) -> usize {
     }
 }
 
+/// The sum of a list's distances.
+pub fn sum(list: &[u32]) -> u64 {
+    list.iter().copied().map(u64::from).sum()
+}
+
 /// How the chosen slots of a list lie.
 #[derive(Clone, Copy, Debug)]
 pub enum Spread {

@@ -18,6 +18,7 @@ mod read_only;
 mod routines;
 mod run;
 mod shifts;
+mod sums;
 mod trial;
 mod worked;
 mod writing;

@@ -426,4 +426,17 @@ fn largest_maps(run: &mut Run) {
             mask: random_mask(rng, n),
         });
     }
+    // What the mask keeps, what it leaves, and what it increments.
+    let kinds = [
+        (u32::MAX, u64::MAX),
+        (u32::MAX, 0),
+        (u32::MAX - 1, u64::MAX),
+    ];
+    for (number, (distance, word)) in kinds.into_iter().enumerate() {
+        run.case("a mask to the largest sum", number, |_| Masked {
+            what: format!("all at {distance}, words {word:#x}"),
+            file: encode(&vec![distance; n]),
+            mask: vec![word; mask_len(n)],
+        });
+    }
 }

@@ -1,7 +1,6 @@
 //! How many overflow entries edits move: the kinds of edits that a run has to meet.
 
-use crate::damage::le64;
-use crate::judge::Judge;
+use pciv::{Edited, Summary};
 use std::cmp::Ordering;
 
 /// What is told apart of the entries that an edit moves.
@@ -28,17 +27,17 @@ pub enum Share {
 }
 
 impl Moves {
-    /// What an edit to a distance does in a file with `k` entries; `done` is how many entries there
-    /// are afterwards and how many have moved, `None` where the edit is refused.
-    fn of(k: u64, distance: u32, done: Option<(u64, u64)>) -> Moves {
-        let Some((new, moved)) = done else {
+    /// What an edit to a distance does in a file with this summary; `done` is `None` where the edit
+    /// is refused.
+    pub fn of(old: &Summary, distance: u32, done: Option<Edited>) -> Moves {
+        let Some(Edited { summary, moved }) = done else {
             return Moves::Refused;
         };
-        match new.cmp(&k) {
-            Ordering::Less => Moves::OutOfOverflow(Share::of(moved, new)),
+        match summary.k.cmp(&old.k) {
+            Ordering::Less => Moves::OutOfOverflow(Share::of(moved, summary.k)),
             Ordering::Equal if distance < 255 => Moves::StaysInline,
             Ordering::Equal => Moves::StaysInOverflow,
-            Ordering::Greater => Moves::IntoOverflow(Share::of(moved, k)),
+            Ordering::Greater => Moves::IntoOverflow(Share::of(moved, old.k)),
         }
     }
 }
@@ -64,21 +63,4 @@ pub fn all_moves() -> impl Iterator<Item = (&'static str, Moves)> {
     ];
     let routines = ["edit", "edit_list"].into_iter();
     routines.flat_map(move |routine| moves.concat().into_iter().map(move |one| (routine, one)))
-}
-
-impl Judge {
-    /// Notes what edits of the file at the front of a buffer have to do, each told by its distance,
-    /// the number of entries afterwards and how many have moved, a refused one by `None`.
-    pub fn moves(
-        &mut self,
-        routine: &'static str,
-        buffer: &[u8],
-        edits: impl Iterator<Item = (u32, Option<(u64, u64)>)>,
-    ) {
-        let mut k = buffer.get(16..24).map_or(0, le64);
-        for (distance, done) in edits {
-            self.moves.insert((routine, Moves::of(k, distance, done)));
-            k = done.map_or(k, |(new, _)| new);
-        }
-    }
 }

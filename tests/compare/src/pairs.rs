@@ -308,6 +308,12 @@ fn largest_pairs(run: &mut Run) {
     run.case("largest pair", 3, |_| {
         Pair::of_lists("sizes differ by one", &vec![9; n], &vec![9; n - 1])
     });
+    for (number, distance) in [u32::MAX, 0].into_iter().enumerate() {
+        run.case("largest sum of a pair", number, |_| {
+            let what = format!("all at the largest distance and all at {distance}");
+            Pair::of_lists(what, &vec![u32::MAX; n], &vec![distance; n])
+        });
+    }
 }
 
 /// Sound maps of different sizes, some with sums above the largest distance.

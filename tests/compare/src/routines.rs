@@ -9,6 +9,7 @@ use crate::run::Subject;
 use crate::shifts::SHIFTS;
 use crate::trial::Trial;
 use crate::writing;
+use compare::lists;
 use compare::rng::Rng;
 use reference::Summary;
 
@@ -32,6 +33,8 @@ pub fn compare_file(judge: &mut Judge, rng: &mut Rng, file: &[u8]) {
 pub fn compare_list(judge: &mut Judge, rng: &mut Rng, file: &[u8], distances: &[u32]) {
     let decoded = reference::decode(file).unwrap_or_default();
     judge.same_buffer(&"the reference's list", distances, &decoded);
+    let sum = reference::check(file).map(|summary| summary.sum);
+    judge.same(&"the reference's sum", Ok(lists::sum(distances)), sum);
     writing::compare_write(judge, rng, distances);
     Parts::of(distances).compare(judge, rng);
 }

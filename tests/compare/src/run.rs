@@ -1,7 +1,7 @@
 //! A run over all cases: picks them, counts them, concludes.
 
 use crate::judge::Judge;
-use crate::{moves, origins};
+use crate::{moves, origins, sums};
 use compare::rng::{case_seed, Rng};
 use std::{env, process};
 
@@ -131,8 +131,16 @@ impl Run {
             return Some(format!("no call of {routine} found {stored:?}"));
         }
         let missing = |moves: &_| !self.judge.moves.contains(moves);
-        let (routine, moves) = moves::all_moves().find(missing)?;
-        Some(format!("no call of {routine} met {moves:?}"))
+        if let Some((routine, moves)) = moves::all_moves().find(missing) {
+            return Some(format!("no call of {routine} met {moves:?}"));
+        }
+        let missing = |sum: &_| !self.judge.sums.contains(sum);
+        if let Some((routine, sum)) = sums::all_sums().find(missing) {
+            return Some(format!("no summary of {routine} had the sum {sum:?}"));
+        }
+        let missing = |change: &_| !self.judge.changes.contains(change);
+        let (routine, change) = sums::all_changes().find(missing)?;
+        Some(format!("no call of {routine} met for its sum {change:?}"))
     }
 }
 

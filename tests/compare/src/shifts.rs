@@ -31,6 +31,7 @@ pub fn run_all(run: &mut Run) {
     border_distances(run);
     zero_distances(run);
     overflow_counts(run);
+    largest_sum(run);
 }
 
 /// A file and its shift.
@@ -97,5 +98,16 @@ fn overflow_counts(run: &mut Run) {
                 number += 1;
             }
         }
+    }
+}
+
+/// All distances become the largest one.
+fn largest_sum(run: &mut Run) {
+    for (number, by) in [0, 1, i32::MAX].into_iter().enumerate() {
+        run.case("shift to the largest sum", number, |_| {
+            let list = vec![u32::MAX - by as u32; reference::MAX_SLOTS as usize];
+            let file = encode(&list);
+            Shifted { file, by }
+        });
     }
 }

@@ -38,6 +38,9 @@ impl<'a> Trial<'a> {
         self.judge.value(&call, answer, |out, refusal| {
             raw::check(self.file.contents(), out, refusal)
         });
+        if let Ok(summary) = answer {
+            self.judge.sum(call.routine, &summary);
+        }
         self.settle(&call);
     }
 

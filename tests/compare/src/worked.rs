@@ -179,7 +179,7 @@ const fn row(case: &'static str, calls: fn(&mut Judge)) -> Row {
     Row { case, calls }
 }
 
-const ROWS: [Row; 24] = [
+const ROWS: [Row; 25] = [
     row("empty map", empty_map),
     row("primary array of A", primary_of_a),
     row("overflow entries of A", entries_of_a),
@@ -189,7 +189,7 @@ const ROWS: [Row; 24] = [
             "minimum",
             raw::minimum,
             (A, B),
-            of_four(1, 56),
+            of_four(1, 56, 302),
             MINIMUM,
         )
     }),
@@ -199,7 +199,7 @@ const ROWS: [Row; 24] = [
             "maximum",
             raw::maximum,
             (A, B),
-            of_four(2, 68),
+            of_four(2, 68, 4_294_967_805),
             MAXIMUM,
         )
     }),
@@ -210,7 +210,7 @@ const ROWS: [Row; 24] = [
             "sum_maps",
             raw::sum_maps,
             (A, ONES),
-            of_four(3, 80),
+            of_four(3, 80, 813),
             A_PLUS_ONES,
         )
     }),
@@ -220,7 +220,7 @@ const ROWS: [Row; 24] = [
             "difference",
             raw::difference,
             (A, B),
-            of_four(0, 44),
+            of_four(0, 44, 507),
             A_LESS_B,
         )
     }),
@@ -230,7 +230,7 @@ const ROWS: [Row; 24] = [
             "difference",
             raw::difference,
             (B, A),
-            of_four(1, 56),
+            of_four(1, 56, 4_294_966_996),
             B_LESS_A,
         )
     }),
@@ -249,10 +249,14 @@ const ROWS: [Row; 24] = [
             judge,
             &bytes(A),
             (2, 254),
-            edited(of_four(1, 56), 1),
+            edited(of_four(1, 56, 808), 1),
             &bytes(A_SLOT_2_AT_254),
         )
     }),
+    row(
+        "sums of the empty map, of A, of A with slot 2 edited to 254",
+        sums,
+    ),
     row(
         "edit of A, slot 1 to 255, in a buffer of 79 / 80 bytes",
         edit_into_overflow,
@@ -267,13 +271,13 @@ const ROWS: [Row; 24] = [
         reports(judge, &[], b"refused 1 map 1 place 0\n")
     }),
     row("shift of A by -300", |judge| {
-        shifts_a(judge, -300, of_four(0, 44), A_BY_LESS_300)
+        shifts_a(judge, -300, of_four(0, 44, 3), A_BY_LESS_300)
     }),
     row("shift of A by 1", |judge| {
-        shifts_a(judge, 1, of_four(3, 80), A_BY_1)
+        shifts_a(judge, 1, of_four(3, 80, 812), A_BY_1)
     }),
     row("shift of A by 300", |judge| {
-        shifts_a(judge, 300, of_four(3, 80), A_BY_300)
+        shifts_a(judge, 300, of_four(3, 80, 1_709), A_BY_300)
     }),
     row("near mask of A at 0 / 254 / 255", |judge| {
         for (t, mask) in [(0, 0), (254, 2), (255, 6)] {
@@ -288,7 +292,7 @@ const ROWS: [Row; 24] = [
     row(
         "overflow entries that an edit of (300, 0, 300) moves: slot 1 to 255",
         |judge| {
-            let summary = length(3, 3, 0, 0, 79);
+            let summary = summary([3, 3, 0, 0, 79], 855);
             edits(
                 judge,
                 &buffer(ENDS_IN_OVERFLOW, 79),
@@ -316,15 +320,21 @@ impl Subject for Row {
     }
 }
 
-/// The summary of a map of four slots.
-const fn of_four(k: u64, len: u64) -> Summary {
+/// A summary: its counts in the order of a row of "Derived counts", and the sum.
+const fn summary([n, k, step, m, len]: [u64; 5], sum: u64) -> Summary {
     Summary {
-        n: 4,
+        n,
         k,
-        m: 0,
-        step: 0,
+        m,
+        step,
         len,
+        sum,
     }
+}
+
+/// The summary of a map of four slots.
+const fn of_four(k: u64, len: u64, sum: u64) -> Summary {
+    summary([4, k, 0, 0, len], sum)
 }
 
 fn edited(summary: Summary, moved: u64) -> Answer<Edited> {
@@ -336,13 +346,7 @@ fn refused<T>(number: u64, map: u64, place: u64) -> Answer<T> {
 }
 
 fn empty_map(judge: &mut Judge) {
-    let summary = Summary {
-        n: 0,
-        k: 0,
-        m: 0,
-        step: 0,
-        len: 40,
-    };
+    let summary = summary([0, 0, 0, 0, 40], 0);
     writes(judge, "write", summary, EMPTY, |out, summary, refusal| {
         raw::write(&[], out, summary, refusal)
     });
@@ -354,12 +358,12 @@ fn primary_of_a(judge: &mut Judge) {
     writes(
         judge,
         "write",
-        of_four(2, 68),
+        of_four(2, 68, 809),
         A,
         |out, summary, refusal| raw::write(&list, out, summary, refusal),
     );
     let file = bytes(A);
-    checks(judge, &file, of_four(2, 68));
+    checks(judge, &file, of_four(2, 68, 809));
     let primary: &[u8] = &[0x00, 0xFE, 0xFF, 0xFF];
     judge.same_buffer(&"primary", primary, pciv::primary(&file));
 }
@@ -392,7 +396,7 @@ fn entries_of_a(judge: &mut Judge) {
     writes(
         judge,
         "close",
-        of_four(2, 68),
+        of_four(2, 68, 809),
         A,
         |out, summary, refusal| raw::close(&primary, &slots, &distances, out, summary, refusal),
     );
@@ -430,17 +434,17 @@ fn edit_into_overflow(judge: &mut Judge) {
         judge,
         &enough,
         (1, 255),
-        edited(of_four(3, 80), 2),
+        edited(of_four(3, 80, 810), 2),
         &bytes(A_SLOT_1_AT_255),
     );
 }
 
 fn entries_moved_in_a(judge: &mut Judge) {
     let accepted = [
-        ((2, 254), edited(of_four(1, 56), 1), A_SLOT_2_AT_254),
-        ((1, 255), edited(of_four(3, 80), 2), A_SLOT_1_AT_255),
-        ((3, 7), edited(of_four(1, 56), 0), A_SLOT_3_AT_7),
-        ((3, 400), edited(of_four(2, 68), 0), A_SLOT_3_AT_400),
+        ((2, 254), edited(of_four(1, 56, 808), 1), A_SLOT_2_AT_254),
+        ((1, 255), edited(of_four(3, 80, 810), 2), A_SLOT_1_AT_255),
+        ((3, 7), edited(of_four(1, 56, 516), 0), A_SLOT_3_AT_7),
+        ((3, 400), edited(of_four(2, 68, 909), 0), A_SLOT_3_AT_400),
     ];
     for (edit, answer, after) in accepted {
         edits(judge, &buffer(A, 80), edit, answer, &buffer(after, 80));
@@ -512,6 +516,15 @@ fn shifts_a(judge: &mut Judge, by: i32, summary: Summary, file: &str) {
     });
 }
 
+fn sums(judge: &mut Judge) {
+    checks(judge, &bytes(EMPTY), summary([0, 0, 0, 0, 40], 0));
+    checks(judge, &bytes(A), of_four(2, 68, 809));
+    let after = bytes(A_SLOT_2_AT_254);
+    let answer = edited(of_four(1, 56, 808), 1);
+    edits(judge, &bytes(A), (2, 254), answer, &after);
+    checks(judge, &after[..56], of_four(1, 56, 808));
+}
+
 fn checks(judge: &mut Judge, file: &[u8], summary: Summary) {
     judge.value(&Call::new("check", ""), Ok(summary), |out, refusal| {
         raw::check(file, out, refusal)
@@ -574,10 +587,17 @@ fn edits(
     let call = Call::new("edit_list", with);
     let wanted_answers = Guarded::with(&match answer {
         Ok(Edited { summary, moved }) => {
-            let Summary { n, k, m, step, len } = summary;
-            [0, 0, 0, n, k, m, step, len, moved]
+            let Summary {
+                n,
+                k,
+                m,
+                step,
+                len,
+                sum,
+            } = summary;
+            [0, 0, 0, n, k, m, step, len, sum, moved]
         }
-        Err(reference::Refusal { number, map, place }) => [number, map, place, 0, 0, 0, 0, 0, 0],
+        Err(reference::Refusal { number, map, place }) => [number, map, place, 0, 0, 0, 0, 0, 0, 0],
     });
     let (mut got, mut answers) = (Guarded::with(buffer), Guarded::dirty(ANSWER_LEN));
     judge.value(&call, Ok(1), |count, refusal| {
@@ -588,19 +608,14 @@ fn edits(
     judge.same_guarded(&call, "answers", &wanted_answers, &answers);
 }
 
-/// The table of "Derived counts".
-const LENGTHS: [Summary; 5] = [
-    length(5_000, 2_048, 0, 0, 29_616),
-    length(5_000, 2_049, 2, 1_025, 46_028),
-    length(5_000, 4_096, 2, 2_048, 86_960),
-    length(5_000, 4_097, 3, 1_366, 76_060),
-    length(1_048_576, 1_048_576, 512, 2_048, 13_664_296),
+/// The table of "Derived counts": n, k, step, m and L.
+const LENGTHS: [[u64; 5]; 5] = [
+    [5_000, 2_048, 0, 0, 29_616],
+    [5_000, 2_049, 2, 1_025, 46_028],
+    [5_000, 4_096, 2, 2_048, 86_960],
+    [5_000, 4_097, 3, 1_366, 76_060],
+    [1_048_576, 1_048_576, 512, 2_048, 13_664_296],
 ];
-
-/// The summary of a file, in the order of a row.
-const fn length(n: u64, k: u64, step: u64, m: u64, len: u64) -> Summary {
-    Summary { n, k, m, step, len }
-}
 
 /// A list, and the summary of its file.
 struct Length {
@@ -609,11 +624,13 @@ struct Length {
 }
 
 fn lengths(run: &mut Run) {
-    for (number, summary) in LENGTHS.into_iter().enumerate() {
+    for (number, counts) in LENGTHS.into_iter().enumerate() {
         for (inner, spread) in SPREADS.into_iter().enumerate() {
-            run.case("row of the lengths", 3 * number + inner, |rng| Length {
-                list: lists::with_overflow(rng, summary.n as usize, summary.k as usize, spread),
-                summary,
+            run.case("row of the lengths", 3 * number + inner, |rng| {
+                let [n, k, ..] = counts.map(|count| count as usize);
+                let list = lists::with_overflow(rng, n, k, spread);
+                let summary = summary(counts, lists::sum(&list));
+                Length { list, summary }
             });
         }
     }
@@ -689,10 +706,11 @@ impl Subject for EntryFewer {
     fn compare(&self, judge: &mut Judge, _: &mut Rng) {
         let mut list = self.list.clone();
         let (slot, distance) = (self.slot as u64, list[self.slot]);
-        let (summary_4096, summary_4097) = (LENGTHS[2], LENGTHS[3]);
         let with_4097 = encode(&list);
+        let summary_4097 = summary(LENGTHS[3], lists::sum(&list));
         list[self.slot] = 254;
         let with_4096 = encode(&list);
+        let summary_4096 = summary(LENGTHS[2], lists::sum(&list));
 
         let mut buffer = with_4097.clone();
         buffer.extend((76_060..86_959).map(u8::dirty));
@@ -752,7 +770,6 @@ mod tests {
             .iter()
             .map(|row| row.iter().map(number).collect())
             .collect();
-        let run = LENGTHS.map(|row| vec![row.n, row.k, row.step, row.m, row.len]);
-        assert_eq!(document, run);
+        assert_eq!(document, LENGTHS);
     }
 }

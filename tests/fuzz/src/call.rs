@@ -54,8 +54,15 @@ impl Dirty for i64 {
 
 impl Dirty for Summary {
     fn dirty(i: usize) -> Summary {
-        let [n, k, m, step, len] = [0, 1, 2, 3, 4].map(|j| u64::dirty(i + j));
-        Summary { n, k, m, step, len }
+        let [n, k, m, step, len, sum] = [0, 1, 2, 3, 4, 5].map(|j| u64::dirty(i + j));
+        Summary {
+            n,
+            k,
+            m,
+            step,
+            len,
+            sum,
+        }
     }
 }
 
@@ -69,7 +76,7 @@ impl Dirty for (u32, u64) {
 /// Of an edit the number of entries moved is always written.
 impl Dirty for Edited {
     fn dirty(i: usize) -> Edited {
-        let (summary, moved) = (Summary::dirty(i), u64::dirty(i + 5));
+        let (summary, moved) = (Summary::dirty(i), u64::dirty(i + 6));
         Edited { summary, moved }
     }
 
@@ -253,8 +260,22 @@ impl Bench {
 
 /// The reference's summary in the library's type.
 pub fn summary_of(summary: reference::Summary) -> Summary {
-    let reference::Summary { n, k, m, step, len } = summary;
-    Summary { n, k, m, step, len }
+    let reference::Summary {
+        n,
+        k,
+        m,
+        step,
+        len,
+        sum,
+    } = summary;
+    Summary {
+        n,
+        k,
+        m,
+        step,
+        len,
+        sum,
+    }
 }
 
 /// What an edit of the reference has done in the library's type.

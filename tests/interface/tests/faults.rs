@@ -226,8 +226,13 @@ fn another_number_or_field_is_told() {
         )
     };
     assert_eq!(faults(HEADER), [""; 0]);
-    let swapped = HEADER.replace("uint64_t m;", "uint64_t mm;");
-    assert_eq!(faults(&swapped).len(), 1);
+    for (old, new) in [
+        ("uint64_t m;", "uint64_t mm;"),
+        ("uint64_t sum;", "uint32_t sum;"),
+        ("uint64_t sum;", ""),
+    ] {
+        assert_eq!(faults(&HEADER.replace(old, new)).len(), 1, "{old} {new}");
+    }
 }
 
 #[test]

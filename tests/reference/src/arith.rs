@@ -49,7 +49,7 @@ pub fn signed_difference(a: &[u8], b: &[u8], out: &mut [i64]) -> Result<u64, Ref
     for (out, (x, y)) in out.iter_mut().zip(a.distances().zip(b.distances())) {
         *out = i64::from(y) - i64::from(x);
     }
-    Ok(a.summary().n)
+    Ok(a.n())
 }
 
 /// An operation on the two distances of each slot; `None` stands for a distance above
@@ -69,7 +69,7 @@ fn combine(
 pub(crate) fn open_pair<'a>(a: &'a [u8], b: &'a [u8]) -> Result<(Map<'a>, Map<'a>), Refusal> {
     let a = Map::open(a)?;
     let b = Map::open(b).map_err(|refusal| Refusal { map: 2, ..refusal })?;
-    if a.summary().n != b.summary().n {
+    if a.n() != b.n() {
         return Err(Refusal::of_call(10, 0));
     }
     Ok((a, b))

@@ -19,8 +19,8 @@ pub struct Edited {
 /// What a shorter file leaves free becomes 0.
 pub fn edit(buffer: &mut [u8], slot: u64, distance: u32) -> Result<Edited, Refusal> {
     let map = Map::open_front(buffer)?;
-    let old = map.summary();
-    if slot >= old.n {
+    let (n, k) = (map.n(), map.k());
+    if slot >= n {
         return Err(Refusal::of_call(9, 0));
     }
     let at = HEADER_LEN + slot as usize;
@@ -28,50 +28,57 @@ pub fn edit(buffer: &mut [u8], slot: u64, distance: u32) -> Result<Edited, Refus
     match (buffer[at] == SENTINEL, is_overflow(distance)) {
         (false, false) => buffer[at] = distance as u8,
         (true, true) => {
-            let at = HEADER_LEN + old.n as usize + OVERFLOW_ENTRY_LEN * entries_before() + 8;
+            let at = HEADER_LEN + n as usize + OVERFLOW_ENTRY_LEN * entries_before() + 8;
             buffer[at..at + 4].copy_from_slice(&distance.to_le_bytes());
         }
         (false, true) => {
             let mut entries: Vec<Entry> = map.entries().collect();
             entries.insert(entries_before(), Entry { slot, distance });
-            return rewrite(buffer, old, slot, SENTINEL, &entries);
+            return rewrite(buffer, (n, k), slot, SENTINEL, &entries);
         }
         (true, false) => {
             let mut entries: Vec<Entry> = map.entries().collect();
             entries.remove(entries_before());
-            return rewrite(buffer, old, slot, distance as u8, &entries);
+            return rewrite(buffer, (n, k), slot, distance as u8, &entries);
         }
     }
     Ok(Edited {
-        summary: old,
+        summary: front(buffer, n, k).summary(),
         moved: 0,
     })
 }
 
-/// Writes the file with one other primary byte and other entries in the place of the old one.
+/// Writes the file with one other primary byte and other entries in the place of the old one, which
+/// had `n` slots and `k` entries.
 fn rewrite(
     buffer: &mut [u8],
-    old: Summary,
+    (n, k): (u64, u64),
     slot: u64,
     byte: u8,
     entries: &[Entry],
 ) -> Result<Edited, Refusal> {
-    let old_slots = entry_slots(buffer, old);
-    let mut primary = buffer[HEADER_LEN..HEADER_LEN + old.n as usize].to_vec();
+    let old_slots = entry_slots(front(buffer, n, k));
+    let mut primary = buffer[HEADER_LEN..HEADER_LEN + n as usize].to_vec();
     primary[slot as usize] = byte;
-    let new = write_parts(&primary, entries.iter().copied(), buffer)?;
-    if new.len < old.len {
-        buffer[new.len as usize..old.len as usize].fill(0);
+    let len = write_parts(&primary, entries.iter().copied(), buffer)?.len;
+    let old_len = file_len(n, k);
+    if len < old_len {
+        buffer[len as usize..old_len as usize].fill(0);
     }
+    let new = front(buffer, n, entries.len() as u64);
     Ok(Edited {
-        summary: new,
-        moved: count_moved(&old_slots, &entry_slots(buffer, new)),
+        summary: new.summary(),
+        moved: count_moved(&old_slots, &entry_slots(new)),
     })
 }
 
-/// The slots of the entries of the file at the front of a buffer.
-fn entry_slots(buffer: &[u8], counts: Summary) -> Vec<u64> {
-    let file = Map::split(&buffer[..counts.len as usize], counts);
+/// The file at the front of a buffer, which is known to be sound.
+fn front(buffer: &[u8], n: u64, k: u64) -> Map<'_> {
+    Map::split(&buffer[..file_len(n, k) as usize], n, k)
+}
+
+/// The slots of the entries of a file.
+fn entry_slots(file: Map) -> Vec<u64> {
     file.entries().map(|entry| entry.slot).collect()
 }
 
@@ -87,7 +94,7 @@ fn count_moved(old: &[u64], new: &[u64]) -> u64 {
 
 /// How many numbers tell the answer to one edit of a list: those of the refusal, then those of the
 /// summary, then how many entries have moved.
-pub const ANSWER_LEN: usize = 9;
+pub const ANSWER_LEN: usize = 10;
 
 /// Makes the edits `slots[j]` to `distances[j]` in order on the file at the front of `buffer`, by
 /// the plain editor; the answer to each goes to `answers`. Refusals 1 to 8, 9 with the first
@@ -117,18 +124,26 @@ pub fn edit_list(
 fn answer_numbers(answer: Result<Edited, Refusal>) -> [u64; ANSWER_LEN] {
     match answer {
         Ok(Edited { summary, moved }) => {
-            let Summary { n, k, m, step, len } = summary;
-            [0, 0, 0, n, k, m, step, len, moved]
+            let Summary {
+                n,
+                k,
+                m,
+                step,
+                len,
+                sum,
+            } = summary;
+            [0, 0, 0, n, k, m, step, len, sum, moved]
         }
-        Err(Refusal { number, map, place }) => [number, map, place, 0, 0, 0, 0, 0, 0],
+        Err(Refusal { number, map, place }) => [number, map, place, 0, 0, 0, 0, 0, 0, 0],
     }
 }
 
-/// The plain editor: a list, its slots in overflow in rising order, the capacity of the buffer, and
-/// the length of the longest file yet.
+/// The plain editor: a list, its slots in overflow in rising order, its sum, the capacity of the
+/// buffer, and the length of the longest file yet.
 pub struct PlainEditor {
     list: Vec<u32>,
     overflow: Vec<u32>,
+    sum: u64,
     capacity: usize,
     filled: usize,
 }
@@ -144,6 +159,7 @@ impl PlainEditor {
         PlainEditor {
             capacity,
             filled: file_len(list.len() as u64, overflow.len() as u64) as usize,
+            sum: list.iter().copied().map(u64::from).sum(),
             list,
             overflow,
         }
@@ -163,9 +179,11 @@ impl PlainEditor {
         let place = &mut self.list[slot as usize];
         let [was, is] = [*place, distance].map(is_overflow);
         let k = self.overflow.len() as u64 - u64::from(was) + u64::from(is);
-        let summary = Summary::of(n, k);
+        let sum = self.sum - u64::from(*place) + u64::from(distance);
+        let summary = Summary::of(n, k, sum);
         require_capacity(summary.len as usize, self.capacity)?;
         *place = distance;
+        self.sum = sum;
         self.filled = self.filled.max(summary.len as usize);
         let moved = if was == is { 0 } else { self.renumber(slot) };
         Ok(Edited { summary, moved })
@@ -212,7 +230,7 @@ mod tests {
     fn worked_example_out_of_overflow() {
         let mut buffer = map_a(70);
         let edited = edit(&mut buffer, 2, 254).unwrap();
-        assert_eq!(edited.summary.len, 56);
+        assert_eq!((edited.summary.len, edited.summary.sum), (56, 808));
         assert_eq!(buffer[..56], encode(&[0, 254, 254, 300]).unwrap());
         assert_eq!(buffer[56..68], [0; 12]);
         assert_eq!(buffer[68..], [7; 2]);
@@ -244,23 +262,46 @@ mod tests {
         assert_eq!((edited.summary.k, edited.moved), (4_096, 4_093));
     }
 
-    /// The ninth number of the answer to an edit of A, by each of the editors.
-    fn moved_in_a(capacity: usize, slot: u64, distance: u32) -> u64 {
+    /// The answer to an edit of A, by each of the editors.
+    fn answer_in_a(capacity: usize, slot: u64, distance: u32) -> [u64; ANSWER_LEN] {
         let alone = answer_numbers(edit(&mut map_a(capacity), slot, distance));
         let mut plain = PlainEditor::new(MAP_A.to_vec(), capacity);
         assert_eq!(answer_numbers(plain.edit(slot, distance)), alone);
-        alone[8]
+        alone
+    }
+
+    #[test]
+    fn answers_in_their_order() {
+        assert_eq!(answer_in_a(80, 2, 254), [0, 0, 0, 4, 1, 0, 0, 56, 808, 1]);
+        assert_eq!(answer_in_a(79, 1, 255), [12, 0, 0, 0, 0, 0, 0, 0, 0, 0]);
+        assert_eq!(answer_in_a(80, 4, 400), [9, 0, 0, 0, 0, 0, 0, 0, 0, 0]);
     }
 
     #[test]
     fn entries_that_edits_of_map_a_move() {
-        assert_eq!(moved_in_a(80, 2, 254), 1);
-        assert_eq!(moved_in_a(80, 1, 255), 2);
-        assert_eq!(moved_in_a(79, 1, 255), 0);
-        assert_eq!(moved_in_a(80, 3, 7), 0);
-        assert_eq!(moved_in_a(80, 3, 400), 0);
-        assert_eq!(moved_in_a(80, 1, 7), 0);
-        assert_eq!(moved_in_a(80, 4, 400), 0);
+        let moved = |capacity, slot, distance| answer_in_a(capacity, slot, distance)[9];
+        assert_eq!(moved(80, 2, 254), 1);
+        assert_eq!(moved(80, 1, 255), 2);
+        assert_eq!(moved(79, 1, 255), 0);
+        assert_eq!(moved(80, 3, 7), 0);
+        assert_eq!(moved(80, 3, 400), 0);
+        assert_eq!(moved(80, 1, 7), 0);
+        assert_eq!(moved(80, 4, 400), 0);
+    }
+
+    #[test]
+    fn sums_after_edits_of_map_a() {
+        let sum = |capacity, slot, distance| answer_in_a(capacity, slot, distance)[8];
+        assert_eq!(sum(80, 2, 254), 808);
+        assert_eq!(sum(80, 1, 255), 810);
+        assert_eq!(sum(79, 1, 255), 0);
+        assert_eq!(sum(80, 3, 7), 516);
+        assert_eq!(sum(80, 3, 400), 909);
+        assert_eq!(sum(80, 1, 7), 562);
+        assert_eq!(sum(80, 0, 0), 809);
+        assert_eq!(sum(80, 3, 300), 809);
+        assert_eq!(sum(80, 0, u32::MAX), 4_294_968_104);
+        assert_eq!(sum(80, 4, 400), 0);
     }
 
     #[test]
@@ -279,15 +320,16 @@ mod tests {
     fn a_list_of_edits_is_the_edits_in_turn() {
         let (slots, distances) = ([1, 9, 2, 1], [255, 0, 1, 3]);
         let mut buffer = map_a(81);
-        let mut answers = [7; 37];
+        let mut answers = [7; 41];
         let list = edit_list(&mut buffer, &slots, &distances, &mut answers);
         assert_eq!(list, Ok(4));
         let mut single = map_a(81);
         for (j, (slot, distance)) in slots.into_iter().zip(distances).enumerate() {
             let answer = answer_numbers(edit(&mut single, slot, distance));
-            assert_eq!(answers[9 * j..9 * j + 9], answer);
+            assert_eq!(answers[10 * j..10 * j + 10], answer);
         }
         assert_eq!(buffer, single);
-        assert_eq!([8, 17, 26, 35, 36].map(|at| answers[at]), [2, 0, 1, 1, 7]);
+        assert_eq!([8, 18, 28, 38].map(|at| answers[at]), [810, 0, 556, 304]);
+        assert_eq!([9, 19, 29, 39, 40].map(|at| answers[at]), [2, 0, 1, 1, 7]);
     }
 }

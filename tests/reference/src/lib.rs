@@ -35,7 +35,7 @@ pub use mask::{
 pub use report::{report, report_text, MAX_INPUT};
 pub use write::{close, close_entries, encode, write};
 
-/// What a sound file's header says, and the file's length.
+/// What a sound file's header says, the file's length, and the sum of its list.
 #[derive(Clone, Copy, Debug, PartialEq, Eq)]
 pub struct Summary {
     /// Number of slots.
@@ -48,17 +48,21 @@ pub struct Summary {
     pub step: u64,
     /// Length of the file in bytes.
     pub len: u64,
+    /// Sum of all distances.
+    pub sum: u64,
 }
 
 impl Summary {
-    /// The summary of a file with `n` slots and `k` overflow entries, `k <= n <= MAX_SLOTS`.
-    fn of(n: u64, k: u64) -> Summary {
+    /// The summary of a file with `n` slots and `k` overflow entries, `k <= n <= MAX_SLOTS`, whose
+    /// list has this sum.
+    fn of(n: u64, k: u64, sum: u64) -> Summary {
         Summary {
             n,
             k,
             m: index_len(k),
             step: index_step(k),
             len: file_len(n, k),
+            sum,
         }
     }
 }

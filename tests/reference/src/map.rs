@@ -2,9 +2,9 @@
 
 use crate::entries::{check_entries, check_sentinels, Entry};
 use crate::layout::{
-    index_len, index_position, index_slot, index_step, le64, overflow_distance, overflow_slot,
-    IndexBytes, OverflowBytes, HEADER_LEN, INDEX_ENTRY_LEN, MAGIC, MAX_SLOTS, OVERFLOW_ENTRY_LEN,
-    SENTINEL,
+    file_len, index_len, index_position, index_slot, index_step, le64, overflow_distance,
+    overflow_slot, IndexBytes, OverflowBytes, HEADER_LEN, INDEX_ENTRY_LEN, MAGIC, MAX_SLOTS,
+    OVERFLOW_ENTRY_LEN, SENTINEL,
 };
 use crate::{require_capacity, Refusal, Summary};
 use std::ops::Range;
@@ -41,7 +41,6 @@ impl Located {
 /// The parts of a file that passed every rule.
 #[derive(Clone, Copy, Debug)]
 pub struct Map<'a> {
-    summary: Summary,
     primary: &'a [u8],
     overflow: &'a [OverflowBytes],
     index: &'a [IndexBytes],
@@ -50,11 +49,11 @@ pub struct Map<'a> {
 impl<'a> Map<'a> {
     /// Checks a whole file: refusals 1 to 8, in this order.
     pub fn open(file: &'a [u8]) -> Result<Map<'a>, Refusal> {
-        let summary = read_header(file)?;
-        if file.len() as u64 != summary.len {
+        let (n, k) = read_header(file)?;
+        if file.len() as u64 != file_len(n, k) {
             return Err(Refusal::of_file(5, 0));
         }
-        let map = Map::split(file, summary);
+        let map = Map::split(file, n, k);
         check_entries(map.primary, map.entries())?;
         check_sentinels(map.primary, map.entries())?;
         map.check_index()?;
@@ -64,17 +63,16 @@ impl<'a> Map<'a> {
     /// Checks the file at the front of a buffer: refusals 1 to 8, and 5 only where the buffer is
     /// shorter than the file.
     pub fn open_front(buffer: &'a [u8]) -> Result<Map<'a>, Refusal> {
-        let len = read_header(buffer)?.len;
-        let file = buffer.get(..len as usize).ok_or(Refusal::of_file(5, 0))?;
-        Map::open(file)
+        let (n, k) = read_header(buffer)?;
+        let file = buffer.get(..file_len(n, k) as usize);
+        Map::open(file.ok_or(Refusal::of_file(5, 0))?)
     }
 
     /// Splits a file of the right length into its parts.
-    pub(crate) fn split(file: &'a [u8], summary: Summary) -> Map<'a> {
-        let (primary, rest) = file[HEADER_LEN..].split_at(summary.n as usize);
-        let (overflow, index) = rest.split_at(OVERFLOW_ENTRY_LEN * summary.k as usize);
+    pub(crate) fn split(file: &'a [u8], n: u64, k: u64) -> Map<'a> {
+        let (primary, rest) = file[HEADER_LEN..].split_at(n as usize);
+        let (overflow, index) = rest.split_at(OVERFLOW_ENTRY_LEN * k as usize);
         Map {
-            summary,
             primary,
             overflow: overflow.as_chunks().0,
             index: index.as_chunks::<INDEX_ENTRY_LEN>().0,
@@ -84,7 +82,7 @@ impl<'a> Map<'a> {
     /// Refusal 8: index entry i is the slot of overflow entry i × step, then i × step.
     fn check_index(&self) -> Result<(), Refusal> {
         // Without an index there is nothing to compare, whatever the step of the walk.
-        let step = self.summary.step.max(1) as usize;
+        let step = index_step(self.k()).max(1) as usize;
         let indexed = (0u64..).zip(self.overflow).step_by(step);
         for (place, (entry, (position, indexed))) in (0u64..).zip(self.index.iter().zip(indexed)) {
             if index_slot(entry) != overflow_slot(indexed) || index_position(entry) != position {
@@ -102,9 +100,19 @@ impl<'a> Map<'a> {
         })
     }
 
-    /// The header's counts and the file's length.
+    /// Number of slots.
+    pub(crate) fn n(&self) -> u64 {
+        self.primary.len() as u64
+    }
+
+    /// Number of overflow entries.
+    pub(crate) fn k(&self) -> u64 {
+        self.overflow.len() as u64
+    }
+
+    /// The header's counts, the file's length, and the sum of the list.
     pub fn summary(&self) -> Summary {
-        self.summary
+        Summary::of(self.n(), self.k(), self.sum())
     }
 
     /// The primary array.
@@ -134,7 +142,7 @@ impl<'a> Map<'a> {
 
     /// The distance at a slot, and where it is stored. Refusal 9 for a slot outside.
     fn lookup(&self, slot: u64) -> Result<Located, Refusal> {
-        if slot >= self.summary.n {
+        if slot >= self.n() {
             return Err(Refusal::of_call(9, 0));
         }
         Ok(self.located(slot))
@@ -182,8 +190,8 @@ impl<'a> Map<'a> {
     }
 }
 
-/// Reads the header: refusals 1 to 4, and the length that the file must have.
-fn read_header(file: &[u8]) -> Result<Summary, Refusal> {
+/// Reads the header: refusals 1 to 4. Answers the numbers of slots and of overflow entries.
+fn read_header(file: &[u8]) -> Result<(u64, u64), Refusal> {
     let header = file.get(..HEADER_LEN).ok_or(Refusal::of_file(1, 0))?;
     let field = |at: usize| le64(&header[at..at + 8]);
     let (n, k, m, step) = (field(8), field(16), field(24), field(32));
@@ -196,12 +204,12 @@ fn read_header(file: &[u8]) -> Result<Summary, Refusal> {
     if k > n || step != index_step(k) || m != index_len(k) {
         return Err(Refusal::of_file(4, 0));
     }
-    Ok(Summary::of(n, k))
+    Ok((n, k))
 }
 
 /// The summary of a file.
 pub fn check(file: &[u8]) -> Result<Summary, Refusal> {
-    Map::open(file).map(|map| map.summary)
+    Map::open(file).map(|map| map.summary())
 }
 
 /// The primary array of a file, empty where check refuses the file.
@@ -222,7 +230,7 @@ pub fn lookup(file: &[u8], slot: u64) -> Result<Located, Refusal> {
 /// The same with the number of the overflow entry as [`lookup_list`] has it.
 pub fn lookup_numbered(file: &[u8], slot: u64) -> Result<(u32, u64), Refusal> {
     let map = Map::open(file)?;
-    Ok(map.lookup(slot)?.numbered(map.summary.k))
+    Ok(map.lookup(slot)?.numbered(map.k()))
 }
 
 /// The distances at the slots of a list, to the front of `distances`, and the numbers of their
@@ -236,13 +244,13 @@ pub fn lookup_list(
     entries: &mut [u64],
 ) -> Result<u64, Refusal> {
     let map = Map::open(file)?;
-    if let Some(position) = slots.iter().position(|&slot| slot >= map.summary.n) {
+    if let Some(position) = slots.iter().position(|&slot| slot >= map.n()) {
         return Err(Refusal::of_call(9, position as u64));
     }
     require_capacity(slots.len(), distances.len())?;
     require_capacity(slots.len(), entries.len())?;
     for ((distance, entry), &slot) in distances.iter_mut().zip(entries).zip(slots) {
-        (*distance, *entry) = map.located(slot).numbered(map.summary.k);
+        (*distance, *entry) = map.located(slot).numbered(map.k());
     }
     Ok(slots.len() as u64)
 }
@@ -255,7 +263,7 @@ pub fn scan(file: &[u8], distances: &mut [u32]) -> Result<u64, Refusal> {
     for (out, distance) in distances.iter_mut().zip(map.distances()) {
         *out = distance;
     }
-    Ok(map.summary.n)
+    Ok(map.n())
 }
 
 /// The sum of all distances. Refusals 1 to 8.

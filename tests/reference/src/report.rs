@@ -34,7 +34,7 @@ fn lines(map: &Map) -> String {
         summary.k,
         summary.step,
         summary.m,
-        map.sum(),
+        summary.sum,
         map.readings()
     )
 }

@@ -16,7 +16,7 @@ pub struct Vector {
 
 /// What a sound file holds.
 pub struct Contents {
-    /// The counts, and the file's length.
+    /// The counts, the file's length, and the sum of the distances.
     pub summary: Summary,
     /// The distances.
     pub list: Vec<u32>,
@@ -53,8 +53,15 @@ impl Vector {
         let none = || "-".to_string();
         match &self.answer {
             Ok(Contents { summary, list }) => {
-                let Summary { n, k, m, step, len } = summary;
-                let numbers = [0, 0, 0, *n, *k, *m, *step, *len, sum(list), readings(list)];
+                let Summary {
+                    n,
+                    k,
+                    m,
+                    step,
+                    len,
+                    sum,
+                } = *summary;
+                let numbers = [0, 0, 0, n, k, m, step, len, sum, readings(list)];
                 let ends = [list.first(), list.last()];
                 let mut fields: Vec<String> = numbers.iter().map(u64::to_string).collect();
                 fields.extend(ends.map(|end| end.map_or_else(none, u32::to_string)));
@@ -71,10 +78,6 @@ impl Vector {
             }
         }
     }
-}
-
-fn sum(list: &[u32]) -> u64 {
-    list.iter().copied().map(u64::from).sum()
 }
 
 fn readings(list: &[u32]) -> u64 {
@@ -137,38 +140,50 @@ fn long_slots() -> Vec<u32> {
 
 fn good() -> Vec<Vector> {
     vec![
-        accepted("empty", vec![], [0, 0, 0, 0, 40]),
-        accepted("zeros", vec![0; 100], [100, 0, 0, 0, 140]),
-        accepted("inline", (0..255).collect(), [255, 0, 0, 0, 295]),
-        accepted("all-in-overflow", vec![300; 3], [3, 3, 0, 0, 79]),
-        accepted("map-a", MAP_A.into(), [4, 2, 0, 0, 68]),
-        accepted("map-b", vec![1, 1, 1, u32::MAX], [4, 1, 0, 0, 56]),
-        accepted("borders", BORDERS.into(), [16, 12, 0, 0, 200]),
-        accepted("long-slots", long_slots(), [65_538, 4, 0, 0, 65_626]),
+        accepted("empty", vec![], [0, 0, 0, 0, 40, 0]),
+        accepted("zeros", vec![0; 100], [100, 0, 0, 0, 140, 0]),
+        accepted("inline", (0..255).collect(), [255, 0, 0, 0, 295, 32_385]),
+        accepted("all-in-overflow", vec![300; 3], [3, 3, 0, 0, 79, 900]),
+        accepted("map-a", MAP_A.into(), [4, 2, 0, 0, 68, 809]),
+        accepted(
+            "map-b",
+            vec![1, 1, 1, u32::MAX],
+            [4, 1, 0, 0, 56, 4_294_967_298],
+        ),
+        accepted(
+            "borders",
+            BORDERS.into(),
+            [16, 12, 0, 0, 200, 17_213_555_745],
+        ),
+        accepted(
+            "long-slots",
+            long_slots(),
+            [65_538, 4, 0, 0, 65_626, 10_000],
+        ),
         accepted(
             "1048576-slots",
             vec![0; 1_048_576],
-            [1_048_576, 0, 0, 0, 1_048_616],
+            [1_048_576, 0, 0, 0, 1_048_616, 0],
         ),
         accepted(
             "2048-overflow-no-index",
             with_overflow(2_100, 2_048),
-            [2_100, 2_048, 0, 0, 26_716],
+            [2_100, 2_048, 0, 0, 26_716, 2_148_857_296],
         ),
         accepted(
             "2049-overflow-step-2",
             with_overflow(2_100, 2_049),
-            [2_100, 2_049, 1_025, 2, 43_128],
+            [2_100, 2_049, 1_025, 2, 43_128, 2_149_906_299],
         ),
         accepted(
             "4096-overflow-step-2",
             with_overflow(4_200, 4_096),
-            [4_200, 4_096, 2_048, 2, 86_160],
+            [4_200, 4_096, 2_048, 2, 86_160, 8_598_514_592],
         ),
         accepted(
             "4097-overflow-step-3",
             with_overflow(4_200, 4_097),
-            [4_200, 4_097, 1_366, 3, 75_260],
+            [4_200, 4_097, 1_366, 3, 75_260, 8_600_609_839],
         ),
     ]
 }
@@ -292,13 +307,20 @@ fn bad_index() -> Vec<Vector> {
     ]
 }
 
-/// A vector `good-..`: its list, and n, k, m, step and L of its file.
-fn accepted(what: &str, list: Vec<u32>, [n, k, m, step, len]: [u64; 5]) -> Vector {
+/// A vector `good-..`: its list, and n, k, m, step, L and the sum of its file's summary.
+fn accepted(what: &str, list: Vec<u32>, [n, k, m, step, len, sum]: [u64; 6]) -> Vector {
     Vector {
         name: format!("good-{what}.pciv"),
         file: file_of(&list),
         answer: Ok(Contents {
-            summary: Summary { n, k, m, step, len },
+            summary: Summary {
+                n,
+                k,
+                m,
+                step,
+                len,
+                sum,
+            },
             list,
         }),
     }

@@ -95,7 +95,8 @@ pub(crate) fn write_parts(
     overflow: impl ExactSizeIterator<Item = Entry> + Clone,
     out: &mut [u8],
 ) -> Result<Summary, Refusal> {
-    let summary = Summary::of(primary.len() as u64, overflow.len() as u64);
+    let sum = sum_of_parts(primary, overflow.clone());
+    let summary = Summary::of(primary.len() as u64, overflow.len() as u64, sum);
     require_capacity(summary.len as usize, out.len())?;
     let file = &mut out[..summary.len as usize];
     let (header, rest) = file.split_at_mut(HEADER_LEN);
@@ -106,6 +107,14 @@ pub(crate) fn write_parts(
     write_overflow(overflow_out, overflow.clone());
     write_index(index_out, overflow, summary.step);
     Ok(summary)
+}
+
+/// The sum of the list that these parts hold: the inline distances, and those of the entries.
+fn sum_of_parts(primary: &[u8], overflow: impl Iterator<Item = Entry>) -> u64 {
+    let inline = primary.iter().filter(|&&byte| byte != SENTINEL);
+    let inline: u64 = inline.copied().map(u64::from).sum();
+    let in_overflow: u64 = overflow.map(|entry| u64::from(entry.distance)).sum();
+    inline + in_overflow
 }
 
 fn write_header(out: &mut [u8], summary: &Summary) {
@@ -165,6 +174,17 @@ mod tests {
             let mut distances = vec![7; 5_000];
             distances[5_000 - k..].fill(255);
             assert_eq!(encode(&distances).unwrap().len(), len);
+        }
+    }
+
+    #[test]
+    fn sums_of_the_largest_maps() {
+        let mut out = vec![0; file_len(MAX_SLOTS, MAX_SLOTS) as usize];
+        let largest = (u32::MAX, 4_503_599_626_321_920);
+        for (distance, sum) in [largest, (254, 266_338_304), (0, 0)] {
+            let summary = write(&vec![distance; MAX_SLOTS as usize], &mut out).unwrap();
+            assert_eq!(summary.sum, sum);
+            assert_eq!(crate::check(&out[..summary.len as usize]), Ok(summary));
         }
     }
 

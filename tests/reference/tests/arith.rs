@@ -28,8 +28,8 @@ fn refused(number: u64, map: u64, place: u64) -> Refusal {
     Refusal { number, map, place }
 }
 
-/// The list of a result. A generous buffer keeps what follows the file, one that is a byte short is
-/// refused, and an exact one is enough.
+/// The list of a result, whose sum the summary has. A generous buffer keeps what follows the file, one
+/// that is a byte short is refused, and an exact one is enough.
 fn list_of(call: impl Fn(&mut [u8]) -> Result<Summary, Refusal>) -> Result<Vec<u32>, Refusal> {
     let mut out = [0xA5; 4_000];
     let summary = call(&mut out)?;
@@ -37,6 +37,8 @@ fn list_of(call: impl Fn(&mut [u8]) -> Result<Summary, Refusal>) -> Result<Vec<u
     assert_eq!(reference::check(file), Ok(summary));
     assert!(rest.iter().all(|&byte| byte == 0xA5));
     let list = decode(file);
+    let sum = |list: &Vec<u32>| list.iter().copied().map(u64::from).sum();
+    assert_eq!(list.as_ref().map(sum), Ok(summary.sum));
     let short = call(&mut file[1..]).unwrap_err();
     assert_eq!(short, refused(12, 0, 0));
     assert_eq!(call(file), Ok(summary));

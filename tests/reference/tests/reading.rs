@@ -45,6 +45,7 @@ fn empty_map() {
         m: 0,
         step: 0,
         len: 40,
+        sum: 0,
     };
     assert_eq!(check(&file), Ok(summary));
     assert_eq!(primary(&file), []);
@@ -63,6 +64,7 @@ fn map_a() {
         m: 0,
         step: 0,
         len: 68,
+        sum: 809,
     };
     assert_eq!(check(&file), Ok(summary));
     assert_eq!(primary(&file), [0x00, 0xFE, 0xFF, 0xFF]);
@@ -76,6 +78,7 @@ fn map_b() {
     let file = file_of(&B);
     assert_eq!(decode(&file).unwrap(), B);
     assert_eq!((sum(&file), readings(&file)), (Ok(4_294_967_298), Ok(4)));
+    assert_eq!(check(&file).unwrap().sum, 4_294_967_298);
 }
 
 #[test]

@@ -13,7 +13,7 @@ fn every_file_gets_its_answer() {
                 assert!(decode(file).as_ref() == Ok(list), "{name}");
                 assert!(encode(list).as_ref() == Ok(file), "{name}");
                 let total = list.iter().copied().map(u64::from).sum();
-                assert_eq!(sum(file), Ok(total), "{name}");
+                assert_eq!((summary.sum, sum(file)), (total, Ok(total)), "{name}");
                 let count = list.iter().filter(|&&distance| distance > 0).count();
                 assert_eq!(readings(file), Ok(count as u64), "{name}");
             }

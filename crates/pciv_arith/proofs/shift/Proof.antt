@@ -3,8 +3,8 @@ use mathlib.Core.Path.{_≡_, sym, ap, _∙_}
 use mir.Syntax.{w32}
 use mir.Facts.{toZ-ofZ}
 use Rattle.pciv_format.specs.Refusals.{done, refused}
-use Rattle.pciv_format.specs.Check.{checkFile}
-use Rattle.pciv_format.proofs.RefusalsLaws.{fileAnswer-done, fileAnswer-refused}
+use Rattle.pciv_format.specs.Check.{countsFile}
+use Rattle.pciv_format.proofs.RefusalsLaws.{countsAnswer-counted, countsAnswer-refused}
 use Rattle.pciv_arith.specs.Direction.{directionOf}
 use Rattle.pciv_arith.specs.declared.Direction.the-variants.{Down, Up}
 use Rattle.pciv_arith.proofs.ShiftLaws.{checked, up-small, down-is, up-is, shift-refused, shift-written}
@@ -12,17 +12,17 @@ use borrow.Author.Needs.{needs}
 use Rattle.pciv_arith.proofs.shift.Statement.{statement}
 use Rattle.pciv_arith.proofs.shift.Tie as tie
 
-abbrev entry : tie.After-check → tie.Start
+abbrev entry : tie.After-check-counts → tie.Start
 entry c = c .before .before .before
 
 -- what the check has shown: why the file is refused, or its counts
 is-refused : (c : tie.After-checked)
-    → checkFile 1 (entry (c .before .before) .args .file .now) ≡ refused (c .checked .given .0 .0)
-is-refused c = fileAnswer-refused _ _ (sym (c .checked .given .1) ∙ c .before .before .check .ensures)
+    → countsFile 1 (entry (c .before .before) .args .file .now) ≡ refused (c .checked .given .0 .0)
+is-refused c = countsAnswer-refused _ _ (sym (c .checked .given .1) ∙ c .before .before .check-counts .ensures)
 
 is-map : (c : tie.After-checked2)
-    → checkFile 1 (entry (c .before .before) .args .file .now) ≡ done (c .checked2 .given .0 .0)
-is-map c = fileAnswer-done _ _ (sym (c .checked2 .given .1) ∙ c .before .before .check .ensures)
+    → countsFile 1 (entry (c .before .before) .args .file .now) ≡ done (c .checked2 .given .0 .0)
+is-map c = countsAnswer-counted _ _ (sym (c .checked2 .given .1) ∙ c .before .before .check-counts .ensures)
 
 -- which way it goes
 answered : (c : tie.After-which-way)
@@ -39,8 +39,8 @@ up : (c : tie.After-way2)
     → Up (c .way2 .given .0 .0) ≡ directionOf (entry (c .before .before .before .before .before .before) .args .by)
 up c = sym (c .way2 .given .1) ∙ answered (c .before .before)
 
-check-requires : tie.Need-check-requires
-check-requires c κs = search needs
+check-counts-requires : tie.Need-check-counts-requires
+check-counts-requires c κs = search needs
 
 enum-known-checked : tie.Need-enum-known-checked
 enum-known-checked c = search needs
@@ -106,7 +106,7 @@ pub shift-spec : {M : Type 1} → statement M
 shift-spec =
     tie.close
     (tie.spec
-    check-requires
+    check-counts-requires
     enum-known-checked
     enum-known-checked-2
     which-way-requires

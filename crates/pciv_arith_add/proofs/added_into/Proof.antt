@@ -10,7 +10,7 @@ use Rattle.pciv_format.specs.declared.Summary.{Summary}
 use Rattle.pciv_build.specs.Build.{Fits}
 use Rattle.pciv_build.proofs.IntoLaws.{map-large, map-fits, fits-none}
 use Rattle.pciv_build.proofs.ChainLaws.{begin-few, Opened, opened-refused, opened-space, opened-entries}
-use Rattle.pciv_build.proofs.ChainLaws.{opened-finish, opened-done}
+use Rattle.pciv_build.proofs.ChainLaws.{opened-finish, opened-map, opened-done}
 use Rattle.pciv_arith_add.specs.Addition.{addedAt}
 use borrow.Author.Needs.{needs}
 use Rattle.pciv_arith_add.proofs.added_into.Statement.{statement}
@@ -48,6 +48,7 @@ opened b =
     let s = at-count e in
     record {
       few = s .pre .0 .first .header .small;
+      each = fits (e .before);
       count = e .count-added .ensures;
       into = map-fits (s .args .n) (v s) (length (s .args .out .now)) (fits (e .before));
       answer = b .begin .ensures .0;
@@ -108,6 +109,16 @@ finish-requires c κs =
     opened-finish (opened (k .before .before .before .before)) _ (k .begun2 .given .1) _ (p .put-primary .ensures) _
     (q .put-entries .ensures)
 
+summary-of-requires : tie.Need-summary-of-requires
+summary-of-requires c κs =
+    let f = c .before .before .before in
+    let q = f .before .before .before .before in
+    let p = q .before .before .before .before in
+    let k = p .before .before .before in
+    opened-map (opened (k .before .before .before .before)) _ (k .begun2 .given .1) _ (p .put-primary .ensures) _
+    (q .put-entries .ensures)
+    _ (f .finish .ensures)
+
 same-length : tie.Need-same-length
 same-length c = search needs
 
@@ -121,13 +132,13 @@ same-length-2 c = search needs
 
 returns-3 : tie.Need-returns-3
 returns-3 c =
-    let f = c .before .before in
+    let f = c .before .before .before .before in
     let q = f .before .before .before .before in
     let p = q .before .before .before .before in
     let k = p .before .before .before in
     opened-done (opened (k .before .before .before .before)) _ (k .begun2 .given .1) _ (p .put-primary .ensures) _
     (q .put-entries .ensures)
-    _ (f .finish .ensures)
+    _ (f .finish .ensures) _ (c .summary-of .ensures)
 
 pub added-into-spec : {M : Type 1} → statement M
 added-into-spec =
@@ -143,6 +154,7 @@ added-into-spec =
     put-primary-requires
     put-entries-requires
     finish-requires
+    summary-of-requires
     same-length
     returns-2
     same-length-2

@@ -12,7 +12,7 @@ use Rattle.pciv_format.proofs.MapLaws.{value-lt}
 use Rattle.pciv_build.specs.Build.{Fits}
 use Rattle.pciv_build.proofs.IntoLaws.{map-fits}
 use Rattle.pciv_build.proofs.ChainLaws.{begin-few, Opened, opened-refused, opened-space, opened-entries}
-use Rattle.pciv_build.proofs.ChainLaws.{opened-finish, opened-done}
+use Rattle.pciv_build.proofs.ChainLaws.{opened-finish, opened-map, opened-done}
 use Rattle.pciv_arith_lower.specs.Lowered.{loweredAt}
 use borrow.Author.Needs.{needs}
 use Rattle.pciv_arith_lower.proofs.lowered_into.Statement.{statement}
@@ -44,6 +44,7 @@ opened b =
     let s = entry e in
     record {
       few = s .pre .header .small;
+      each = fits e;
       count = e .count-lowered .ensures;
       into = map-fits (s .args .n) (v s) (length (s .args .out .now)) (fits e);
       answer = b .begin .ensures .0;
@@ -88,6 +89,16 @@ finish-requires c κs =
     opened-finish (opened (k .before .before .before .before)) _ (k .begun2 .given .1) _ (p .put-primary .ensures) _
     (q .put-entries .ensures)
 
+summary-of-requires : tie.Need-summary-of-requires
+summary-of-requires c κs =
+    let f = c .before .before .before in
+    let q = f .before .before .before .before in
+    let p = q .before .before .before .before in
+    let k = p .before .before .before in
+    opened-map (opened (k .before .before .before .before)) _ (k .begun2 .given .1) _ (p .put-primary .ensures) _
+    (q .put-entries .ensures)
+    _ (f .finish .ensures)
+
 same-length : tie.Need-same-length
 same-length c = search needs
 
@@ -101,13 +112,13 @@ same-length-2 c = search needs
 
 returns-2 : tie.Need-returns-2
 returns-2 c =
-    let f = c .before .before in
+    let f = c .before .before .before .before in
     let q = f .before .before .before .before in
     let p = q .before .before .before .before in
     let k = p .before .before .before in
     opened-done (opened (k .before .before .before .before)) _ (k .begun2 .given .1) _ (p .put-primary .ensures) _
     (q .put-entries .ensures)
-    _ (f .finish .ensures)
+    _ (f .finish .ensures) _ (c .summary-of .ensures)
 
 pub lowered-into-spec : {M : Type 1} → statement M
 lowered-into-spec =
@@ -120,6 +131,7 @@ lowered-into-spec =
     put-primary-requires
     put-entries-requires
     finish-requires
+    summary-of-requires
     same-length
     returns
     same-length-2

@@ -2,7 +2,7 @@
 use mathlib.Core.Path.{_≡_, sym, _∙_}
 use Rattle.pciv_format.specs.Refusals.{done}
 use Rattle.pciv_format.specs.Check.{checkHeader, checkWith}
-use Rattle.pciv_format.proofs.RefusalsLaws.{fileAnswer-done, fileAnswer-refused}
+use Rattle.pciv_format.proofs.RefusalsLaws.{countsAnswer-counted, countsAnswer-refused}
 use Rattle.pciv_check.proofs.RefusalLaws.{wrongLength-fits, header-inside}
 use borrow.Author.Needs.{needs}
 use Rattle.pciv_check.proofs.check_with.Statement.{statement}
@@ -12,7 +12,7 @@ use Rattle.pciv_check.proofs.check_with.Tie as tie
 header-done : (c : tie.After-counts2)
     → (let a = c .before .before .before .before .args in
     checkHeader (a .map) (a .file .now) ≡ done (c .counts2 .given .0 .0))
-header-done c = fileAnswer-done _ _ (sym (c .counts2 .given .1) ∙ c .before .before .check-header .ensures)
+header-done c = countsAnswer-counted _ _ (sym (c .counts2 .given .1) ∙ c .before .before .check-header .ensures)
 
 check-header-requires : tie.Need-check-header-requires
 check-header-requires c κs = search needs
@@ -26,14 +26,14 @@ enum-known-counts-2 c = search needs
 wrong-length-requires : tie.Need-wrong-length-requires
 wrong-length-requires c κs = search needs
 
-refuse-file-requires : tie.Need-refuse-file-requires
-refuse-file-requires c κs = search needs
+refuse-counts-requires : tie.Need-refuse-counts-requires
+refuse-counts-requires c κs = search needs
 
 returns : tie.Need-returns
 unfolding checkWith
 returns c =
     let t = c .before .before in
-    rw (header-done (t .before .before), ← t .wrong-length .ensures, c .before .if1 .taken) (c .refuse-file .ensures)
+    rw (header-done (t .before .before), ← t .wrong-length .ensures, c .before .if1 .taken) (c .refuse-counts .ensures)
 
 check-parts-requires : tie.Need-check-parts-requires
 check-parts-requires c κs =
@@ -48,7 +48,7 @@ returns-2 c =
     let k = c .before in
     let h = k .before .before in
     let a = h .before .before .args in
-    rw (fileAnswer-refused (checkHeader (a .map) (a .file .now)) (k .counts .given .0 .0)
+    rw (countsAnswer-refused (checkHeader (a .map) (a .file .now)) (k .counts .given .0 .0)
     (sym (k .counts .given .1) ∙ h .check-header .ensures))
 
 returns-3 : tie.Need-returns-3
@@ -65,7 +65,7 @@ check-with-spec =
     enum-known-counts
     enum-known-counts-2
     wrong-length-requires
-    refuse-file-requires
+    refuse-counts-requires
     returns
     check-parts-requires
     returns-2

@@ -5,10 +5,10 @@ use Prim.Native.Nat.{ℕ, _<_}
 use native.Mathlib.Omega.{arith}
 use Rattle.pciv_bytes.proofs.RangesLaws.{firstBelow-all}
 use Rattle.pciv_format.specs.Layout.{indexLen}
-use Rattle.pciv_format.specs.Refusals.{fileAnswer}
+use Rattle.pciv_format.specs.Refusals.{countsAnswer}
 use Rattle.pciv_format.specs.Parts.{badEntry, badSlot, EntriesRight}
 use Rattle.pciv_format.specs.Check.{fileParts, badIndexEntry}
-use Rattle.pciv_format.specs.declared.FileAnswer.the-variants.{Done}
+use Rattle.pciv_format.specs.declared.CountsAnswer.the-variants.{Counted}
 use Rattle.pciv_check_parts.proofs.PartsRefusalLaws.{parts-entry, parts-slot, parts-index, parts-done}
 use borrow.Author.Needs.{needs}
 use Rattle.pciv_check_parts.proofs.check_parts.Statement.{statement}
@@ -33,15 +33,15 @@ slots c i h =
 first-bad-entry-requires : tie.Need-first-bad-entry-requires
 first-bad-entry-requires c κs = search needs
 
-refuse-file-requires : tie.Need-refuse-file-requires
-refuse-file-requires c κs = search needs
+refuse-counts-requires : tie.Need-refuse-counts-requires
+refuse-counts-requires c κs = search needs
 
 returns : tie.Need-returns
 returns c =
     let g = c .before .before in
     let a = g .before .before .args in
-    c .refuse-file .ensures
-    ∙ ap fileAnswer
+    c .refuse-counts .ensures
+    ∙ ap countsAnswer
     (sym
     (parts-entry (a .map) (a .file .now) (a .n) (a .k) (g .first-bad-entry .result) (g .first-bad-entry .ensures)
     (c .before .if1 .taken)))
@@ -49,15 +49,15 @@ returns c =
 first-bad-slot-requires : tie.Need-first-bad-slot-requires
 first-bad-slot-requires c κs = (c .before .before .before .pre, entries c)
 
-refuse-file-requires-2 : tie.Need-refuse-file-requires-2
-refuse-file-requires-2 c κs = search needs
+refuse-counts-requires-2 : tie.Need-refuse-counts-requires-2
+refuse-counts-requires-2 c κs = search needs
 
 returns-2 : tie.Need-returns-2
 returns-2 c =
     let g = c .before .before in
     let a = g .before .before .before .before .args in
-    c .refuse-file2 .ensures
-    ∙ ap fileAnswer
+    c .refuse-counts2 .ensures
+    ∙ ap countsAnswer
     (sym
     (parts-slot (a .map) (a .file .now) (a .n) (a .k) (g .first-bad-slot .result) (entries (g .before))
     (g .first-bad-slot .ensures) (c .before .if2 .taken)))
@@ -68,8 +68,8 @@ index-len-requires c κs = search needs
 first-bad-index-entry-requires : tie.Need-first-bad-index-entry-requires
 first-bad-index-entry-requires c κs = search needs
 
-refuse-file-requires-3 : tie.Need-refuse-file-requires-3
-refuse-file-requires-3 c κs = search needs
+refuse-counts-requires-3 : tie.Need-refuse-counts-requires-3
+refuse-counts-requires-3 c κs = search needs
 
 returns-3 : tie.Need-returns-3
 returns-3 c =
@@ -78,14 +78,14 @@ returns-3 c =
     let z = g .before in
     let e = z .before .before in
     let a = e .before .before .before .args in
-    c .refuse-file3 .ensures
-    ∙ ap fileAnswer
+    c .refuse-counts3 .ensures
+    ∙ ap countsAnswer
     (sym
     (parts-index (a .map) (a .file .now) (a .n) (a .k) (g .first-bad-index-entry .result) (entries e) (slots z)
     (g .first-bad-index-entry .ensures) (omega (arith, m .index-len .ensures, c .before .if3 .taken))))
 
-summary-of-requires : tie.Need-summary-of-requires
-summary-of-requires c κs = search needs
+counts-of-requires : tie.Need-counts-of-requires
+counts-of-requires c κs = search needs
 
 returns-4 : tie.Need-returns-4
 returns-4 c =
@@ -100,21 +100,21 @@ returns-4 c =
     λ j h.
     firstBelow-all (badIndexEntry b (a .n) (a .k)) (indexLen (a .k)) j
     (omega (arith, g .first-bad-index-entry .ensures, m .index-len .ensures, x .if3 .left)) h in
-    rw (parts-done (a .map) b (a .n) (a .k) 0 (entries e) (slots z) index) (ap Done (c .summary-of .ensures))
+    rw (parts-done (a .map) b (a .n) (a .k) 0 (entries e) (slots z) index) (ap Counted (c .counts-of .ensures))
 
 pub check-parts-spec : {M : Type 1} → statement M
 check-parts-spec =
     tie.close
     (tie.spec
     first-bad-entry-requires
-    refuse-file-requires
+    refuse-counts-requires
     returns
     first-bad-slot-requires
-    refuse-file-requires-2
+    refuse-counts-requires-2
     returns-2
     first-bad-index-entry-requires
     index-len-requires
-    refuse-file-requires-3
+    refuse-counts-requires-3
     returns-3
-    summary-of-requires
+    counts-of-requires
     returns-4)

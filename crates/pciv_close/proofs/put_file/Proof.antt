@@ -1,16 +1,17 @@
--- Proves pciv_close::put_file: header, primary array, entries and index are the file.
-use mathlib.Core.Path.{_≡_, sym, ap, _∙_}
+-- Proves pciv_close::put_file: header, primary array, entries and index are the file (the laws of pciv_build).
+use mathlib.Core.Path.{_≡_, refl}
+use Prim.Native.Nat.{_+_}
 use native.Mathlib.Omega.{arith}
 use lib.ListN.{length}
-use Rattle.pciv_format.specs.Layout.{overflowCount}
-use Rattle.pciv_format.specs.Refusals.{done, fileAnswer}
+use lib.Seq.{sets}
 use Rattle.pciv_bytes.specs.LittleEndian.{Bytes}
+use Rattle.pciv_format.specs.Layout.{primary, overflowCount, overflowPart}
 use Rattle.pciv_format.specs.Parts.{Parts, valueOf}
 use Rattle.pciv_format.specs.Write.{closeParts}
-use Rattle.pciv_format.proofs.LayoutLaws.{overflowCount-le}
-use Rattle.pciv_format.proofs.RefusalsLaws.{fileAnswer-done, fileAnswer-refused}
-use Rattle.pciv_build.specs.Build.{beginOutcome}
-use Rattle.pciv_build.proofs.BuildLaws.{Begun, begun, begin-is, built-done, built-refused}
+use Rattle.pciv_format.proofs.PartsLaws.{valueOf-le}
+use Rattle.pciv_build.proofs.ChainLaws.{begin-few, Opened, opened-refused, opened-space, opened-entries}
+use Rattle.pciv_build.proofs.ChainLaws.{opened-finish, opened-map, opened-done}
+use Rattle.pciv_close.specs.Close.{partsOutcome}
 use Rattle.pciv_close.proofs.CloseLaws.{lengths-same}
 use Rattle.pciv_close.proofs.SoundLaws.{primary-close, overflowPart-close, overflowCount-close}
 use borrow.Author.Needs.{needs}
@@ -31,40 +32,62 @@ count c =
     let a = s .args in
     overflowCount-close (a .primary .now) (a .slots .now) (a .distances .now) (s .pre .1) (bytes c)
 
--- from after `begin`: the primary array is known, and what that says of the answer
+-- from after `begin`: the primary array is known
 abbrev known : tie.After-begin → tie.After-shared-slice-known
 known c = c .before .before .before .before
 
-begun-done : (c : tie.After-begun2)
-    → (let b = c .before .before .before .before in
-    let a = known b .before .before .args in
-    beginOutcome (length (a .primary .now)) (length (a .slots .now)) (length (a .out .now))
-    ≡ done (c .begun2 .given .0 .0))
-begun-done c =
-    fileAnswer-done _ _ (sym (c .begun2 .given .1) ∙ c .before .before .before .before .begin .ensures .0)
+abbrev entry : tie.After-begin → tie.Start
+entry c = known c .before .before
 
-opened : (c : tie.After-begun2)
-    → (let b = c .before .before .before .before in
-    let a = known b .before .before .args in
-    Begun (length (a .primary .now)) (length (a .slots .now)) (a .out .now) (c .begun2 .given .0 .0))
-opened c = begun _ _ _ _ (begun-done c)
+opened : (b : tie.After-begin)
+    → (let s = entry b in
+    let a = s .args in
+    Opened (parts s .n) (length (a .slots .now)) (valueOf (parts s)) (partsOutcome (parts s) (length (a .out .now)))
+    (a .out .now) (b .begin .result) (b .begin .last .0))
+opened b =
+    let s = entry b in
+    record {
+      few = s .pre .0;
+      each =
+          valueOf-le (parts s) (s .pre .1) (bytes (known b))
+          (λ j h. omega (arith, b .before .before .shared-slice-known3 .given j .fits));
+      count = count (known b);
+      into = refl;
+      answer = b .begin .ensures .0;
+      buffer = b .begin .ensures .1;
+    }
 
--- the places on the way, from after the copy of the primary array; the buffer is as long as at first
-abbrev opened-of : tie.After-copy-bytes → tie.After-begun2
-opened-of c = c .before .before .before
-
+-- the primary array and the entries are written
 abbrev start-of : tie.After-copy-bytes → tie.After-begin
-start-of c = opened-of c .before .before .before .before
+start-of c = c .before .before .before .before .before .before .before
 
-copied-length : (c : tie.After-copy-bytes)
-    → length (c .copy-bytes .last .1 .0) ≡ length (known (start-of c) .before .before .args .out .now)
-copied-length c = omega (arith, c .copy-bytes .kept .1 .0, start-of c .begin .kept .0)
+copied : (y : tie.After-copy-bytes)
+    → (let s = entry (start-of y) in
+    y .copy-bytes .last .1 .0 ≡ sets (start-of y .begin .last .0) 40 (primary (parts s .n) (valueOf (parts s))))
+copied y =
+    let b = start-of y in
+    let s = entry b in
+    let a = s .args in
+    rw (primary-close (a .primary .now) (a .slots .now) (a .distances .now) (s .pre .1) (bytes (known b)))
+    (y .copy-bytes .ensures)
+
+entries-put : (p : tie.After-put-entries)
+    → (let y = p .before .before .before .before in
+    let s = entry (start-of y) in
+    p .put-entries .last .0
+    ≡ sets (y .copy-bytes .last .1 .0) (40 + parts s .n) (overflowPart (parts s .n) (valueOf (parts s))))
+entries-put p =
+    let b = start-of (p .before .before .before .before) in
+    let s = entry b in
+    let a = s .args in
+    rw (overflowPart-close (a .primary .now) (a .slots .now) (a .distances .now) (s .pre .1) (bytes (known b)))
+    (p .put-entries .ensures)
 
 begin-requires : tie.Need-begin-requires
 begin-requires c κs =
     let p = c .before .before .before in
     let s = p .before .before in
-    (s .pre .0, omega (arith, count p, overflowCount-le (parts s .n) (valueOf (parts s))))
+    begin-few (parts s .n) (length (s .args .slots .now)) (valueOf (parts s)) (s .pre .0) (count p)
 
 enum-known-begun : tie.Need-enum-known-begun
 enum-known-begun c = search needs
@@ -75,8 +98,7 @@ enum-known-begun-2 c = search needs
 copy-bytes-requires : tie.Need-copy-bytes-requires
 copy-bytes-requires c κs =
     let o = c .before .before in
-    let b = o .before .before .before .before in
-    omega (arith, opened o .entries, b .begin .kept .0)
+    omega (arith, opened-space (opened (o .before .before .before .before)) _ (o .begun2 .given .1))
 
 add-put-entries : tie.Need-add-put-entries
 add-put-entries c = search needs
@@ -84,22 +106,27 @@ add-put-entries c = search needs
 put-entries-requires : tie.Need-put-entries-requires
 put-entries-requires c κs =
     let y = c .before .before .before in
-    let s = known (start-of y) .before .before in
+    let o = y .before .before .before in
+    let b = start-of y in
+    let s = entry b in
     let a = s .args in (
       lengths-same (a .primary .now) (a .slots .now) (a .distances .now) (s .pre .1 .entries),
-      omega (arith, opened (opened-of y) .entries, copied-length y),
+      opened-entries (opened b) _ (o .begun2 .given .1) _ (copied y) .1,
     )
 
 finish-requires : tie.Need-finish-requires
 finish-requires c κs =
     let p = c .before .before .before in
     let y = p .before .before .before .before in
-    let b = start-of y in
-    let s = known b .before .before in (
-      s .pre .0,
-      omega (arith, count (known b), overflowCount-le (parts s .n) (valueOf (parts s))),
-      omega (arith, opened (opened-of y) .fits, copied-length y, p .put-entries .kept .0),
-    )
+    opened-finish (opened (start-of y)) _ (y .before .before .before .begun2 .given .1) _ (copied y) _ (entries-put p)
+
+summary-of-requires : tie.Need-summary-of-requires
+summary-of-requires c κs =
+    let f = c .before .before .before in
+    let p = f .before .before .before .before in
+    let y = p .before .before .before .before in
+    opened-map (opened (start-of y)) _ (y .before .before .before .begun2 .given .1) _ (copied y) _ (entries-put p)
+    _ (f .finish .ensures)
 
 same-length : tie.Need-same-length
 same-length c = search needs
@@ -107,38 +134,18 @@ same-length c = search needs
 returns : tie.Need-returns
 returns c =
     let u = c .before in
-    let b = u .before .before .before .before in
-    let s = known b .before .before in
-    let e = fileAnswer-refused _ (u .begun .given .0 .0) (sym (u .begun .given .1) ∙ b .begin .ensures .0) in
-    let o = begin-is (parts s .n) (length (s .args .slots .now)) (valueOf (parts s)) (count (known b)) in (
-      ap fileAnswer (sym e ∙ o (length (s .args .out .now))),
-      built-refused (parts s .n) (length (s .args .slots .now)) (valueOf (parts s)) (count (known b)) (s .pre .0) _ _ _ e
-          (b .begin .ensures .1),
-    )
+    opened-refused (opened (u .before .before .before .before)) _ (u .begun .given .1)
 
 same-length-2 : tie.Need-same-length-2
 same-length-2 c = search needs
 
 returns-2 : tie.Need-returns-2
 returns-2 c =
-    let f = c .before .before in
+    let f = c .before .before .before .before in
     let p = f .before .before .before .before in
     let y = p .before .before .before .before in
-    let e = begun-done (opened-of y) in
-    let b = start-of y in
-    let s = known b .before .before in
-    let a = s .args in
-    let n = parts s .n in
-    let k = length (a .slots .now) in
-    let v = valueOf (parts s) in
-    let each = bytes (known b) in
-    let primary = primary-close (a .primary .now) (a .slots .now) (a .distances .now) (s .pre .1) each in
-    let entries = overflowPart-close (a .primary .now) (a .slots .now) (a .distances .now) (s .pre .1) each in (
-      ap fileAnswer (sym e ∙ begin-is n k v (count (known b)) (length (a .out .now))),
-      built-done n k v (count (known b)) (s .pre .0) (a .out .now) (b .begin .last .0) (y .copy-bytes .last .1 .0)
-          (p .put-entries .last .0) (f .finish .last .0) _ e (b .begin .ensures .1)
-          (rw primary (y .copy-bytes .ensures)) (rw entries (p .put-entries .ensures)) (f .finish .ensures),
-    )
+    opened-done (opened (start-of y)) _ (y .before .before .before .begun2 .given .1) _ (copied y) _ (entries-put p)
+    _ (f .finish .ensures) _ (c .summary-of .ensures)
 
 pub put-file-spec : {M : Type 1} → statement M
 put-file-spec =
@@ -151,6 +158,7 @@ put-file-spec =
     add-put-entries
     put-entries-requires
     finish-requires
+    summary-of-requires
     same-length
     returns
     same-length-2

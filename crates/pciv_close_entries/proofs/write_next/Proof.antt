@@ -1,14 +1,13 @@
--- Proves pciv_close_entries::write_next: one more entry is written, and the index after the last.
-use mathlib.Core.Path.{ap, _∙_}
+-- Proves pciv_close_entries::write_next: one more entry is written, and after the last the index; then the file is summed.
 use Prim.Native.Nat.{_+_, _*_, _≤_}
 use native.Mathlib.Omega.{arith}
 use lib.ListN.{length}
 use Rattle.pciv_bytes.specs.LittleEndian.{Bytes}
-use Rattle.pciv_close_entries.specs.Passes.{Call, endedJob, Writing, Doing, Next}
-use Rattle.pciv_close_entries.specs.declared.Job.{Job}
+use Rattle.pciv_format.specs.Layout.{maxDistance}
+use Rattle.pciv_close_entries.specs.Passes.{Call, Writing, Doing, Next}
 use Rattle.pciv_close_entries.specs.declared.Pass.the-variants.{Write}
 use Rattle.pciv_close_entries.proofs.PassesLaws.{writing-few, writing-fits, writing-space}
-use Rattle.pciv_close_entries.proofs.PassesLaws.{writing-more, writing-end}
+use Rattle.pciv_close_entries.proofs.PassesLaws.{writing-more, writing-map, writing-end}
 use Rattle.pciv_close_entries.proofs.StepLaws.{writing-of, step-ended, step-onward}
 use borrow.Author.Needs.{needs}
 use Rattle.pciv_close_entries.proofs.write_next.Statement.{statement}
@@ -32,6 +31,9 @@ space c =
     let p = s .pre .0 in
     writing-space (a .primary .now) (p .0) (a .k) (a .job) (a .e) (p .1) (bytes c) (a .out .now)
     (writing s (p .0) (p .1) (p .2))
+
+low : (s : tie.Start) → s .args .e .distance ≤ maxDistance
+low s = omega (arith, s .good)
 
 add-put-entry : tie.Need-add-put-entry
 add-put-entry c = search needs
@@ -61,8 +63,8 @@ returns c =
     λ call nx d.
     step-onward (a .primary .now) call (a .k) (a .job) (a .e) nx 0 (o .onward .result) _ Write (s .pre .1)
     (o .onward .ensures) (c .if1 .taken)
-    (writing-more (a .primary .now) call (a .k) (a .job) (a .e) nx (bytes p) (a .out .now) (writing s call nx d) _
-    (y .put-entry .ensures .1))
+    (writing-more (a .primary .now) call (a .k) (a .job) (a .e) nx (bytes p) (a .out .now) (writing s call nx d)
+    (low s) _ (y .put-entry .ensures .1))
 
 finish-requires : tie.Need-finish-requires
 finish-requires c κs =
@@ -81,6 +83,39 @@ finish-requires c κs =
       ),
     )
 
+counts-of-requires : tie.Need-counts-of-requires
+counts-of-requires c κs =
+    let f = c .before .before in
+    let y = f .before .before .before .before .before .before .before in
+    let p = y .before .before .before in
+    let s = p .before .before in
+    let a = s .args in
+    let q = s .pre .0 in
+    let w = writing s (q .0) (q .1) (q .2) in
+    (w .few, writing-few (a .primary .now) (q .0) (a .k) (a .job) (a .e) (q .1) (bytes p) (a .out .now) w)
+
+-- after the last entry
+over : (l : tie.Else1)
+    → (let o = l .before .before in
+    let s = o .before .before .before .before .before .before .before .before in
+    s .args .k ≤ s .args .job .next + 1)
+over l = rw (l .before .before .onward .ensures) at (l .if1 .left)
+
+summary-of-requires : tie.Need-summary-of-requires
+summary-of-requires c κs =
+    let u = c .before in
+    let f = u .before .before .before in
+    let l = f .before .before in
+    let o = l .before .before in
+    let y = o .before .before .before in
+    let p = y .before .before .before in
+    let s = p .before .before in
+    let a = s .args in
+    let q = s .pre .0 in
+    writing-map (a .primary .now) (q .0) (a .k) (a .job) (a .e) (q .1) (bytes p) (a .out .now)
+    (writing s (q .0) (q .1) (q .2)) (low s) (y .put-entry .last .0) (y .put-entry .ensures .1) (over l) _
+    (f .finish .ensures) _ (u .counts-of .ensures)
+
 ended-requires : tie.Need-ended-requires
 ended-requires c κs = search needs
 
@@ -89,18 +124,19 @@ same-length-2 c = search needs
 
 returns-2 : tie.Need-returns-2
 returns-2 c =
-    let f = c .before .before .before in
+    let m = c .before in
+    let u = m .before .before in
+    let f = u .before .before .before in
     let l = f .before .before in
-    let o = l .before .before in
-    let y = o .before .before .before in
+    let y = l .before .before .before .before .before in
     let p = y .before .before .before in
     let s = p .before .before in
     let a = s .args in
     λ call nx d.
-    step-ended (a .primary .now) call (a .k) (a .job) (a .e) nx (a .job .answer) (c .ended .result) _
-    (c .ended .ensures ∙ ap (λ (j : Job). endedJob (a .k) (j .answer)) (o .onward .ensures))
-    (writing-end (a .primary .now) call (a .k) (a .job) (a .e) nx (bytes p) (a .out .now) (writing s call nx d)
-    (y .put-entry .last .0) (y .put-entry .ensures .1) (rw (o .onward .ensures) at (l .if1 .left)) _ (f .finish .ensures))
+    step-ended (a .primary .now) call (a .k) (a .job) (a .e) nx _ (c .ended .result) _ (c .ended .ensures)
+    (writing-end (a .primary .now) call (a .k) (a .job) (a .e) nx (bytes p) (a .out .now) (writing s call nx d) (low s)
+    (y .put-entry .last .0) (y .put-entry .ensures .1) (over l) _ (f .finish .ensures) _ (u .counts-of .ensures)
+    (m .summary-of .result) (m .summary-of .ensures))
 
 pub write-next-spec : {M : Type 1} → statement M
 write-next-spec =
@@ -114,6 +150,8 @@ write-next-spec =
     same-length
     returns
     finish-requires
+    counts-of-requires
+    summary-of-requires
     ended-requires
     same-length-2
     returns-2)

@@ -2,7 +2,7 @@
 use mathlib.Core.Path.{sym, ap₂, _∙_}
 use Rattle.pciv_format.specs.Edit.{Edit, editAnswer}
 use Rattle.pciv_format.proofs.RefusalsLaws.{fileAnswer-done, fileAnswer-refused}
-use Rattle.pciv_format.proofs.CheckLaws.{done-buffer}
+use Rattle.pciv_format.proofs.SummaryLaws.{buffer-refuse-alike, buffer-held}
 use Rattle.pciv_format.proofs.LimitLaws.{buffer-refused}
 use Rattle.pciv_format.proofs.EditCaseLaws.{edit-refused}
 use Rattle.pciv_format.proofs.MovedLaws.{moved-refused}
@@ -23,7 +23,11 @@ edit-checked-requires : tie.Need-edit-checked-requires
 edit-checked-requires c κs =
     let told = c .before .before in
     let check = told .before .before in
-    done-buffer 1 _ _ (fileAnswer-done _ _ (sym (told .checked2 .given .1) ∙ check .check-buffer .ensures))
+    let known = check .before .before in
+    let held =
+    buffer-held 1 (known .before .args .buffer .now) _ (λ i. known .slice-known .given i .fits)
+    (fileAnswer-done _ _ (sym (told .checked2 .given .1) ∙ check .check-buffer .ensures)) in
+    record { checked = held .0; sumIs = held .1 }
 
 same-length : tie.Need-same-length
 same-length c = search needs
@@ -35,8 +39,8 @@ returns c =
     let a = check .before .before .before .args in
     let e : Edit = record { slot = a .slot; distance = a .distance } in
     let why = fileAnswer-refused _ _ (sym (told .checked .given .1) ∙ check .check-buffer .ensures) in
-    let is = edit-refused (a .buffer .now) e _ why in
     let b = a .buffer .now in
+    let is = edit-refused b e _ (buffer-refuse-alike 1 b .0 _ .0 why) in
     (ap₂ editAnswer (sym is) (sym (moved-refused b e _ is)), sym (buffer-refused b e _ is))
 
 same-length-2 : tie.Need-same-length-2

@@ -4,9 +4,9 @@ use mathlib.Core.Bool.{true, false}
 use lib.ListN.{length}
 use borrow.Author.Tests.{not-true, not-false}
 use Rattle.pciv_format.specs.Refusals.{done, refused, fileAnswer}
-use Rattle.pciv_format.specs.Check.{checkFile}
+use Rattle.pciv_format.specs.Check.{countsFile}
 use Rattle.pciv_format.specs.Mask.{badMask}
-use Rattle.pciv_format.proofs.RefusalsLaws.{fileAnswer-done, fileAnswer-refused}
+use Rattle.pciv_format.proofs.RefusalsLaws.{countsAnswer-counted, countsAnswer-refused}
 use Rattle.pciv_format.proofs.CheckLaws.{done-counts}
 use Rattle.pciv_format.proofs.MaskLaws.{badMask-good}
 use Rattle.pciv_mask_primary.specs.Masked.{maskedOf}
@@ -15,17 +15,17 @@ use borrow.Author.Needs.{needs}
 use Rattle.pciv_mask_apply.proofs.mask_map.Statement.{statement}
 use Rattle.pciv_mask_apply.proofs.mask_map.Tie as tie
 
-abbrev entry : tie.After-check → tie.Start
+abbrev entry : tie.After-check-counts → tie.Start
 entry c = c .before .before .before .before
 
 -- what the check has shown: why the file is refused, or its counts
 is-refused : (c : tie.After-checked)
-    → checkFile 1 (entry (c .before .before) .args .file .now) ≡ refused (c .checked .given .0 .0)
-is-refused c = fileAnswer-refused _ _ (sym (c .checked .given .1) ∙ c .before .before .check .ensures)
+    → countsFile 1 (entry (c .before .before) .args .file .now) ≡ refused (c .checked .given .0 .0)
+is-refused c = countsAnswer-refused _ _ (sym (c .checked .given .1) ∙ c .before .before .check-counts .ensures)
 
 is-map : (c : tie.After-checked2)
-    → checkFile 1 (entry (c .before .before) .args .file .now) ≡ done (c .checked2 .given .0 .0)
-is-map c = fileAnswer-done _ _ (sym (c .checked2 .given .1) ∙ c .before .before .check .ensures)
+    → countsFile 1 (entry (c .before .before) .args .file .now) ≡ done (c .checked2 .given .0 .0)
+is-map c = countsAnswer-counted _ _ (sym (c .checked2 .given .1) ∙ c .before .before .check-counts .ensures)
 
 -- what the test of the mask says
 bad : (c : tie.Then1)
@@ -38,8 +38,8 @@ good : (c : tie.Else1)
     (entry (k .before .before) .args .words .now) ≡ false)
 good c = not-true _ (sym (c .before .is-mask .ensures) ∙ not-false _ (c .if1 .left))
 
-check-requires : tie.Need-check-requires
-check-requires c κs = search needs
+check-counts-requires : tie.Need-check-counts-requires
+check-counts-requires c κs = search needs
 
 enum-known-checked : tie.Need-enum-known-checked
 enum-known-checked c = search needs
@@ -94,7 +94,7 @@ pub mask-map-spec : {M : Type 1} → statement M
 mask-map-spec =
     tie.close
     (tie.spec
-    check-requires
+    check-counts-requires
     enum-known-checked
     enum-known-checked-2
     is-mask-requires

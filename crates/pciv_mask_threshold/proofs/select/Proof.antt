@@ -4,9 +4,9 @@ use Prim.Native.Nat.{_≤_, _<_}
 use native.Mathlib.Omega.{arith}
 use lib.ListN.{length}
 use Rattle.pciv_format.specs.Refusals.{done, refused, numberAnswer}
-use Rattle.pciv_format.specs.Check.{checkFile}
+use Rattle.pciv_format.specs.Check.{countsFile}
 use Rattle.pciv_format.specs.Mask.{maskLen}
-use Rattle.pciv_format.proofs.RefusalsLaws.{fileAnswer-done, fileAnswer-refused}
+use Rattle.pciv_format.proofs.RefusalsLaws.{countsAnswer-counted, countsAnswer-refused}
 use Rattle.pciv_format.proofs.ReadCaseLaws.{checked}
 use Rattle.pciv_mask_threshold.specs.Select.{askedOf}
 use Rattle.pciv_mask_threshold.proofs.SelectLaws.{select-refused, select-short, select-done}
@@ -17,15 +17,15 @@ use Rattle.pciv_mask_threshold.proofs.select.Tie as tie
 
 -- what the check has shown: why the file is refused, or its counts
 is-refused : (c : tie.After-checked)
-    → checkFile 1 (c .before .before .before .before .before .args .file .now) ≡ refused (c .checked .given .0 .0)
-is-refused c = fileAnswer-refused _ _ (sym (c .checked .given .1) ∙ c .before .before .check .ensures)
+    → countsFile 1 (c .before .before .before .before .before .args .file .now) ≡ refused (c .checked .given .0 .0)
+is-refused c = countsAnswer-refused _ _ (sym (c .checked .given .1) ∙ c .before .before .check-counts .ensures)
 
 is-map : (c : tie.After-checked2)
-    → checkFile 1 (c .before .before .before .before .before .args .file .now) ≡ done (c .checked2 .given .0 .0)
-is-map c = fileAnswer-done _ _ (sym (c .checked2 .given .1) ∙ c .before .before .check .ensures)
+    → countsFile 1 (c .before .before .before .before .before .args .file .now) ≡ done (c .checked2 .given .0 .0)
+is-map c = countsAnswer-counted _ _ (sym (c .checked2 .given .1) ∙ c .before .before .check-counts .ensures)
 
-check-requires : tie.Need-check-requires
-check-requires c κs = search needs
+check-counts-requires : tie.Need-check-counts-requires
+check-counts-requires c κs = search needs
 
 enum-known-checked : tie.Need-enum-known-checked
 enum-known-checked c = search needs
@@ -85,7 +85,7 @@ pub select-spec : {M : Type 1} → statement M
 select-spec =
     tie.close
     (tie.spec
-    check-requires
+    check-counts-requires
     enum-known-checked
     enum-known-checked-2
     mask-len-requires

@@ -3,8 +3,8 @@ use mathlib.Core.Path.{_≡_, sym, ap, _∙_}
 use Prim.Native.Nat.{ℕ, _≤_, min}
 use native.Mathlib.Omega.{arith}
 use Rattle.pciv_format.specs.Refusals.{done, refused, numberAnswer}
-use Rattle.pciv_format.specs.Check.{checkFile}
-use Rattle.pciv_format.proofs.RefusalsLaws.{fileAnswer-done, fileAnswer-refused}
+use Rattle.pciv_format.specs.Check.{countsFile}
+use Rattle.pciv_format.proofs.RefusalsLaws.{countsAnswer-counted, countsAnswer-refused}
 use lib.ListN.{length, getD}
 use lib.Dec.{leb}
 use Rattle.pciv_bytes.specs.Ranges.{firstBelow}
@@ -19,13 +19,13 @@ use Rattle.pciv_read.proofs.lookup_list.Tie as tie
 -- what the check has shown: why the file is refused, or its counts
 is-refused : (c : tie.After-checked)
     → (let a = c .before .before .before .before .before .before .before .args in
-    checkFile 1 (a .file .now) ≡ refused (c .checked .given .0 .0))
-is-refused c = fileAnswer-refused _ _ (sym (c .checked .given .1) ∙ c .before .before .check .ensures)
+    countsFile 1 (a .file .now) ≡ refused (c .checked .given .0 .0))
+is-refused c = countsAnswer-refused _ _ (sym (c .checked .given .1) ∙ c .before .before .check-counts .ensures)
 
 is-map : (c : tie.After-checked2)
     → (let a = c .before .before .before .before .before .before .before .args in
-    checkFile 1 (a .file .now) ≡ done (c .checked2 .given .0 .0))
-is-map c = fileAnswer-done _ _ (sym (c .checked2 .given .1) ∙ c .before .before .check .ensures)
+    countsFile 1 (a .file .now) ≡ done (c .checked2 .given .0 .0))
+is-map c = countsAnswer-counted _ _ (sym (c .checked2 .given .1) ∙ c .before .before .check-counts .ensures)
 
 -- every slot of the list is below n
 all-inside : (c : tie.Else1)
@@ -39,8 +39,8 @@ all-inside c =
     let none : length xs ≤ c .before .before .first-outside .result = c .if1 .left in
     omega (arith, none, c .before .before .first-outside .ensures)
 
-check-requires : tie.Need-check-requires
-check-requires c κs = search needs
+check-counts-requires : tie.Need-check-counts-requires
+check-counts-requires c κs = search needs
 
 enum-known-checked : tie.Need-enum-known-checked
 enum-known-checked c = search needs
@@ -129,7 +129,7 @@ pub lookup-list-spec : {M : Type 1} → statement M
 lookup-list-spec =
     tie.close
     (tie.spec
-    check-requires
+    check-counts-requires
     enum-known-checked
     enum-known-checked-2
     first-outside-requires

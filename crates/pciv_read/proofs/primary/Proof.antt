@@ -2,8 +2,8 @@
 use mathlib.Core.Path.{_≡_, sym, _∙_}
 use native.Mathlib.Omega.{arith}
 use Rattle.pciv_format.specs.Refusals.{done, refused}
-use Rattle.pciv_format.specs.Check.{checkFile}
-use Rattle.pciv_format.proofs.RefusalsLaws.{fileAnswer-done, fileAnswer-refused}
+use Rattle.pciv_format.specs.Check.{countsFile}
+use Rattle.pciv_format.proofs.RefusalsLaws.{countsAnswer-counted, countsAnswer-refused}
 use Rattle.pciv_format.proofs.MapLaws.{primary-inside}
 use Rattle.pciv_format.proofs.ReadCaseLaws.{checked, primary-refused, primary-done, place-refused, place-done}
 use borrow.Author.Needs.{needs}
@@ -12,15 +12,15 @@ use Rattle.pciv_read.proofs.primary.Tie as tie
 
 -- what the check has shown
 is-refused : (c : tie.After-enum-told)
-    → checkFile 1 (c .before .before .before .before .args .file .now) ≡ refused (c .enum-told .given .0 .0)
-is-refused c = fileAnswer-refused _ _ (sym (c .enum-told .given .1) ∙ c .before .before .check .ensures)
+    → countsFile 1 (c .before .before .before .before .args .file .now) ≡ refused (c .enum-told .given .0 .0)
+is-refused c = countsAnswer-refused _ _ (sym (c .enum-told .given .1) ∙ c .before .before .check-counts .ensures)
 
 is-map : (c : tie.After-checked)
-    → checkFile 1 (c .before .before .before .before .args .file .now) ≡ done (c .checked .given .0 .0)
-is-map c = fileAnswer-done _ _ (sym (c .checked .given .1) ∙ c .before .before .check .ensures)
+    → countsFile 1 (c .before .before .before .before .args .file .now) ≡ done (c .checked .given .0 .0)
+is-map c = countsAnswer-counted _ _ (sym (c .checked .given .1) ∙ c .before .before .check-counts .ensures)
 
-check-requires : tie.Need-check-requires
-check-requires c κs = search needs
+check-counts-requires : tie.Need-check-counts-requires
+check-counts-requires c κs = search needs
 
 enum-told : tie.Need-enum-told
 enum-told c = search needs
@@ -48,7 +48,7 @@ pub primary-spec : {M : Type 1} → statement M
 primary-spec =
     tie.close
     (tie.spec
-    check-requires
+    check-counts-requires
     enum-told
     part-requires
     enum-known-checked

@@ -4,12 +4,12 @@ use Prim.Native.Nat.{ℕ, _+_, _-_}
 use native.Mathlib.Omega.{arith}
 use Rattle.pciv_format.specs.Refusals.{done, refused, numberAnswer}
 use Rattle.pciv_format.specs.Layout.{fileOf}
-use Rattle.pciv_format.specs.Check.{checkFile}
+use Rattle.pciv_format.specs.Check.{countsFile}
 use Rattle.pciv_format.specs.Read.{listOf, primaryPart}
-use Rattle.pciv_format.proofs.RefusalsLaws.{fileAnswer-done, fileAnswer-refused}
+use Rattle.pciv_format.proofs.RefusalsLaws.{countsAnswer-counted, countsAnswer-refused}
 use lib.ListN.{take, drop}
 use Rattle.pciv_bytes.specs.LittleEndian.{Bytes}
-use Rattle.pciv_format.proofs.Acceptance.{accepted-is-file}
+use Rattle.pciv_format.proofs.Acceptance.{counted-is-file}
 use Rattle.pciv_format.proofs.MapLaws.{primary-inside}
 use Rattle.pciv_format.proofs.ReadCaseLaws.{checked, primary-done, readings-refused, readings-done}
 use borrow.Author.Needs.{needs}
@@ -18,15 +18,15 @@ use Rattle.pciv_read.proofs.readings.Tie as tie
 
 -- what the check has shown: why the file is refused, or its counts
 is-refused : (c : tie.After-checked)
-    → checkFile 1 (c .before .before .before .before .args .file .now) ≡ refused (c .checked .given .0 .0)
-is-refused c = fileAnswer-refused _ _ (sym (c .checked .given .1) ∙ c .before .before .check .ensures)
+    → countsFile 1 (c .before .before .before .before .args .file .now) ≡ refused (c .checked .given .0 .0)
+is-refused c = countsAnswer-refused _ _ (sym (c .checked .given .1) ∙ c .before .before .check-counts .ensures)
 
 is-map : (c : tie.After-checked2)
-    → checkFile 1 (c .before .before .before .before .args .file .now) ≡ done (c .checked2 .given .0 .0)
-is-map c = fileAnswer-done _ _ (sym (c .checked2 .given .1) ∙ c .before .before .check .ensures)
+    → countsFile 1 (c .before .before .before .before .args .file .now) ≡ done (c .checked2 .given .0 .0)
+is-map c = countsAnswer-counted _ _ (sym (c .checked2 .given .1) ∙ c .before .before .check-counts .ensures)
 
-check-requires : tie.Need-check-requires
-check-requires c κs = search needs
+check-counts-requires : tie.Need-check-counts-requires
+check-counts-requires c κs = search needs
 
 enum-known-checked : tie.Need-enum-known-checked
 enum-known-checked c = search needs
@@ -64,7 +64,7 @@ returns-2 c =
     let s = k .checked2 .given .0 .0 in
     let is = is-map k in
     let bytes : Bytes b = λ i. known .shared-slice-known .given i .fits in
-    let f = accepted-is-file 1 b s bytes is in
+    let f = counted-is-file 1 b s bytes is in
     let n : 40 + s .n - 40 ≡ s .n = omega arith in
     let primary : primaryPart (fileOf (listOf b)) ≡ take (40 + s .n - 40) (drop 40 b) =
     ap primaryPart (sym (f .bytes)) ∙ primary-done b s is ∙ ap (λ (z : ℕ). take z (drop 40 b)) (sym n) in
@@ -75,7 +75,7 @@ pub readings-spec : {M : Type 1} → statement M
 readings-spec =
     tie.close
     (tie.spec
-    check-requires
+    check-counts-requires
     enum-known-checked
     enum-known-checked-2
     add-end

@@ -1,7 +1,7 @@
 -- Proves pciv_report::put_report, a case of the text at each return.
 use borrow.Author.Needs.{needs}
 use mathlib.Core.Path.{sym, ap, _∙_}
-use Rattle.pciv_format.specs.Check.{checkFile}
+use Rattle.pciv_format.specs.Read.{checkFile}
 use Rattle.pciv_format.proofs.RefusalsLaws.{fileAnswer-done, fileAnswer-refused}
 use Rattle.pciv_report.specs.Text.{numberOf}
 use Rattle.pciv_format.proofs.ReportLaws.{reportText-long, reportText-refused}
@@ -28,17 +28,11 @@ check-requires c κs = search needs
 enum-known-s : tie.Need-enum-known-s
 enum-known-s c = search needs
 
-sum-requires : tie.Need-sum-requires
-sum-requires c κs = search needs
-
-number-of-requires : tie.Need-number-of-requires
-number-of-requires c κs = search needs
-
 readings-requires : tie.Need-readings-requires
 readings-requires c κs = search needs
 
-number-of-requires-2 : tie.Need-number-of-requires-2
-number-of-requires-2 c κs = search needs
+number-of-requires : tie.Need-number-of-requires
+number-of-requires c κs = search needs
 
 put-map-requires : tie.Need-put-map-requires
 put-map-requires c κs = search needs
@@ -56,18 +50,16 @@ returns-2 : tie.Need-returns-2
 returns-2 c =
     let put = c .before .before in
     let counted = put .before in
-    let summed = counted .before .before in
-    let matched = summed .before .before .before .before in
+    let matched = counted .before .before .before .before in
     let checked = matched .before .before in
     let test = checked .before in
     let s = matched .s .given .0 .0 in
     let input = test .before .before .before .args .input .now in
     let answer = sym (matched .s .given .1) ∙ checked .check .ensures in
     let good = fileAnswer-done (checkFile 1 input) s answer in
-    let sum = summed .number-of .ensures ∙ ap numberOf (summed .before .sum .ensures) in
-    let count = counted .number-of2 .ensures ∙ ap numberOf (counted .before .readings .ensures) in
+    let count = counted .number-of .ensures ∙ ap numberOf (counted .before .readings .ensures) in
     let text = reportText-done input s (test .if1 .left) good in
-    (rw (text, ← sum, ← count) (put .put-map .ensures .0), search needs)
+    (rw (text, ← count) (put .put-map .ensures .0), search needs)
 
 same-length-3 : tie.Need-same-length-3
 same-length-3 c = search needs
@@ -93,10 +85,8 @@ put-report-spec =
     returns
     check-requires
     enum-known-s
-    sum-requires
-    number-of-requires
     readings-requires
-    number-of-requires-2
+    number-of-requires
     put-map-requires
     enum-known-r
     put-refusal-requires-2

@@ -26,7 +26,7 @@ the-edit s = record { slot = s .args .slot; distance = s .args .distance }
 
 the-slot : (c : tie.After-slice-known2)
     → (let a = c .before .before .before .args in EditAt (a .buffer .now) (a .n) (a .k) (a .slot))
-the-slot c = record { checked = c .before .before .before .pre; inside = c .before .if1 .left }
+the-slot c = record { checked = c .before .before .before .pre .checked; inside = c .before .if1 .left }
 
 -- a byte that is not below 255
 marked : (c : tie.After-slice-known2)
@@ -47,7 +47,7 @@ returns c =
     let a = entry .args in
     let b = a .buffer .now in
     let is =
-    edit-outside b (a .n) (a .k) (bytes known) (entry .pre) (the-edit entry) (c .before .if1 .taken) in (
+    edit-outside b (a .n) (a .k) (bytes known) (entry .pre .checked) (the-edit entry) (c .before .if1 .taken) in (
       c .refused .ensures ∙ ap₂ editAnswer (sym is) (sym (moved-refused b (the-edit entry) _ is)),
       sym (buffer-refused b (the-edit entry) _ is),
     )
@@ -58,7 +58,7 @@ add-byte c = search needs
 slice-read-byte : tie.Need-slice-read-byte
 slice-read-byte c =
     let entry = c .before .before .before in
-    omega (arith, entry .pre .fits, fileLen-is (entry .args .n) (entry .args .k))
+    omega (arith, entry .pre .checked .fits, fileLen-is (entry .args .n) (entry .args .k))
 
 cast-byte : tie.Need-cast-byte
 cast-byte c = omega (arith, c .slice-known2 .given (40 + c .before .before .before .args .slot))
@@ -67,7 +67,9 @@ cast-mark : tie.Need-cast-mark
 cast-mark c = search needs
 
 stay-inline-requires : tie.Need-stay-inline-requires
-stay-inline-requires c κs = search needs
+stay-inline-requires c κs =
+    let read = c .before .before .before in
+    (the-slot read, ((c .before .if3 .taken, c .before .before .if2 .taken), read .before .before .before .pre .sumIs))
 
 same-length : tie.Need-same-length
 same-length c = search needs
@@ -91,7 +93,8 @@ move-slot-requires : tie.Need-move-slot-requires
 move-slot-requires c κs =
     let read = c .before .before .before in
     let inline = lt-ltb _ 255 (c .before .before .if2 .taken) in
-    (the-slot read, (eq-eqb _ 255 (marked read (c .before .if3 .left)) ∙ sym inline, rw inline))
+    let moves = eq-eqb _ 255 (marked read (c .before .if3 .left)) ∙ sym inline in
+    (the-slot read, ((moves, rw inline), read .before .before .before .pre .sumIs))
 
 same-length-2 : tie.Need-same-length-2
 same-length-2 c = search needs
@@ -105,7 +108,9 @@ add-move-slot c = search needs
 move-slot-requires-2 : tie.Need-move-slot-requires-2
 move-slot-requires-2 c κs =
     let overflows = le-ltb _ 255 (c .before .before .if2 .left) in
-    (the-slot (c .before .before .before), (unmarked _ (c .before .if4 .taken) ∙ sym overflows, rw overflows))
+    let read = c .before .before .before in
+    let moves = unmarked _ (c .before .if4 .taken) ∙ sym overflows in
+    (the-slot read, ((moves, rw overflows), read .before .before .before .pre .sumIs))
 
 same-length-3 : tie.Need-same-length-3
 same-length-3 c = search needs
@@ -115,8 +120,10 @@ returns-4 c = search needs
 
 stay-in-overflow-requires : tie.Need-stay-in-overflow-requires
 stay-in-overflow-requires c κs =
-    let read = c .before .before .before in
-    (the-slot read, (marked read (c .before .if4 .left), c .before .before .if2 .left))
+    let read = c .before .before .before in (
+      the-slot read,
+      ((marked read (c .before .if4 .left), c .before .before .if2 .left), read .before .before .before .pre .sumIs),
+    )
 
 same-length-4 : tie.Need-same-length-4
 same-length-4 c = search needs

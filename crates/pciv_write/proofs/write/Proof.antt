@@ -8,7 +8,7 @@ use Rattle.pciv_format.specs.Layout.{maxSlots, at}
 use Rattle.pciv_format.specs.Refusals.{fileAnswer}
 use Rattle.pciv_format.specs.Write.{writeOutcome}
 use Rattle.pciv_build.proofs.ChainLaws.{begin-few, Opened, opened-refused, opened-space, opened-entries}
-use Rattle.pciv_build.proofs.ChainLaws.{opened-finish, opened-done}
+use Rattle.pciv_build.proofs.ChainLaws.{opened-finish, opened-map, opened-done}
 use Rattle.pciv_write.proofs.WriteOutcomeLaws.{write-long, write-into, writeBuffer-is}
 use borrow.Author.Needs.{needs}
 use Rattle.pciv_write.proofs.write.Statement.{statement}
@@ -35,6 +35,7 @@ opened b =
     let e = b .before .before in
     record {
       few = few e;
+      each = λ i h. omega (arith, e .before .before .before .shared-slice-known .given i .fits);
       count = e .count-overflow .ensures;
       into = write-into (list e) (buffer e) (few e);
       answer = b .begin .ensures .0;
@@ -87,6 +88,16 @@ finish-requires c κs =
     opened-finish (opened (k .before .before .before .before)) _ (k .begun2 .given .1) _ (p .put-primary .ensures) _
     (q .put-entries .ensures)
 
+summary-of-requires : tie.Need-summary-of-requires
+summary-of-requires c κs =
+    let f = c .before .before .before in
+    let q = f .before .before .before .before in
+    let p = q .before .before .before .before in
+    let k = p .before .before .before in
+    let b = k .before .before .before .before in
+    opened-map (opened b) _ (k .begun2 .given .1) _ (p .put-primary .ensures) _ (q .put-entries .ensures)
+    _ (f .finish .ensures)
+
 same-length : tie.Need-same-length
 same-length c = search needs
 
@@ -103,14 +114,14 @@ same-length-2 c = search needs
 
 returns-3 : tie.Need-returns-3
 returns-3 c =
-    let f = c .before .before in
+    let f = c .before .before .before .before in
     let q = f .before .before .before .before in
     let p = q .before .before .before .before in
     let k = p .before .before .before in
     let b = k .before .before .before .before in
     let e = b .before .before in
     let r = opened-done (opened b) _ (k .begun2 .given .1) _ (p .put-primary .ensures) _ (q .put-entries .ensures)
-    _ (f .finish .ensures) in
+    _ (f .finish .ensures) _ (c .summary-of .ensures) in
     (r .0, r .1 ∙ sym (writeBuffer-is (list e) (buffer e)))
 
 pub write-spec : {M : Type 1} → statement M
@@ -126,6 +137,7 @@ write-spec =
     put-primary-requires
     put-entries-requires
     finish-requires
+    summary-of-requires
     same-length
     returns-2
     same-length-2

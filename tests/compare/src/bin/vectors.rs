@@ -109,7 +109,6 @@ enum Line {
 
 struct Contents {
     summary: Summary,
-    sum: u64,
     readings: u64,
     first: Option<u64>,
     last: Option<u64>,
@@ -146,8 +145,8 @@ impl Line {
                 m: needed(m)?,
                 step: needed(step)?,
                 len: needed(len)?,
+                sum: needed(sum)?,
             },
-            sum: needed(sum)?,
             readings: needed(readings)?,
             first,
             last,
@@ -168,7 +167,7 @@ impl Contents {
         let n = self.summary.n as usize;
         same("check", Ok(self.summary), pciv::check(file))?;
         same("length of the file", self.summary.len, file.len() as u64)?;
-        same("sum", Ok(self.sum), pciv::sum(file))?;
+        same("sum", Ok(self.summary.sum), pciv::sum(file))?;
         same("readings", Ok(self.readings), pciv::readings(file))?;
         same("length of primary", n, pciv::primary(file).len())?;
 
@@ -177,7 +176,7 @@ impl Contents {
         let wide = || list.iter().copied().map(u64::from);
         same("first", self.first, wide().next())?;
         same("last", self.last, wide().next_back())?;
-        same("sum of the scan", self.sum, wide().sum())?;
+        same("sum of the scan", self.summary.sum, wide().sum())?;
         let readings = wide().filter(|&distance| distance > 0).count();
         same("readings of the scan", self.readings, readings as u64)?;
         let weighted = (1..).zip(wide()).map(|(i, distance)| i * distance);

@@ -9,7 +9,8 @@ use Rattle.pciv_format.specs.Write.{mapInto}
 use Rattle.pciv_format.specs.declared.Summary.{Summary}
 use Rattle.pciv_check.proofs.SoundPairLaws.{Maps, sound}
 use Rattle.pciv_build.proofs.IntoLaws.{map-fits}
-use Rattle.pciv_build.proofs.ChainLaws.{begin-few, Opened, opened-refused, opened-space, opened-finish, opened-done}
+use Rattle.pciv_build.proofs.ChainLaws.{begin-few, Opened, opened-refused, opened-space, opened-finish}
+use Rattle.pciv_build.proofs.ChainLaws.{opened-map, opened-done}
 use Rattle.pciv_arith_merge.specs.Merge.{resultOf}
 use Rattle.pciv_arith_merge.proofs.CombineLaws.{combined-fits}
 use Rattle.pciv_arith_merge.proofs.combine.combine_into.Statement.{statement}
@@ -43,11 +44,12 @@ opened : (b : tie.After-begin)
 opened b =
     let e = b .before .before in
     let s = entry e in
+    let fits = combined-fits (s .args .op) (sound (maps (e .before))) in
     record {
       few = s .pre .first .header .small;
+      each = fits;
       count = e .count-overflow .ensures;
-      into = map-fits (s .args .n) (v s) (length (s .args .out .now))
-          (combined-fits (s .args .op) (sound (maps (e .before))));
+      into = map-fits (s .args .n) (v s) (length (s .args .out .now)) fits;
       answer = b .begin .ensures .0;
       buffer = b .begin .ensures .1;
     }
@@ -80,6 +82,14 @@ finish-requires c κs =
     let k = p .before .before .before in
     opened-finish (opened (k .before .before .before .before)) _ (k .begun2 .given .1) _ refl _ (p .put-parts .ensures)
 
+summary-of-requires : tie.Need-summary-of-requires
+summary-of-requires c κs =
+    let f = c .before .before .before in
+    let p = f .before .before .before .before in
+    let k = p .before .before .before in
+    opened-map (opened (k .before .before .before .before)) _ (k .begun2 .given .1) _ refl _ (p .put-parts .ensures)
+    _ (f .finish .ensures)
+
 same-length : tie.Need-same-length
 same-length c = search needs
 
@@ -93,11 +103,11 @@ same-length-2 c = search needs
 
 returns-2 : tie.Need-returns-2
 returns-2 c =
-    let f = c .before .before in
+    let f = c .before .before .before .before in
     let p = f .before .before .before .before in
     let k = p .before .before .before in
     opened-done (opened (k .before .before .before .before)) _ (k .begun2 .given .1) _ refl _ (p .put-parts .ensures)
-    _ (f .finish .ensures)
+    _ (f .finish .ensures) _ (c .summary-of .ensures)
 
 pub combine-into-spec : {M : Type 1} → statement M
 combine-into-spec =
@@ -109,6 +119,7 @@ combine-into-spec =
     enum-known-begun-2
     put-parts-requires
     finish-requires
+    summary-of-requires
     same-length
     returns
     same-length-2

@@ -76,7 +76,7 @@ stayed = (
     (
       gave-slice (2 ∷ []) tt (plain (λ _. u8)),
       (
-        gave-ref (3 ∷ []) tt (arrayOf (plain (λ _. usize)) 5),
+        gave-ref (3 ∷ []) tt (arrayOf (plain (λ _. usize)) 6),
         (gave-ref (4 ∷ []) tt (arrayOf (plain (λ _. usize)) 3), tt),
       ),
     ),
@@ -84,8 +84,8 @@ stayed = (
 )
 
 -- the cells of a summary and of a refusal
-abbrev Five : RattleType
-Five = Array usize 5
+abbrev Six : RattleType
+Six = Array usize 6
 
 abbrev Three : RattleType
 Three = Array usize 3
@@ -146,7 +146,7 @@ module _ {M : Type 1} (𝓤 : URA M) (H : Heap 𝓤) (A : Atoms 𝓤) (W : Given
   Own₂ = MutSlice (named 2) κ₂ u8 .own out (v₂ ∷ [])
 
   abbrev Own₃ : Fml
-  Own₃ = MutRef (named 3) κ₃ Five .own summary (v₃ ∷ [])
+  Own₃ = MutRef (named 3) κ₃ Six .own summary (v₃ ∷ [])
 
   abbrev Own₄ : Fml
   Own₄ = MutRef (named 4) κ₄ Three .own refusal (v₄ ∷ [])
@@ -163,7 +163,7 @@ module _ {M : Type 1} (𝓤 : URA M) (H : Heap 𝓤) (A : Atoms 𝓤) (W : Given
   OutIs zs = finally u8 (out .name) zs
 
   abbrev SummaryIs : List ℕ → Fml
-  SummaryIs ss = fres (summary .name) (Five .coded .code ss)
+  SummaryIs ss = fres (summary .name) (Six .coded .code ss)
 
   abbrev RefusalIs : List ℕ → Fml
   RefusalIs rs = fres (refusal .name) (Three .coded .code rs)
@@ -246,7 +246,7 @@ module _ {M : Type 1} (𝓤 : URA M) (H : Heap 𝓤) (A : Atoms 𝓤) (W : Given
         ((‵ (flft κ₀ q₀) ⊛ ‵ (flft κ₁ q₁) ⊛ ‵ (flft κ₂ q₂) ⊛ Toks′)
         ∷ ‵ (owns
         (ShrSlice (named 0) κ₀ u8 ∷ ShrSlice (named 1) κ₁ T.the-row ∷ MutSlice (named 2) κ₂ u8
-        ∷ MutRef (named 3) κ₃ Five ∷ MutRef (named 4) κ₄ Three ∷ [])
+        ∷ MutRef (named 3) κ₃ Six ∷ MutRef (named 4) κ₄ Three ∷ [])
         (primary, (entries, (out, (summary, (refusal, tt))))) vs)
         ∷ []) ∵
         enter ! (𝓣 .C) (𝓣 .Λ) code.function (v₀ ∷ v₁ ∷ v₂ ∷ v₃ ∷ v₄ ∷ []) _ $
@@ -347,7 +347,7 @@ module _ {M : Type 1} (𝓤 : URA M) (H : Heap 𝓤) (A : Atoms 𝓤) (W : Given
           shr-slice-tells (named 1) (κs .1 .0) T.the-row,
           (
             mut-slice-tells (named 2) (κs .1 .1 .0) u8,
-            (mut-tells (named 3) (κs .1 .1 .1 .0) Five, (mut-tells (named 4) (κs .1 .1 .1 .1 .0) Three, tt)),
+            (mut-tells (named 3) (κs .1 .1 .1 .0) Six, (mut-tells (named 4) (κs .1 .1 .1 .1 .0) Three, tt)),
           ),
         ),
       ))
@@ -367,7 +367,7 @@ module _ {M : Type 1} (𝓤 : URA M) (H : Heap 𝓤) (A : Atoms 𝓤) (W : Given
           (
             goes-gave-slice 𝓤 H A W 5 2 tt (plain (λ _. u8)),
             (
-              goes-gave-ref 𝓤 H A W 5 3 tt (arrayOf (plain (λ _. usize)) 5),
+              goes-gave-ref 𝓤 H A W 5 3 tt (arrayOf (plain (λ _. usize)) 6),
               (goes-gave-ref 𝓤 H A W 5 4 tt (arrayOf (plain (λ _. usize)) 3), tt),
             ),
           ),

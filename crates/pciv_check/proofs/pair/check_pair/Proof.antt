@@ -1,8 +1,8 @@
 -- Proves pciv_check::pair::check_pair: the first file, the second, then their sizes.
 use mathlib.Core.Path.{_≡_, sym, ap, _∙_}
 use Rattle.pciv_format.specs.Refusals.{done}
-use Rattle.pciv_format.specs.Check.{checkFile}
-use Rattle.pciv_format.proofs.RefusalsLaws.{fileAnswer-done, fileAnswer-refused}
+use Rattle.pciv_format.specs.Check.{countsFile}
+use Rattle.pciv_format.proofs.RefusalsLaws.{countsAnswer-counted, countsAnswer-refused}
 use borrow.Author.Needs.{needs}
 use Rattle.pciv_check.specs.Pair.{pairAnswer}
 use Rattle.pciv_check.proofs.PairLaws.{pairCounts-first, pairCounts-second, pairCounts-sizes, pairCounts-both}
@@ -11,16 +11,16 @@ use Rattle.pciv_check.proofs.pair.check_pair.Tie as tie
 
 -- the counts of the first file, and of the second
 first-done : (c : tie.After-first2)
-    → checkFile 1 (c .before .before .before .before .before .args .a .now) ≡ done (c .first2 .given .0 .0)
-first-done c = fileAnswer-done _ _ (sym (c .first2 .given .1) ∙ c .before .before .check-with .ensures)
+    → countsFile 1 (c .before .before .before .before .before .args .a .now) ≡ done (c .first2 .given .0 .0)
+first-done c = countsAnswer-counted _ _ (sym (c .first2 .given .1) ∙ c .before .before .check-counts .ensures)
 
 second-done : (c : tie.After-second2)
     → (let f = c .before .before .before .before in
-    checkFile 2 (f .before .before .before .before .before .args .b .now) ≡ done (c .second2 .given .0 .0))
-second-done c = fileAnswer-done _ _ (sym (c .second2 .given .1) ∙ c .before .before .check-with2 .ensures)
+    countsFile 2 (f .before .before .before .before .before .args .b .now) ≡ done (c .second2 .given .0 .0))
+second-done c = countsAnswer-counted _ _ (sym (c .second2 .given .1) ∙ c .before .before .check-counts2 .ensures)
 
-check-with-requires : tie.Need-check-with-requires
-check-with-requires c κs = search needs
+check-counts-requires : tie.Need-check-counts-requires
+check-counts-requires c κs = search needs
 
 enum-known-first : tie.Need-enum-known-first
 enum-known-first c = search needs
@@ -28,8 +28,8 @@ enum-known-first c = search needs
 enum-known-first-2 : tie.Need-enum-known-first-2
 enum-known-first-2 c = search needs
 
-check-with-requires-2 : tie.Need-check-with-requires-2
-check-with-requires-2 c κs = search needs
+check-counts-requires-2 : tie.Need-check-counts-requires-2
+check-counts-requires-2 c κs = search needs
 
 enum-known-second : tie.Need-enum-known-second
 enum-known-second c = search needs
@@ -46,14 +46,14 @@ returns c =
 returns-2 : tie.Need-returns-2
 returns-2 c =
     let f = c .before in
-    let no = fileAnswer-refused _ _ (sym (f .first .given .1) ∙ f .before .before .check-with .ensures) in
+    let no = countsAnswer-refused _ _ (sym (f .first .given .1) ∙ f .before .before .check-counts .ensures) in
     ap pairAnswer (sym (pairCounts-first _ _ _ no))
 
 returns-3 : tie.Need-returns-3
 returns-3 c =
     let t = c .before in
     let f = t .before .before .before .before in
-    let no = fileAnswer-refused _ _ (sym (t .second .given .1) ∙ t .before .before .check-with2 .ensures) in
+    let no = countsAnswer-refused _ _ (sym (t .second .given .1) ∙ t .before .before .check-counts2 .ensures) in
     ap pairAnswer (sym (pairCounts-second _ _ _ (first-done f) _ no))
 
 returns-4 : tie.Need-returns-4
@@ -66,10 +66,10 @@ pub check-pair-spec : {M : Type 1} → statement M
 check-pair-spec =
     tie.close
     (tie.spec
-    check-with-requires
+    check-counts-requires
     enum-known-first
     enum-known-first-2
-    check-with-requires-2
+    check-counts-requires-2
     enum-known-second
     enum-known-second-2
     returns

@@ -1,11 +1,11 @@
--- Proves pciv_edit::run::edit_all. Invariant: the buffer holds a checked map of n slots and `count` entries, and all
--- edits from the start do what the rest does from here. Falls: length slots - i.
+-- Proves pciv_edit::run::edit_all. Invariant: the buffer holds a checked map of n slots, `held` has its entries and its
+-- sum, and all edits from the start do what the rest does from here. Falls: length slots - i.
 use mathlib.Core.Path.{_≡_, refl, _∙_}
 use Prim.Native.Nat.{_+_, _-_, _*_, _≤_}
 use native.Mathlib.Omega.{arith}
 use lib.ListN.{length}
-use Rattle.pciv_format.specs.Check.{CheckedMap}
 use Rattle.pciv_format.specs.Edit.{answerLen, editsOf}
+use Rattle.pciv_slot.specs.Change.{SummedMap}
 use Rattle.pciv_edit.proofs.EditListLaws.{Left, left-start, left-more, left-end, editAt, editsFrom}
 use Rattle.pciv_edit.proofs.EditListLaws.{edits-more, edits-end}
 use borrow.Author.Needs.{needs}
@@ -13,15 +13,15 @@ use Rattle.pciv_edit.proofs.run.edit_all.Statement.{statement}
 use Rattle.pciv_edit.proofs.run.edit_all.Tie as tie
 
 abbrev Inv-loop : tie.InvT-loop
-Inv-loop buffer₀ answers₀ n k slots distances i₀ count₀ buffer answers i count =
+Inv-loop buffer₀ answers₀ n k sum slots distances i₀ held₀ buffer answers i held =
     (i ≤ length slots)
     × (length buffer ≡ length buffer₀)
     × (length answers ≡ length answers₀)
-    × CheckedMap buffer n count
+    × SummedMap buffer n (held .k) (held .sum)
     × Left buffer₀ answers₀ (editsOf slots distances) buffer answers (answerLen * i) (editsFrom slots distances i)
 
 abbrev μ-loop : tie.MeasureT-loop
-μ-loop buffer₀ answers₀ n k slots distances i₀ count₀ buffer answers i count = length slots - i
+μ-loop buffer₀ answers₀ n k sum slots distances i₀ held₀ buffer answers i held = length slots - i
 
 loop-holds : tie.Need-loop-holds Inv-loop μ-loop
 loop-holds c =

@@ -4,10 +4,11 @@ use Prim.Native.Nat.{_*_, _≤_}
 use native.Mathlib.Omega.{arith}
 use lib.ListN.{length}
 use Rattle.pciv_format.specs.Refusals.{done, refused}
-use Rattle.pciv_format.specs.Check.{checkBuffer}
+use Rattle.pciv_format.specs.Check.{countsBuffer}
+use Rattle.pciv_format.specs.Read.{checkBuffer}
 use Rattle.pciv_format.specs.Edit.{answerLen}
 use Rattle.pciv_format.proofs.RefusalsLaws.{fileAnswer-done, fileAnswer-refused}
-use Rattle.pciv_format.proofs.CheckLaws.{done-buffer}
+use Rattle.pciv_format.proofs.SummaryLaws.{countsIn, buffer-refuse-alike, buffer-held}
 use Rattle.pciv_edit.proofs.EditListLaws.{list-refused, list-fewer-slots, list-fewer-distances}
 use Rattle.pciv_edit.proofs.EditListLaws.{list-short, refused-run, made-run}
 use borrow.Author.Needs.{needs}
@@ -19,12 +20,18 @@ abbrev from-check : tie.After-check-buffer → tie.Start
 from-check c = c .before .before .before .before .before .before
 
 is-refused : (c : tie.After-checked)
-    → checkBuffer 1 (from-check (c .before .before) .args .buffer .now) ≡ refused (c .checked .given .0 .0)
-is-refused c = fileAnswer-refused _ _ (sym (c .checked .given .1) ∙ c .before .before .check-buffer .ensures)
+    → countsBuffer 1 (from-check (c .before .before) .args .buffer .now) ≡ refused (c .checked .given .0 .0)
+is-refused c =
+    buffer-refuse-alike 1 _ .0 _ .0
+    (fileAnswer-refused _ _ (sym (c .checked .given .1) ∙ c .before .before .check-buffer .ensures))
+
+is-done : (c : tie.After-checked2)
+    → checkBuffer 1 (from-check (c .before .before) .args .buffer .now) ≡ done (c .checked2 .given .0 .0)
+is-done c = fileAnswer-done _ _ (sym (c .checked2 .given .1) ∙ c .before .before .check-buffer .ensures)
 
 is-map : (c : tie.After-checked2)
-    → checkBuffer 1 (from-check (c .before .before) .args .buffer .now) ≡ done (c .checked2 .given .0 .0)
-is-map c = fileAnswer-done _ _ (sym (c .checked2 .given .1) ∙ c .before .before .check-buffer .ensures)
+    → countsBuffer 1 (from-check (c .before .before) .args .buffer .now) ≡ done (countsIn (c .checked2 .given .0 .0))
+is-map c = buffer-refuse-alike 1 _ .1 _ .0 (is-done c) .0
 
 -- as many distances as slots
 as-many : (c : tie.Else2)
@@ -100,7 +107,12 @@ returns-3 c =
 edit-all-requires : tie.Need-edit-all-requires
 edit-all-requires c κs =
     let fit = c .before .before in
-    (done-buffer 1 _ _ (is-map (fit .before .before .before .before)), (as-many (fit .before), fits fit))
+    let told = fit .before .before .before .before in
+    let s = from-check (told .before .before) in
+    let known = told .before .before .before .before .before .before .before in
+    let held =
+    buffer-held 1 (s .args .buffer .now) _ (λ i. known .slice-known .given i .fits) (is-done told) in
+    (record { checked = held .0; sumIs = held .1 }, (as-many (fit .before), fits fit))
 
 same-length-4 : tie.Need-same-length-4
 same-length-4 c = search needs

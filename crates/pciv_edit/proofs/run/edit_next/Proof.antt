@@ -1,13 +1,16 @@
 -- Proves pciv_edit::run::edit_next.
 use mathlib.Core.Path.{_≡_, sym, ap, _∙_}
+use Prim.Native.Nat.{_≤_}
 use native.Mathlib.Omega.{arith}
 use lib.Seq.{sets}
+use Rattle.pciv_bytes.specs.LittleEndian.{Bytes}
+use Rattle.pciv_format.specs.Layout.{maxDistance}
 use Rattle.pciv_format.specs.Refusals.{done, refused}
 use Rattle.pciv_format.specs.Edit.{Edit, editOutcome, editMoved}
 use Rattle.pciv_format.specs.declared.EditAnswer.{EditAnswer}
 use Rattle.pciv_format.proofs.RefusalsLaws.{fileAnswer-done, fileAnswer-refused}
 use Rattle.pciv_format.proofs.LimitLaws.{buffer-refused}
-use Rattle.pciv_format.proofs.EditCaseLaws.{accepted-checked}
+use Rattle.pciv_format.proofs.EditCaseLaws.{accepted-checked, accepted-sum}
 use Rattle.pciv_edit.proofs.EditListLaws.{cells-refused, cells-done}
 use borrow.Author.Needs.{needs}
 use Rattle.pciv_edit.proofs.run.edit_next.Statement.{statement}
@@ -15,6 +18,12 @@ use Rattle.pciv_edit.proofs.run.edit_next.Tie as tie
 
 abbrev the-edit : tie.Start → Edit
 the-edit s = record { slot = s .args .slot; distance = s .args .distance }
+
+bytes : (c : tie.After-slice-known) → Bytes (c .before .args .buffer .now)
+bytes c i = c .slice-known .given i .fits
+
+small : (s : tie.Start) → the-edit s .distance ≤ maxDistance
+small s = omega (arith, s .fits .distance)
 
 is-refused : (c : tie.After-told)
     → (let s = c .before .before .before .before .before .before .before .before in
@@ -88,8 +97,12 @@ returns-2 c =
     let a = s .args in
     let is = is-done told in (
       rw (edit .edit-checked .ensures .1)
-          (accepted-checked (a .buffer .now) (a .n) (a .k) (λ i. known .slice-known .given i .fits) (s .pre .0)
-          (the-edit s) (omega (arith, s .fits .distance)) _ is),
+          (record {
+            checked =
+                accepted-checked (a .buffer .now) (a .n) (a .k) (bytes known) (s .pre .0 .checked) (the-edit s) (small s) _ is;
+            sumIs =
+                accepted-sum (a .buffer .now) (a .n) (a .k) (bytes known) (s .pre .0 .checked) (the-edit s) (small s) _ is;
+          }),
       (
         edit .edit-checked .ensures .1,
         put .put-cells2 .ensures ∙ ap (sets (a .answers .now) (a .at)) (cells-done _ _ _ (moved edit) _ is),

@@ -1,5 +1,5 @@
 -- Proves pciv_edit::run::put_cells. Invariant: writing all cells from `at` on is writing the rest of them from at + j
--- on. Falls: 9 - j.
+-- on. Falls: 10 - j.
 use mathlib.Core.Path.{_≡_, refl, sym, _∙_}
 use Prim.Native.Nat.{ℕ, _+_, _-_, _≤_}
 use native.Mathlib.Nat.{add-zero}

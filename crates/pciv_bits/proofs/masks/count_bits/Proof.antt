@@ -1,4 +1,4 @@
--- Proves pciv_mask_logic::count_bits. Invariant: `Added`, the bits of i words are counted, at most 64 for each. Falls:
+-- Proves pciv_bits::masks::count_bits. Invariant: `Added`, the bits of i words are counted, at most 64 for each. Falls:
 -- length words - i.
 use mathlib.Core.Path.{_≡_, _∙_}
 use Prim.Native.Nat.{ℕ, _+_, _-_, _*_, _≤_}
@@ -11,8 +11,8 @@ use Rattle.pciv_bytes.specs.Ranges.{flag, sumFrom}
 use Rattle.pciv_bytes.proofs.SumLaws.{Added, added-none, added-part, added-all}
 use Rattle.pciv_format.specs.Mask.{maskHas}
 use Rattle.pciv_format.proofs.MaskLaws.{ones-maskHas}
-use Rattle.pciv_mask_logic.proofs.count_bits.Statement.{statement}
-use Rattle.pciv_mask_logic.proofs.count_bits.Tie as tie
+use Rattle.pciv_bits.proofs.masks.count_bits.Statement.{statement}
+use Rattle.pciv_bits.proofs.masks.count_bits.Tie as tie
 
 -- the bits of ws, as numbers
 abbrev bits : List ℕ → ℕ → ℕ

@@ -1,8 +1,8 @@
--- Proves pciv_layout::summary_of.
+-- Proves pciv_layout::counts_of.
 use Rattle.pciv_format.specs.Layout.{countsOf}
 use borrow.Author.Needs.{needs}
-use Rattle.pciv_layout.proofs.summary_of.Statement.{statement}
-use Rattle.pciv_layout.proofs.summary_of.Tie as tie
+use Rattle.pciv_layout.proofs.counts_of.Statement.{statement}
+use Rattle.pciv_layout.proofs.counts_of.Tie as tie
 
 index-len-requires : tie.Need-index-len-requires
 index-len-requires c κs = search needs
@@ -18,5 +18,5 @@ unfolding countsOf
 returns c =
     rw (c .before .before .index-len .ensures, c .before .index-step .ensures, c .file-len .ensures)
 
-pub summary-of-spec : {M : Type 1} → statement M
-summary-of-spec = tie.close (tie.spec index-len-requires index-step-requires file-len-requires returns)
+pub counts-of-spec : {M : Type 1} → statement M
+counts-of-spec = tie.close (tie.spec index-len-requires index-step-requires file-len-requires returns)

@@ -1,10 +1,10 @@
--- Proves pciv_mask_logic::count_word: a word has no more than 64 ones.
+-- Proves pciv_bits::masks::count_word: a word has no more than 64 ones.
 use Prim.Native.Nat.{_≤_}
 use mathlib.Core.Path.{refl}
 use native.Mathlib.Omega.{arith}
 use lib.Count.{ones, ones-le}
-use Rattle.pciv_mask_logic.proofs.count_word.Statement.{statement}
-use Rattle.pciv_mask_logic.proofs.count_word.Tie as tie
+use Rattle.pciv_bits.proofs.masks.count_word.Statement.{statement}
+use Rattle.pciv_bits.proofs.masks.count_word.Tie as tie
 
 few : (c : tie.Start) → ones (c .args .x) ≤ 64
 few c = ones-le 64 (c .args .x) (c .fits .x .fits)
