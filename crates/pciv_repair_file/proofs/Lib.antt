@@ -1,2 +1,4 @@
 pub mod KeptLaws
 pub mod RepairedLaws
+pub mod WalkLaws
+pub mod PutLaws

@@ -1,33 +1,31 @@
+-- Proves pciv_repair_file::kept::count_full: a count of the primary part as a slice.
+use mathlib.Core.Path.{sym, _∙_}
+use native.Mathlib.Omega.{arith}
+use Rattle.pciv_check_parts.proofs.PrimaryPartLaws.{part-count}
+use Rattle.pciv_repair_file.proofs.WalkLaws.{fullBytes-is}
 use borrow.Author.Needs.{needs}
 use Rattle.pciv_repair_file.proofs.kept.count_full.Statement.{statement}
 use Rattle.pciv_repair_file.proofs.kept.count_full.Tie as tie
-use Rattle.pciv_repair_file.proofs.kept.count_full.Reads as reads
-use Rattle.pciv_repair_file.proofs.kept.count_full.Lts as lts
-use Rattle.pciv_passes.proofs.counts.count_byte.Reads as count-byte-reads
 
--- src/kept.rt:56:34
 add-count-byte : tie.Need-add-count-byte
 add-count-byte c = search needs
 
--- src/kept.rt:56:16
 sub-count-byte : tie.Need-sub-count-byte
 sub-count-byte c = search needs
 
--- src/kept.rt:56:16
 part-count-byte-start : tie.Need-part-count-byte-start
 part-count-byte-start c = search needs
 
--- src/kept.rt:56:16
 part-count-byte-end : tie.Need-part-count-byte-end
 part-count-byte-end c = search needs
 
--- src/kept.rt:56:5
 count-byte-requires : tie.Need-count-byte-requires
 count-byte-requires c κs = search needs
 
--- src/kept.rt:52:1
 returns : tie.Need-returns
-returns c = ?
+returns c =
+    let a = c .before .before .before .args in
+    c .count-byte .ensures ∙ part-count (a .file .now) (a .n) 0 (omega arith) ∙ sym (fullBytes-is (a .file .now) (a .n) 0)
 
 pub count-full-spec : {M : Type 1} → statement M
 count-full-spec =
