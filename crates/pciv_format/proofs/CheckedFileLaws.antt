@@ -1,4 +1,5 @@
 -- A checked map whose bytes end with it is the file of the distances that it is read as, part by part.
+--   two-numbers         two numbers that stand next to each other are their bytes
 --   checked-value-le    every distance is within the limit
 --   checked-count       as many distances are in overflow as there are entries
 --   checked-file        the file of the distances is the map's bytes
@@ -32,7 +33,7 @@ stretches a c at b =
     take-add a c (drop at b) ∙ ap (λ (l : List ℕ). take a (drop at b) ++ take c l) (drop-drop a at b)
 
 -- two numbers that stand next to each other
-two-numbers : (w u at : ℕ) (b : List ℕ) → Bytes b → at + (w + u) ≤ length b
+pub two-numbers : (w u at : ℕ) (b : List ℕ) → Bytes b → at + (w + u) ≤ length b
     → le w (get w b at) ++ le u (get u b (at + w)) ≡ take (w + u) (drop at b)
 two-numbers w u at b bytes h =
     ap₂ (λ (x y : List ℕ). x ++ y) (le-get w b at bytes (omega arith)) (le-get u b (at + w) bytes (omega arith))

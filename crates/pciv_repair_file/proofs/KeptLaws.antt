@@ -4,6 +4,7 @@
 --   isKept-next             an entry is kept where that least slot goes up
 --   lowest-rises, lowest-le it never goes down, and is n at most
 --   kept-below              a kept entry's slot is below it from then on
+--   free-between, -past     slots that no kept entry has
 --   kept-at, kept-number    number c of the kept entries is kept; the number of a kept entry among them
 --   kept-right              the kept entries are right by themselves
 --   isSet-inline, -kept, -free    which bytes are set: none below 255, none of a kept entry's slot, else all
@@ -104,15 +105,22 @@ module _ (P : Parts) where
   pub kept-below : (j t : ℕ) → isKept P j ≡ true → j < t → P .slot j < lowestKept P t
   kept-below j t e h = omega (arith, kept-entry j e .next, lowest-rises (suc j) t (omega arith))
 
-  -- a slot between the least one and that of the next kept entry
-  pub kept-none : (j i t : ℕ) → lowestKept P j ≤ i → (isKept P j ≡ true → i < P .slot j) → isKept P t ≡ true
-      → P .slot t ≡ i → t < suc j → ⊥
-  kept-none j i t low above e q h =
+  -- no kept entry has a slot from the least one up to that of the next entry, or past all of them
+  pub free-between : (j i : ℕ) → lowestKept P j ≤ i → i + 1 < lowestKept P (suc j)
+      → (t : ℕ) → isKept P t ≡ true → P .slot t ≡ i → ⊥
+  free-between j i low high t e q =
+      let k : KeptEntry t = kept-entry t e in
       elim (decLe j t) [
-        | yes d ↦ (let z : t ≡ j = omega arith in
-            omega (arith, above (ap (isKept P) (sym z) ∙ e), ap (P .slot) z))
+        | yes d ↦
+            elim (decLe t j) [
+              | yes d' ↦ (let z : t ≡ j = omega arith in omega (arith, k .next, ap (λ (x : ℕ). lowestKept P (suc x)) z))
+              | no d' ↦ omega (arith, k .right .above, lowest-rises (suc j) t (omega arith))
+            ]
         | no d ↦ omega (arith, kept-below t j e (omega arith))
       ]
+
+  pub free-past : (i : ℕ) → lowestKept P (P .k) ≤ i → (t : ℕ) → t < P .k → isKept P t ≡ true → P .slot t ≡ i → ⊥
+  free-past i low t h e q = omega (arith, kept-below t (P .k) e h)
 
   -- ---- the kept entries by themselves
 

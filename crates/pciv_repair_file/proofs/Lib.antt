@@ -2,3 +2,5 @@ pub mod KeptLaws
 pub mod RepairedLaws
 pub mod WalkLaws
 pub mod PutLaws
+pub mod CopyLaws
+pub mod LoweredLaws
