@@ -1,4 +1,5 @@
 -- The primary part of a file as a slice of it, from its byte 40 on.
+--   part b n, length-part, part-at    that slice, its length and its bytes
 --   part-wrong, part-entry    an overflow entry, tested beside that slice
 --   part-count    how many of its bytes are 255
 -- Axioms: none.
@@ -18,14 +19,14 @@ use Rattle.pciv_format.specs.Check.{fileParts}
 use Rattle.pciv_format.proofs.BadEntryLaws.{wrongEntry-cong, badEntry-is}
 use Rattle.pciv_format.proofs.FullCountLaws.{isFull}
 
-abbrev part : List ℕ → ℕ → List ℕ
+abbrev pub part : List ℕ → ℕ → List ℕ
 part b n = take (40 + n - 40) (drop 40 b)
 
 module _ (b : List ℕ) (n k : ℕ) (inside : 40 + n ≤ length b) where
-  length-part : length (part b n) ≡ n
+  pub length-part : length (part b n) ≡ n
   length-part = length-take-le (40 + n - 40) (drop 40 b) (simp length-drop (omega arith)) ∙ omega arith
 
-  part-at : (i : ℕ) → i < n → at (part b n) i ≡ fileParts b n k .byte i
+  pub part-at : (i : ℕ) → i < n → at (part b n) i ≡ fileParts b n k .byte i
   part-at i h = getD-take (40 + n - 40) (drop 40 b) i 0 (omega arith) ∙ getD-drop 40 b i 0
 
   pub part-wrong : (lowest slot distance : ℕ)

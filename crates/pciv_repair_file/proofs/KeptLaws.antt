@@ -7,7 +7,8 @@
 --   free-between, -past     slots that no kept entry has
 --   kept-at, kept-number    number c of the kept entries is kept; the number of a kept entry among them
 --   kept-right              the kept entries are right by themselves
---   isSet-inline, -kept, -free    which bytes are set: none below 255, none of a kept entry's slot, else all
+--   isSet-is, -inline, -kept, -free    which bytes are set: none below 255, none of a kept entry's slot, else all
+--   set-byte, kept-byte     the byte of a slot afterwards
 --   repaired-sound, -byte   what is kept and set is sound, and has bytes
 -- Axioms: none.
 use mathlib.Core.Path.{_≡_, refl, sym, ap, _∙_}
@@ -187,7 +188,7 @@ module _ (P : Parts) where
           (λ c h q. (let t = kept-at c h in none (at (keptEntries P) c) (t .0) (t .1) q))
       go false e = badSlot-inline (keptParts P) i (λ q. true-false (sym (eq-eqb (P .byte i) 255 q) ∙ e))
 
-  isSet-is : (i : ℕ) → isSet P i ≡ badSlot (keptParts P) i
+  pub isSet-is : (i : ℕ) → isSet P i ≡ badSlot (keptParts P) i
   unfolding isSet
   isSet-is i = refl
 

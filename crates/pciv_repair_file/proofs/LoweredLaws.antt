@@ -1,6 +1,8 @@
 -- The primary bytes, lowered to 254 at most and then marked with 255 slot by slot.
 --   lowered P lowest i       the byte of slot i: final below `lowest`, lowered from there on
 --   lowered-start, -more, -end    before the first entry; past a kept one; past all
+--   sets-stands              what was written stands there
+--   lowered-part, primary-copy    the bytes of a file, lowered; as they stand, where none is set
 -- Axioms: none.
 use mathlib.Core.Path.{_≡_, refl, sym, ap, _∙_}
 use Prim.Native.Nat.{ℕ, _+_, min, _≤_, _<_}
@@ -14,13 +16,20 @@ use lib.Seq.{sets, getD-set-same, getD-set-other, ext-getD}
 use lib.Dec.{ltb, eqb}
 use borrow.Author.Tests.{lt-ltb, le-ltb, eqb-true, eqb-false}
 use Rattle.pciv_bytes.specs.Ranges.{table}
+use Rattle.pciv_bytes.specs.LittleEndian.{Bytes}
 use Rattle.pciv_bytes.proofs.RangesLaws.{length-table, getD-table, table-cong}
-use Rattle.pciv_bytes.proofs.WriteLaws.{set-sets}
+use Rattle.pciv_bytes.proofs.WriteLaws.{set-sets, sets-over}
+use Rattle.pciv_passes.specs.Pairs.{oneAt}
+use Rattle.pciv_passes.specs.declared.pairs.ByteOp.the-variants.{Min}
 use Rattle.pciv_format.specs.Parts.{Parts}
-use Rattle.pciv_repair_file.specs.Repaired.{lowestKept, isKept, repairedParts}
+use Rattle.pciv_format.specs.Check.{fileParts}
+use Rattle.pciv_format.proofs.FullCountLaws.{count-complete}
+use Rattle.pciv_check_parts.proofs.PrimaryPartLaws.{part, length-part, part-at}
+use Rattle.pciv_repair_file.specs.Repaired.{lowestKept, isKept, keptEntries, keptParts, isSet, repairedParts}
+use Rattle.pciv_repair_file.specs.Repaired.{fullBytes}
 use Rattle.pciv_repair_file.proofs.KeptLaws.{KeptEntry, kept-entry, free-between, free-past, isSet-free, isSet-kept}
-use Rattle.pciv_repair_file.proofs.KeptLaws.{set-byte, kept-byte}
-use Rattle.pciv_repair_file.proofs.WalkLaws.{Judged}
+use Rattle.pciv_repair_file.proofs.KeptLaws.{isSet-is, set-byte, kept-byte, kept-right}
+use Rattle.pciv_repair_file.proofs.WalkLaws.{Judged, fullBytes-is}
 
 abbrev pub lowered : Parts → ℕ → ℕ → ℕ
 lowered P lowest i = cond (ltb i lowest) (repairedParts P .byte i) (min (P .byte i) 254)
@@ -114,3 +123,39 @@ module _ (P : Parts) (bytes : (i : ℕ) → P .byte i < 256) where
               ∙ free i (free-past P i (omega (arith, e .lowestIs, ap (lowestKept P) end)))
           | no high ↦ lowered-below lowest i (omega arith)
         ])
+
+-- what was written stands there
+pub sets-stands : (d d' t : List ℕ) (i : ℕ) → d' ≡ sets d i t → d' ≡ sets d' i t
+sets-stands d d' t i e = e ∙ sym (sets-over t t d i (omega arith)) ∙ ap (λ (l : List ℕ). sets l i t) (sym e)
+
+-- ---- the primary part of b, as a slice
+
+module _ (b : List ℕ) (n k : ℕ) (bytes : Bytes b) (inside : 40 + n ≤ length b) where
+  abbrev parts : Parts
+  parts = fileParts b n k
+
+  each-byte : (i : ℕ) → parts .byte i < 256
+  each-byte i = bytes (40 + i)
+
+  -- lowered, before the first entry
+  pub lowered-part : table (oneAt Min (part b n) 254) 0 (length (part b n)) ≡ table (lowered (fileParts b n k) 0) 0 n
+  lowered-part =
+      rw (length-part b n k inside)
+      (table-cong (oneAt Min (part b n) 254) (λ (i : ℕ). min (parts .byte i) 254) 0 n
+      (λ i h. ap (λ (x : ℕ). min x 254) (part-at b n k inside i (omega arith)))
+      ∙ lowered-start parts each-byte n)
+
+  -- as it stands, where as many bytes are 255 as entries are kept
+  pub primary-copy : fullBytes b n ≡ length (keptEntries (fileParts b n k))
+      → part b n ≡ table (repairedParts (fileParts b n k) .byte) 0 n
+  primary-copy same =
+      let none : (i : ℕ) → i < n → isSet parts i ≡ false =
+      λ i h. isSet-is parts i
+      ∙ count-complete (keptParts parts) (kept-right parts) (sym (fullBytes-is b n k) ∙ same) i h in
+      let long : length (part b n) ≡ n = length-part b n k inside in
+      ext-getD 0 (part b n) (table (repairedParts parts .byte) 0 n) (long ∙ sym (length-table (repairedParts parts .byte) 0 n))
+      (λ i h.
+      (let l : i < n = omega (arith, long) in
+      part-at b n k inside i l
+      ∙ sym (getD-table (repairedParts parts .byte) 0 0 n i l ∙ ap (repairedParts parts .byte) (zero-add i)
+      ∙ kept-byte parts i (none i l))))

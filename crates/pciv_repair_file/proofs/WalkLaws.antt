@@ -2,7 +2,7 @@
 --   Judged P j lowest     the entries below j are judged; entry j may have `lowest` at the least
 --   judged-start, -more   before the first entry, and one entry on
 --   judged-kept           an entry is kept where the least slot goes up
---   judged-entry, -dropped    what is known of it then, and otherwise
+--   judged-entry, -dropped, -same    what is known of it then, and otherwise
 --   keptCount P j         how many of the entries below j are kept
 --   keptCount-none, -more, -kept, -dropped, -le, -all    before the first entry, and one on; all entries
 --   fullBytes-is          how many primary bytes are 255
@@ -51,6 +51,9 @@ module _ {P : Parts} {j lowest : ℕ} (e : Judged P j lowest) (next : ℕ) (is :
 
   pub judged-dropped : next ≤ lowest → isKept P j ≡ false
   judged-dropped h = judged-kept ∙ le-ltb lowest next h
+
+  pub judged-same : next ≤ lowest → next ≡ lowest
+  judged-same h = next-is ∙ rw (add-one j) (dropped-next P j (judged-dropped h)) ∙ sym (e .lowestIs)
 
 -- ---- how many are kept
 
