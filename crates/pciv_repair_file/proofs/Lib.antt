@@ -4,3 +4,5 @@ pub mod WalkLaws
 pub mod PutLaws
 pub mod CopyLaws
 pub mod LoweredLaws
+pub mod SameLaws
+pub mod IndexLaws

@@ -45,13 +45,15 @@ fn same_entries(file: &[u8], n: usize, k: usize, kept: usize) -> bool
         lowest = lowest_after(file, n, free, j);
         j += 1;
         if free < lowest {
-            if entry == i * step {
-                if other_entry(file, index + 16 * i, lowest - 1, entry) {
+            let number = entry;
+            entry += 1;
+            if number == i * step {
+                let at = index + 16 * i;
+                i += 1;
+                if other_entry(file, at, lowest - 1, number) {
                     return false;
                 }
-                i += 1;
             }
-            entry += 1;
         }
     }
     true

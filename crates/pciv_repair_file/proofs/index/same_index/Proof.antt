@@ -1,44 +1,69 @@
+-- Proves pciv_repair_file::index::same_index: another length decides it, else the entries do.
+use mathlib.Core.Path.{_≡_, refl, sym, ap, _∙_}
+use Prim.Native.Nat.{ℕ, _+_, _-_, _*_, _≤_}
+use native.Mathlib.Omega.{arith}
+use lib.ListN.{length, length-drop}
+use Rattle.pciv_bytes.specs.LittleEndian.{Bytes}
+use Rattle.pciv_format.specs.Layout.{maxSlots, indexLen}
+use Rattle.pciv_format.specs.Check.{fileParts}
+use Rattle.pciv_format.proofs.LayoutLaws.{indexLen-le, indexStep-le}
+use Rattle.pciv_repair_file.specs.Repaired.{keptEntries, bytesAfter}
+use Rattle.pciv_repair_file.proofs.IndexLaws.{kept-small, index-other}
 use borrow.Author.Needs.{needs}
 use Rattle.pciv_repair_file.proofs.index.same_index.Statement.{statement}
 use Rattle.pciv_repair_file.proofs.index.same_index.Tie as tie
-use Rattle.pciv_repair_file.proofs.index.same_index.Reads as reads
-use Rattle.pciv_repair_file.proofs.index.same_index.Lts as lts
-use Rattle.pciv_layout.proofs.index_len.Reads as index-len-reads
-use Rattle.pciv_repair_file.proofs.index.same_entries.Reads as same-entries-reads
 
--- src/index.rt:66:17
+bytes : (q : tie.After-shared-slice-known) → Bytes (q .before .args .file .now)
+bytes q i = q .shared-slice-known .given i .fits
+
+small : (q : tie.After-shared-slice-known) → q .before .args .kept ≤ maxSlots
+small q = omega (arith, q .before .pre .1, kept-small _ _ _ (bytes q) (q .before .pre .0))
+
+-- how many bytes there are, and how many the index has
+behind : (q : tie.After-shared-slice-known)
+    → (let a = q .before .args in
+    length (bytesAfter (a .file .now) (a .n) (a .k)) ≡ length (a .file .now) - (40 + a .n + 12 * a .k))
+behind q = simp length-drop refl
+
+len-is : (c : tie.After-index-len)
+    → (let a = c .before .before .args in
+    c .index-len .result ≡ indexLen (length (keptEntries (fileParts (a .file .now) (a .n) (a .k)))))
+len-is c = c .index-len .ensures ∙ ap indexLen (c .before .before .pre .1)
+
 add-index : tie.Need-add-index
 add-index c = search needs
 
--- src/index.rt:66:34
 mul-index : tie.Need-mul-index
 mul-index c = search needs
 
--- src/index.rt:66:17
 add-index-2 : tie.Need-add-index-2
 add-index-2 c = search needs
 
--- src/index.rt:67:8
 sub-if1 : tie.Need-sub-if1
 sub-if1 c = search needs
 
--- src/index.rt:67:35
 index-len-requires : tie.Need-index-len-requires
-index-len-requires c κs = ?
+index-len-requires c κs = small c
 
--- src/index.rt:67:30
 mul-if1 : tie.Need-mul-if1
-mul-if1 c = ?
+mul-if1 c =
+    let kept : ℕ = c .before .before .args .kept in
+    omega (arith, c .index-len .ensures, indexLen-le kept, indexStep-le kept, small (c .before))
 
--- src/index.rt:68:9
 returns : tie.Need-returns
-returns c = ?
+returns c =
+    let i = c .before in
+    let q = i .before in
+    let a = q .before .args in
+    sym
+    (index-other (a .file .now) (a .n) (a .k) (bytes q) (q .before .pre .0)
+    (λ e. c .if1 .taken (sym (behind q) ∙ e ∙ ap (λ (x : ℕ). 16 * x) (sym (len-is i)))))
 
--- src/index.rt:70:5
 same-entries-requires : tie.Need-same-entries-requires
-same-entries-requires c κs = ?
+same-entries-requires c κs =
+    let q = c .before .before in
+    (q .before .pre .0, (q .before .pre .1, behind q ∙ c .if1 .left ∙ ap (λ (x : ℕ). 16 * x) (c .before .index-len .ensures)))
 
--- src/index.rt:61:1
 returns-2 : tie.Need-returns-2
 returns-2 c = search needs
 
