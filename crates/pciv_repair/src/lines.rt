@@ -94,7 +94,8 @@ pub fn put_fields(file: &[u8], new: &[u8], list: &mut [usize]) -> usize
     ensures next { λ r. ⌜ r ≡ length (positions (otherField (now (file .entry)) (now (new .entry))) 0 6) ⌝ }
     ensures list { λ _. ⌜ now (list .exit)
         ≡ sets (now (list .entry)) 0
-        (numbersOf (map (fieldLine (now (file .entry)) (now (new .entry))) (positions (otherField (now (file .entry)) (now (new .entry))) 0 6))) ⌝ }
+        (numbersOf (map (fieldLine (now (file .entry)) (now (new .entry)))
+        (positions (otherField (now (file .entry)) (now (new .entry))) 0 6))) ⌝ }
 {
     let mut line: usize = 0;
     let mut i: usize = 0;
