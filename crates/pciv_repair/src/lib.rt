@@ -3,18 +3,16 @@
 pub mod lines;
 
 ghost use mathlib.Core.Path.{_≡_};
-ghost use Prim.Native.Nat.{_+_, _-_, _*_, _≤_};
-ghost use mathlib.Core.Bool.{not};
+ghost use Prim.Native.Nat.{_+_, _*_, _≤_};
 ghost use mathlib.Core.List.{_++_};
 ghost use lib.ListN.{length, drop};
 ghost use lib.Seq.{sets};
-ghost use Rattle.pciv_bytes.specs.Ranges.{flag};
 ghost use Rattle.pciv_format.specs.Refusals.{refuse};
 ghost use Rattle.pciv_format.specs.Check.{fileParts};
 ghost use Rattle.pciv_repair_file.specs.Repaired.{keptEntries, fullBytes, repairedFile, bytesAfter, rebuiltIndex, same};
 ghost use Rattle.pciv_repair_file.specs.Repaired.{PartsGiven};
-ghost use Rattle.pciv_repair.specs.Repair.{corrections, numbersOf, repairOutcome, repairBuffer, repairList};
-ghost use Rattle.pciv_repair.specs.Repair.{repairAnswer};
+ghost use Rattle.pciv_repair.specs.Repair.{setLines, indexLines, corrections, numbersOf, repairOutcome};
+ghost use Rattle.pciv_repair.specs.Repair.{repairBuffer, repairList, repairAnswer};
 use crate::lines::INDEX;
 use crate::lines::count_fields;
 use crate::lines::put_dropped;
@@ -71,6 +69,63 @@ fn count_lines(file: &[u8], n: usize, k: usize, kept: usize, full: usize, indexe
     count_fields(file, &header) + (k - kept) + (full - kept) + !indexed as usize
 }
 
+// Lists the bytes that are set, from line number `from` on, and answers the number of the next line. Where there are as
+// many bytes 255 as kept entries, there are none.
+fn put_missing(
+    file: &[u8],
+    n: usize,
+    k: usize,
+    kept: usize,
+    full: usize,
+    new: &[u8],
+    list: &mut [usize],
+    from: usize,
+) -> usize
+    requires { ⌜ PartsGiven (now file) n k ⌝ }
+    requires { ⌜ (kept ≡ length (keptEntries (fileParts (now file) n k))) × (full ≡ fullBytes (now file) n) ⌝ }
+    requires { ⌜ now new ≡ repairedFile (now file) n k ++ drop (length (repairedFile (now file) n k)) (now new) ⌝ }
+    requires { ⌜ 4 * (from + length (setLines (now file) n k)) ≤ length (now list) ⌝ }
+    ensures next { λ r. ⌜ r ≡ from + length (setLines (now (file .entry)) n k) ⌝ }
+    ensures list { λ _. ⌜ now (list .exit)
+        ≡ sets (now (list .entry)) (4 * from) (numbersOf (setLines (now (file .entry)) n k)) ⌝ }
+{
+    if full <= kept {
+        return from;
+    }
+    put_set(file, n, new, list, from)
+}
+
+// Lists the bytes behind the entries as line number `line`, unless they are the index.
+fn put_index(
+    file: &[u8],
+    n: usize,
+    k: usize,
+    kept: usize,
+    indexed: bool,
+    list: &mut [usize],
+    line: usize,
+)
+    requires { ⌜ PartsGiven (now file) n k ⌝ }
+    requires { ⌜ kept ≡ length (keptEntries (fileParts (now file) n k)) ⌝ }
+    requires { ⌜ indexed ≡ same (bytesAfter (now file) n k) (rebuiltIndex (now file) n k) ⌝ }
+    requires { ⌜ 4 * (line + length (indexLines (now file) n k)) ≤ length (now list) ⌝ }
+    ensures { λ _. ⌜ now (list .exit)
+        ≡ sets (now (list .entry)) (4 * line) (numbersOf (indexLines (now (file .entry)) n k)) ⌝ }
+{
+    if indexed {
+        return;
+    }
+    let after = HEADER_LEN + n + 12 * k;
+    put_line(
+        list,
+        line,
+        INDEX,
+        0,
+        file.len() - after,
+        16 * index_len(kept),
+    );
+}
+
 // Lists every change, where the rebuilt file stands at the front of `new`.
 fn put_lines(
     file: &[u8],
@@ -89,22 +144,10 @@ fn put_lines(
     requires { ⌜ 4 * length (corrections (now file) n k) ≤ length (now list) ⌝ }
     ensures { λ _. ⌜ now (list .exit) ≡ sets (now (list .entry)) 0 (numbersOf (corrections (now (file .entry)) n k)) ⌝ }
 {
-    let mut line = put_fields(file, new, list);
-    line = put_dropped(file, n, k, list, line);
-    if kept < full {
-        line = put_set(file, n, new, list, line);
-    }
-    if !indexed {
-        let after = HEADER_LEN + n + 12 * k;
-        put_line(
-            list,
-            line,
-            INDEX,
-            0,
-            file.len() - after,
-            16 * index_len(kept),
-        );
-    }
+    let dropped = put_fields(file, new, list);
+    let set = put_dropped(file, n, k, list, dropped);
+    let last = put_missing(file, n, k, kept, full, new, list, set);
+    put_index(file, n, k, kept, indexed, list, last);
 }
 
 // The file and the list, or refusal 12.

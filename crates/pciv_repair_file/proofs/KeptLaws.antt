@@ -8,6 +8,7 @@
 --   kept-at, kept-number    number c of the kept entries is kept; the number of a kept entry among them
 --   kept-right              the kept entries are right by themselves
 --   isSet-is, -inline, -kept, -free    which bytes are set: none below 255, none of a kept entry's slot, else all
+--   set-full                a byte that is set was 255
 --   set-byte, kept-byte     the byte of a slot afterwards
 --   repaired-sound, -byte   what is kept and set is sound, and has bytes
 -- Axioms: none.
@@ -22,7 +23,7 @@ use mathlib.Core.List.{List, _∷_, _++_}
 use lib.ListN.{length, getD, length-append}
 use lib.Seq.{getD-append-add}
 use lib.Dec.{ltb, eqb}
-use borrow.Author.Tests.{lt-ltb, le-ltb, eq-eqb, ne-eqb, eqb-true, not-true}
+use borrow.Author.Tests.{lt-ltb, le-ltb, eq-eqb, ne-eqb, eqb-true, eqb-false, not-true}
 use Rattle.pciv_bytes.specs.Ranges.{positions, keepIf}
 use Rattle.pciv_bytes.proofs.RangesLaws.{true-false}
 use Rattle.pciv_bytes.proofs.PositionsLaws.{positions-at, positions-rise, positions-all, positions-around}
@@ -170,6 +171,13 @@ module _ (P : Parts) where
   pub isSet-inline : (i : ℕ) → (P .byte i ≡ 255 → ⊥) → isSet P i ≡ false
   unfolding isSet
   isSet-inline i inline = badSlot-inline (keptParts P) i inline
+
+  pub set-full : (i : ℕ) → isSet P i ≡ true → P .byte i ≡ 255
+  set-full i set = go (eqb (P .byte i) 255) refl
+    where
+      go : (t : Bool) → eqb (P .byte i) 255 ≡ t → P .byte i ≡ 255
+      go true e = eqb-true (P .byte i) 255 e
+      go false e = absurd (true-false (sym set ∙ isSet-inline i (eqb-false (P .byte i) 255 e)))
 
   pub isSet-kept : (j : ℕ) → j < P .k → isKept P j ≡ true → isSet P (P .slot j) ≡ false
   unfolding isSet

@@ -6,3 +6,4 @@ pub mod CopyLaws
 pub mod LoweredLaws
 pub mod SameLaws
 pub mod IndexLaws
+pub mod WholeLaws
