@@ -4,6 +4,9 @@ use crate::model::{numbers, Argument, Function, Functions, Number, Structs, Type
 use crate::tokens::{closing, items, line, strs, words};
 use std::collections::BTreeMap;
 
+/// The enum of the refusals.
+const REFUSALS: &str = "pciv_refusal_number";
+
 /// What the header declares.
 #[derive(Debug, Default)]
 pub struct Header {
@@ -11,7 +14,7 @@ pub struct Header {
     pub functions: Functions,
     /// The structs that consist of numbers.
     pub structs: Structs,
-    /// The numbers of refusals, and those that are defined as a word, but for the version's.
+    /// The numbers of enums, and those that are defined as a word, but for the version's.
     pub numbers: BTreeMap<String, u64>,
     /// The refusals' names, without `PCIV_`.
     pub refusals: Vec<String>,
@@ -60,8 +63,8 @@ impl Header {
         let body = &words[end + 1..close];
         match front.as_slice() {
             ["static", "inline", ..] => Ok(close + 1),
-            ["enum", ..] => {
-                self.read_numbers(body)?;
+            ["enum", name, ..] => {
+                self.read_numbers(body, *name == REFUSALS)?;
                 Ok(close + 2)
             }
             ["typedef", "struct", "{", ..] => {
@@ -157,15 +160,17 @@ impl Header {
         Ok(())
     }
 
-    fn read_numbers(&mut self, body: &[String]) -> Result<(), String> {
+    fn read_numbers(&mut self, body: &[String], are_refusals: bool) -> Result<(), String> {
         for item in items(body, ",") {
             let [name, "=", number] = strs(item)[..] else {
                 return Err(refuse(item));
             };
             let number = number.parse().map_err(|_| refuse(item))?;
             self.numbers.insert(name.to_string(), number);
-            let name = name.trim_start_matches("PCIV_");
-            self.refusals.push(name.to_string());
+            if are_refusals {
+                let name = name.trim_start_matches("PCIV_");
+                self.refusals.push(name.to_string());
+            }
         }
         Ok(())
     }

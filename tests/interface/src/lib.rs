@@ -38,11 +38,12 @@ pub const RUST: &str = "rust/pciv/src";
 pub const CARGO: &str = "Cargo.toml";
 
 /// A struct of the header and its counterpart in Rust, and whether the Rattle source has it too.
-const STRUCTS: [(&str, &str, bool); 4] = [
+const STRUCTS: [(&str, &str, bool); 5] = [
     ("pciv_refusal", "Refusal", true),
     ("pciv_summary", "Summary", true),
     ("pciv_entry", "Entry", true),
     ("pciv_edit_answer", "EditAnswer", false),
+    ("pciv_correction", "Correction", false),
 ];
 
 /// Compares the sources below `root` with each other and with the libraries there. Answers the
