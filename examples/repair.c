@@ -101,11 +101,11 @@ static const char *field_at(uint64_t offset)
 static const char *about(const pciv_correction *line)
 {
     switch (line->kind) {
-    case PCIV_FIELD_CORRECTED:
+    case PCIV_CORRECTION_FIELD:
         return field_at(line->place);
-    case PCIV_ENTRY_DROPPED:
+    case PCIV_CORRECTION_DROPPED:
         return "overflow entry dropped: its slot";
-    case PCIV_BYTE_SET:
+    case PCIV_CORRECTION_SET:
         return "slot without an overflow entry: now 254 cm";
     default:
         return "index made anew: its bytes";

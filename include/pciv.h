@@ -491,14 +491,14 @@ static inline uint64_t pciv_edit_all(uint8_t *buffer, size_t buffer_len, const u
 
 /* What a correction is about, in the order of the list; lines of one kind come by rising place. */
 enum pciv_correction_kind {
-    PCIV_FIELD_CORRECTED = 1, /* a field of the header; place: its offset, 0, 4, 8, 16, 24 or 32;
-                                 before and after: its number, of 4 bytes at 0 and 4, else of 8 */
-    PCIV_ENTRY_DROPPED = 2,   /* an overflow entry; place: its number among those given, from 0;
-                                 before: its slot; after: 0 */
-    PCIV_BYTE_SET = 3,        /* a primary byte 255 without an overflow entry; place: its slot;
-                                 before: 255; after: 254 */
-    PCIV_INDEX_REBUILT = 4    /* the bytes behind the overflow entries given were not the sparse
-                                 index; place: 0; before and after: how many there were, and are */
+    PCIV_CORRECTION_FIELD = 1,   /* a field of the header; place: its offset, 0, 4, 8, 16, 24 or 32;
+                                    before and after: its number, of 4 bytes at 0 and 4, else of 8 */
+    PCIV_CORRECTION_DROPPED = 2, /* an overflow entry is dropped; place: its number among those
+                                    given, from 0; before: its slot; after: 0 */
+    PCIV_CORRECTION_SET = 3,     /* a primary byte 255 without an overflow entry is set; place: its
+                                    slot; before: 255; after: 254 */
+    PCIV_CORRECTION_INDEX = 4    /* the bytes behind the overflow entries given were not the sparse
+                                    index; place: 0; before and after: how many there were, and are */
 };
 
 /* A line of the list. */

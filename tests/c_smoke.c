@@ -696,9 +696,9 @@ static void test_repair(const uint8_t *file)
     EXPECT(pciv_repair(swapped, MAP_LEN, N, 2, out, MAP_LEN, numbers, 16, &summary, &count,
                        &refusal) == PCIV_OK);
     EXPECT(is_refusal(&refusal, PCIV_OK, 0, 0) && count == 3);
-    EXPECT(is_correction(&lines[0], PCIV_FIELD_CORRECTED, 16, 2, 1));
-    EXPECT(is_correction(&lines[1], PCIV_ENTRY_DROPPED, 1, 2, 0));
-    EXPECT(is_correction(&lines[2], PCIV_BYTE_SET, 2, 255, 254));
+    EXPECT(is_correction(&lines[0], PCIV_CORRECTION_FIELD, 16, 2, 1));
+    EXPECT(is_correction(&lines[1], PCIV_CORRECTION_DROPPED, 1, 2, 0));
+    EXPECT(is_correction(&lines[2], PCIV_CORRECTION_SET, 2, 255, 254));
     EXPECT(is_dirty(&lines[3], sizeof lines[3]) && is_dirty(out + 56, MAP_LEN - 56));
     EXPECT(is_summary(&summary, N, 1, 56, 808) && is_file_of(out, 56, &summary, expected));
 }
@@ -722,9 +722,9 @@ static void test_repair_all(const uint8_t *file)
     EXPECT(memcmp(out, file, MAP_LEN) == 0 && is_dirty(lines, sizeof lines) && count == 0);
     EXPECT(pciv_repair_all(file, MAP_LEN, N, 1, out, sizeof out, lines, 3, &summary, &count,
                            &refusal) == PCIV_OK);
-    EXPECT(count == 3 && is_correction(&lines[0], PCIV_FIELD_CORRECTED, 16, 2, 1));
-    EXPECT(is_correction(&lines[1], PCIV_BYTE_SET, 3, 255, 254));
-    EXPECT(is_correction(&lines[2], PCIV_INDEX_REBUILT, 0, 12, 0));
+    EXPECT(count == 3 && is_correction(&lines[0], PCIV_CORRECTION_FIELD, 16, 2, 1));
+    EXPECT(is_correction(&lines[1], PCIV_CORRECTION_SET, 3, 255, 254));
+    EXPECT(is_correction(&lines[2], PCIV_CORRECTION_INDEX, 0, 12, 0));
     EXPECT(is_dirty(&lines[3], sizeof lines[3]));
     EXPECT(is_summary(&summary, N, 1, 56, 763) && is_file_of(out, 56, &summary, expected));
 }

@@ -51,7 +51,7 @@ static bool repairs(std::array<uint8_t, 68> spoiled)
     return pciv_repair_all(spoiled.data(), spoiled.size(), 4, 2, out.data(), out.size(),
                            corrections.data(), corrections.size(), &summary, &count,
                            &refusal) == PCIV_OK &&
-           count == 1 && corrections[0].kind == PCIV_FIELD_CORRECTED &&
+           count == 1 && corrections[0].kind == PCIV_CORRECTION_FIELD &&
            corrections[0].place == 32 && corrections[0].before == 9 && corrections[0].after == 0 &&
            summary.len == file.size() && std::equal(file.begin(), file.end(), out.begin());
 }

@@ -84,7 +84,7 @@ fn print(repaired: &Repaired, corrections: &[Correction]) -> io::Result<()> {
 
 fn about(line: &Correction) -> &'static str {
     match line.kind {
-        Correction::FIELD_CORRECTED => match line.place {
+        Correction::FIELD => match line.place {
             0 => "header: the letters PCIV",
             4 => "header: the zeros behind them",
             8 => "header: slots",
@@ -92,8 +92,8 @@ fn about(line: &Correction) -> &'static str {
             24 => "header: index entries",
             _ => "header: step of the index",
         },
-        Correction::ENTRY_DROPPED => "overflow entry dropped: its slot",
-        Correction::BYTE_SET => "slot without an overflow entry: now 254 cm",
+        Correction::DROPPED => "overflow entry dropped: its slot",
+        Correction::SET => "slot without an overflow entry: now 254 cm",
         _ => "index made anew: its bytes",
     }
 }

@@ -23,15 +23,15 @@ pub struct Correction {
 impl Correction {
     /// A field of the header: the place is its offset, 0, 4, 8, 16, 24 or 32, and its number is one of 4
     /// bytes at 0 and 4, else of 8.
-    pub const FIELD_CORRECTED: u64 = 1;
+    pub const FIELD: u64 = 1;
     /// An overflow entry: the place is its number among those given, from 0; before is its slot, after is
     /// 0.
-    pub const ENTRY_DROPPED: u64 = 2;
+    pub const DROPPED: u64 = 2;
     /// A primary byte 255 without an overflow entry: the place is its slot; before is 255, after is 254.
-    pub const BYTE_SET: u64 = 3;
+    pub const SET: u64 = 3;
     /// The bytes behind the overflow entries given were not the sparse index: the place is 0, before and
     /// after are how many bytes there were, and are.
-    pub const INDEX_REBUILT: u64 = 4;
+    pub const INDEX: u64 = 4;
 }
 
 /// What a repair has done.
@@ -76,7 +76,7 @@ pub const fn most_corrections(n: u64, k: u64) -> usize {
 /// let repaired = pciv::repair(&spoiled, 4, 2, &mut out, &mut corrections)?;
 /// assert_eq!((repaired.summary.len, repaired.lines), (68, 1));
 /// assert_eq!(out[..68], *sound);
-/// let step = Correction { kind: Correction::FIELD_CORRECTED, place: 32, before: 9, after: 0 };
+/// let step = Correction { kind: Correction::FIELD, place: 32, before: 9, after: 0 };
 /// assert_eq!(corrections[0], step);
 ///
 /// // One overflow entry is not enough for this map: slot 3 loses its distance.
@@ -144,11 +144,7 @@ mod tests {
         let kinds = corrections.map(|correction| correction.kind);
         assert_eq!(
             kinds[..3],
-            [
-                Correction::FIELD_CORRECTED,
-                Correction::BYTE_SET,
-                Correction::INDEX_REBUILT
-            ]
+            [Correction::FIELD, Correction::SET, Correction::INDEX]
         );
     }
 

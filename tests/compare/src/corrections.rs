@@ -28,9 +28,9 @@ pub fn lines_of(lines: &[[u64; CORRECTION_LEN]]) -> Vec<Corrected> {
 
 fn of_line(&[kind, place, before, after]: &[u64; CORRECTION_LEN]) -> Corrected {
     match kind {
-        Correction::FIELD_CORRECTED => Corrected::Field(place),
-        Correction::ENTRY_DROPPED => Corrected::Dropped,
-        Correction::BYTE_SET => Corrected::ByteSet,
+        Correction::FIELD => Corrected::Field(place),
+        Correction::DROPPED => Corrected::Dropped,
+        Correction::SET => Corrected::ByteSet,
         _ => Corrected::Index(before.cmp(&after), before == 0 || after == 0),
     }
 }

@@ -32,6 +32,8 @@ pub const HEADER: &str = "include/pciv.h";
 pub const RATTLE: &str = "crates/pciv_c/src";
 /// The Rattle source of its structs and numbers.
 pub const RATTLE_FORMAT: &str = "crates/pciv_format/src/lib.rt";
+/// The folder of the Rattle source of the numbers in a list of corrections.
+pub const RATTLE_REPAIR: &str = "crates/pciv_repair/src";
 /// The folder of the Rust crate's source.
 pub const RUST: &str = "rust/pciv/src";
 /// The file that names the version.
@@ -71,8 +73,10 @@ pub fn compare(root: &Path, libraries: &[String]) -> Result<usize, Vec<String>> 
             compare(RATTLE_FORMAT, &rattle_structs);
         }
     }
-    let numbers = read_numbers(&format);
-    faults.extend(header.compare_numbers((RATTLE_FORMAT, &numbers)));
+    let repair = read_folder(root, RATTLE_REPAIR, "rt").map_err(failure)?;
+    let numbers = read_numbers(&(format + &repair));
+    let place = format!("{RATTLE_FORMAT} or {RATTLE_REPAIR}");
+    faults.extend(header.compare_numbers((&place, &numbers)));
     faults.extend(header.compare_numbers((RUST, &read_numbers(&crate_text))));
     let refusals = header.refusals.iter().map(String::as_str);
     let (in_c, in_rust) = (read_c_texts(&text), read_rust_texts(&crate_text));

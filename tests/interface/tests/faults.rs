@@ -236,28 +236,30 @@ fn another_number_or_field_is_told() {
     }
 }
 
-/// An enum beside that of the refusals has numbers, and no words.
+/// The kinds of corrections are numbers without words, and have shorter names elsewhere.
 #[test]
 fn another_kind_is_told() {
-    let rust = "impl Correction { pub const BYTE_SET: u64 = 3; pub const INDEX_REBUILT: u64 = 4; }";
+    let rust = "impl Correction { pub const SET: u64 = 3; pub const INDEX: u64 = 4; }";
     let numbers = read_numbers(rust);
-    let text = "enum pciv_correction_kind { PCIV_BYTE_SET = 3, PCIV_INDEX_REBUILT = 4 };";
+    let text = "enum pciv_correction_kind { PCIV_CORRECTION_SET = 3, PCIV_CORRECTION_INDEX = 4 };";
     assert!(header(text).compare_numbers(("rust", &numbers)).is_empty());
     assert!(header(text).refusals.is_empty());
-    for (old, new) in [("= 3", "= 4"), ("BYTE_SET", "BYTES_SET")] {
+    for (old, new) in [
+        ("= 3", "= 4"),
+        ("_SET", "_BYTE"),
+        ("_CORRECTION_SET", "_SET_TO"),
+    ] {
         let faults = header(&text.replace(old, new)).compare_numbers(("rust", &numbers));
         assert_eq!(faults.len(), 1, "{new}: {faults:?}");
     }
-    let kinds = [
-        "FIELD_CORRECTED",
-        "ENTRY_DROPPED",
-        "BYTE_SET",
-        "INDEX_REBUILT",
-    ];
+    assert!(read_header(&text.replace("_kind", "_sort")).is_err());
+
+    let real = header(HEADER);
+    let kinds = ["FIELD", "DROPPED", "SET", "INDEX"];
     for (number, kind) in (1..).zip(kinds) {
-        let name = format!("PCIV_{kind}");
-        assert_eq!(header(HEADER).numbers.get(&name), Some(&number), "{name}");
-        assert!(!header(HEADER).refusals.contains(&kind.to_string()));
+        let named = &real.numbers[&format!("PCIV_CORRECTION_{kind}")];
+        assert_eq!((named.number, &named.elsewhere[..]), (number, kind));
+        assert!(!real.refusals.contains(&kind.to_string()));
     }
 }
 
