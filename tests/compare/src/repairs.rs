@@ -2,7 +2,7 @@
 //! overflow entries dropped about the numbers where the sparse index changes, and any bytes.
 
 use crate::call::{capacities, summary_of, told, Answer, Call};
-use crate::corrections::lines_of;
+use crate::corrections::corrected;
 use crate::damage::{self, ends_and_middle, le64, Damage};
 use crate::files::encode;
 use crate::judge::Judge;
@@ -59,7 +59,8 @@ impl Subject for Repair {
             compare_call(judge, &mut file, (*n, *k), pair);
         }
         if let Ok(Wanted { out, lines, .. }) = &wanted {
-            judge.corrections.extend(lines_of(lines));
+            let met = corrected(file.original(), (*n, *k), lines);
+            judge.corrections.extend(met);
             compare_from_rust(judge, &mut file, (*n, *k), (out.len(), lines.len()));
         }
         if let Ok(Wanted { summary, out, .. }) = &wanted {
