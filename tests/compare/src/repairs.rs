@@ -28,7 +28,7 @@ pub fn run_all(run: &mut Run) {
 }
 
 /// A file and the counts that are given for it.
-pub struct Repair {
+struct Repair {
     what: String,
     file: Vec<u8>,
     n: u64,
@@ -36,7 +36,7 @@ pub struct Repair {
 }
 
 impl Repair {
-    pub fn new(what: impl Into<String>, file: Vec<u8>, n: u64, k: u64) -> Repair {
+    fn new(what: impl Into<String>, file: Vec<u8>, n: u64, k: u64) -> Repair {
         let what = what.into();
         Repair { what, file, n, k }
     }
@@ -58,13 +58,16 @@ impl Subject for Repair {
         for pair in pairs(rng, &wanted, *n) {
             compare_call(judge, &mut file, (*n, *k), pair);
         }
-        if let Ok(Wanted { out, lines, .. }) = &wanted {
-            let met = corrected(file.original(), (*n, *k), lines);
+        if let Ok(wanted) = wanted {
+            let Wanted {
+                summary,
+                out,
+                lines,
+            } = wanted;
+            let met = corrected(file.original(), (*n, *k), &lines);
             judge.corrections.extend(met);
             compare_from_rust(judge, &mut file, (*n, *k), (out.len(), lines.len()));
-        }
-        if let Ok(Wanted { summary, out, .. }) = &wanted {
-            compare_result(judge, rng, summary, out);
+            compare_result(judge, rng, &summary, &out);
         }
     }
 }
@@ -188,7 +191,7 @@ fn compare_from_rust(
 }
 
 /// A line in the library's type.
-pub fn correction_of([kind, place, before, after]: [u64; CORRECTION_LEN]) -> Correction {
+fn correction_of([kind, place, before, after]: [u64; CORRECTION_LEN]) -> Correction {
     Correction {
         kind,
         place,
@@ -197,8 +200,8 @@ pub fn correction_of([kind, place, before, after]: [u64; CORRECTION_LEN]) -> Cor
     }
 }
 
-/// A result is checked and read, and repaired again with its own counts, which gives itself and no
-/// lines. What the library gave was compared before.
+/// A result, which is what the library gave, is checked and read, and repaired again with its own
+/// counts, which gives itself and no lines.
 fn compare_result(judge: &mut Judge, rng: &mut Rng, summary: &Summary, out: &[u8]) {
     let checked = reference::check(out).map(summary_of);
     judge.same(
@@ -220,19 +223,19 @@ fn compare_result(judge: &mut Judge, rng: &mut Rng, summary: &Summary, out: &[u8
             Ok((*summary, 0))
         },
         |again, corrections, (summary, count), refusal| {
-            let (file, n, k) = (file.contents(), checked_n(out), checked_k(out));
+            let (file, n, k) = (file.contents(), slots_of(out), entries_of(out));
             raw::repair(file, n, k, again, corrections, summary, count, refusal)
         },
     );
     file.settle(judge, &call, "the file");
 }
 
-/// The counts that the header of a result has.
-fn checked_n(file: &[u8]) -> u64 {
+/// The counts that the header of a sound file has.
+fn slots_of(file: &[u8]) -> u64 {
     le64(&file[8..])
 }
 
-fn checked_k(file: &[u8]) -> u64 {
+fn entries_of(file: &[u8]) -> u64 {
     le64(&file[16..])
 }
 
@@ -260,7 +263,7 @@ fn sound_files(run: &mut Run) {
 /// A sound file with its own counts.
 fn sound(what: &str, list: Vec<u32>) -> Repair {
     let file = encode(&list);
-    let (n, k) = (checked_n(&file), checked_k(&file));
+    let (n, k) = (slots_of(&file), entries_of(&file));
     Repair::new(what, file, n, k)
 }
 
@@ -311,8 +314,8 @@ fn damaged(base: &[u8], faults: &[Damage]) -> Repair {
     Repair::new(
         format!("{faults:?}"),
         file,
-        checked_n(base),
-        checked_k(base),
+        slots_of(base),
+        entries_of(base),
     )
 }
 
