@@ -100,6 +100,7 @@ pub const ROUTINES: &[Routine] = &[
     ("pciv_write", &[COUNT_LARGE, NARROW, SLOTS, SUM]),
     ("pciv_close", &[COUNT, COPY, SUM]),
     ("pciv_close_entries", &[COUNT, COPY, SUM]),
+    ("pciv_repair", &[COUNT, COPY, MINIMUM, SUM]),
     ("pciv_minimum", &[COUNT, COUNT_MINIMUM, MINIMUM, SUM]),
     ("pciv_maximum", &[COUNT, COUNT_MINIMUM, MAXIMUM, SUM]),
     ("pciv_sum_maps", &[COUNT, COUNT_SUMS, ADD, SLOTS, SUM]),
