@@ -2,7 +2,7 @@
 --   dropped-count, set-count    the entries dropped, and the bytes set
 --   lines-total, lines-count, lines-few    all changes, kind by kind; how many they are at most
 --   fields-same                 changes of header fields, by any bytes that begin with the rebuilt header
---   header-begins, file-begins  such bytes: the header alone, and the rebuilt file with more behind it
+--   Begins g, header-begins, file-begins    such bytes: the header alone, and the rebuilt file with more behind it
 --   wasSet-is                   a byte was set where it is 255 no more
 --   set-none                    no byte is set where each byte 255 has a kept entry
 --   rebuilt-long                the rebuilt file has all primary bytes
@@ -21,9 +21,9 @@ use mathlib.Core.List.{List, [], _∷_, _++_, map, append-assoc, append-nil}
 use lib.ListN.{length, getD, drop, length-append, length-map, List·getD-append}
 use lib.Seq.{sets}
 use lib.Dec.{eqb}
-use borrow.Author.Tests.{lt-ltb, le-ltb, eq-eqb}
-use Rattle.pciv_bytes.specs.Ranges.{flag, positions, sumFrom}
-use Rattle.pciv_bytes.specs.LittleEndian.{get, Bytes}
+use borrow.Author.Tests.{lt-ltb, le-ltb}
+use Rattle.pciv_bytes.specs.Ranges.{flag, positions}
+use Rattle.pciv_bytes.specs.LittleEndian.{Bytes}
 use Rattle.pciv_bytes.specs.ByteAt.{byteAt}
 use Rattle.pciv_bytes.proofs.RangesLaws.{flag-not, flag-le}
 use Rattle.pciv_bytes.proofs.PositionsLaws.{positions-at, positions-count, positions-cong}

@@ -3,7 +3,7 @@
 --   Done, done-repair what is known of a repair that is done
 --   Ends              a repair answers a, and leaves this output and this list
 --   ends-many, -counts, -short, -unlisted    the refusals 3, 4 and 5, and 12 for the list
---   ends-refused, -done    else as writing the file ends
+--   ends-refused, -done    else as writing the file ends; stands  the rebuilt file then stands at the front of the output
 -- Axioms: none.
 use mathlib.Core.Path.{_≡_, refl, sym, ap, _∙_}
 use Prim.Native.Nat.{ℕ, _+_, _*_, _≤_, _<_}

@@ -2,7 +2,7 @@
 use mathlib.Core.Path.{_≡_, refl}
 use Prim.Native.Nat.{ℕ, _+_}
 use mathlib.Core.List.{List, [], _∷_, _++_}
-use lib.ListN.{length, drop, take, set}
+use lib.ListN.{drop, take, set}
 use Rattle.pciv_bytes.specs.Ranges.{firstFrom, firstBelow, table, positions, joined, sumFrom}
 use Rattle.pciv_bytes.specs.LittleEndian.{le, number, get}
 use Rattle.pciv_format.specs.Layout.{indexStep, indexLen, fileLen, primary, overflowSlots, overflowCount, overflowEntry}

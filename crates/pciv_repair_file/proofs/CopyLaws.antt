@@ -1,9 +1,9 @@
 -- Where all entries are kept, their bytes are those that stand in the file.
---   all-kept       every entry is kept where as many are kept as there are
+--   all-kept       every entry is kept where as many are kept as there are; kept-same  each then has its own number
 --   entry-bytes    an entry as bytes
 --   kept-copy      the bytes of the kept entries
 -- Axioms: none.
-use mathlib.Core.Path.{_≡_, refl, sym, ap, ap₂, _∙_}
+use mathlib.Core.Path.{_≡_, refl, sym, ap, _∙_}
 use Prim.Native.Nat.{ℕ, zero, suc, _+_, _*_, _≤_, _<_}
 use native.Mathlib.Nat.{zero-add}
 use native.Mathlib.Numerals.{add-one}
@@ -14,7 +14,7 @@ use mathlib.Core.List.{List, _++_}
 use lib.ListN.{length, take, drop, length-append}
 use lib.Seq.{drop-drop}
 use Rattle.pciv_bytes.specs.Ranges.{table, positions, keepIf, joined}
-use Rattle.pciv_bytes.specs.LittleEndian.{le, get, Bytes}
+use Rattle.pciv_bytes.specs.LittleEndian.{le, Bytes}
 use Rattle.pciv_bytes.proofs.RangesLaws.{length-table, getD-table}
 use Rattle.pciv_bytes.proofs.PositionsLaws.{positions-count}
 use Rattle.pciv_bytes.proofs.JoinedLaws.{joined-is}

@@ -1,6 +1,6 @@
 -- The bytes behind the given entries, compared with the sparse index of the kept ones, index entry by index entry.
 --   kept-small            the kept entries are few enough
---   length-rebuilt        the length of that index
+--   length-after, length-rebuilt    how many bytes there are, and the length of that index
 --   RightIndex            index entry i there is that of the kept entries
 --   index-same, -read     where all are so, the bytes are the index, and back
 --   index-space           where an index entry lies
@@ -23,7 +23,7 @@ use lib.ListN.{length, getD, take, drop, length-drop}
 use lib.Seq.{drop-drop, drop-at, take-all}
 use Rattle.pciv_bytes.specs.Ranges.{table, joined}
 use Rattle.pciv_bytes.specs.LittleEndian.{le, get, Bytes}
-use Rattle.pciv_bytes.proofs.RangesLaws.{true-false, length-table, getD-table}
+use Rattle.pciv_bytes.proofs.RangesLaws.{length-table, getD-table}
 use Rattle.pciv_bytes.proofs.JoinedLaws.{joined-is, joined-piece}
 use Rattle.pciv_bytes.proofs.LittleEndianLaws.{length-le, get-at, get-lt}
 use Rattle.pciv_format.specs.Layout.{maxSlots, at, overflowSlots, overflowCount, indexStep, indexLen, indexEntry, indexPart}
@@ -76,6 +76,9 @@ module _ (b : List ℕ) (n k : ℕ) (bytes : Bytes b) (given : PartsGiven b n k)
 
   pub kept-small : length (keptEntries (fileParts b n k)) ≤ maxSlots
   kept-small = omega (arith, keptCount-all parts, keptCount-le parts k, given .few, given .small)
+
+  pub length-after : length (bytesAfter b n k) ≡ length b - (40 + n + 12 * k)
+  length-after = simp length-drop refl
 
   slots-count : length slots ≡ kept
   unfolding overflowCount

@@ -15,7 +15,6 @@
 use mathlib.Core.Path.{_≡_, refl, sym, ap, _∙_}
 use Prim.Native.Nat.{ℕ, zero, suc, _+_, _-_, _≤_, _<_}
 use native.Mathlib.Nat.{add-zero}
-use native.Mathlib.Numerals.{add-one}
 use native.Mathlib.Omega.{arith}
 use native.Mathlib.Decide.{decLe}
 use mathlib.Core.Bool.{Bool, true, false, not, cond}
@@ -23,10 +22,10 @@ use mathlib.Core.List.{List, _∷_, _++_}
 use lib.ListN.{length, getD, length-append}
 use lib.Seq.{getD-append-add}
 use lib.Dec.{ltb, eqb}
-use borrow.Author.Tests.{lt-ltb, le-ltb, eq-eqb, ne-eqb, eqb-true, eqb-false, not-true}
+use borrow.Author.Tests.{lt-ltb, le-ltb, eq-eqb, eqb-true, eqb-false, not-true}
 use Rattle.pciv_bytes.specs.Ranges.{positions, keepIf}
 use Rattle.pciv_bytes.proofs.RangesLaws.{true-false}
-use Rattle.pciv_bytes.proofs.PositionsLaws.{positions-at, positions-rise, positions-all, positions-around}
+use Rattle.pciv_bytes.proofs.PositionsLaws.{positions-at, positions-rise, positions-around}
 use Rattle.pciv_format.specs.Layout.{at}
 use Rattle.pciv_format.specs.Parts.{Parts, lowestSlot, entryOf, badSlot, EntriesRight, SoundParts}
 use Rattle.pciv_format.proofs.PartsLaws.{RightEntry, rightEntry-of-test, badEntry-good, entry-at}

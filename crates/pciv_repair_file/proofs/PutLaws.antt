@@ -2,9 +2,8 @@
 --   Putting            of the entries below j those kept are written, the next one goes to `place`
 --   putting-start, -skip, -more, -end    before the first entry; past one that is dropped, and one that is kept; all
 --   putting-room       there is space for a kept entry
---   all-kept, kept-copy    where all k are kept, their bytes are those of the entries as they stand
 -- Axioms: none.
-use mathlib.Core.Path.{_≡_, refl, sym, ap, ap₂, _∙_}
+use mathlib.Core.Path.{_≡_, sym, ap, ap₂, _∙_}
 use Prim.Native.Nat.{ℕ, _+_, _*_, _≤_, _<_}
 use native.Mathlib.Omega.{arith}
 use mathlib.Core.Bool.{true, false}

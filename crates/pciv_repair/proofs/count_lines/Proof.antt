@@ -1,6 +1,6 @@
 -- Proves pciv_repair::count_lines: the fields that differ from the new header, and what the counts tell.
 use mathlib.Core.Path.{_≡_, ap, _∙_}
-use Prim.Native.Nat.{ℕ, _*_, _≤_}
+use Prim.Native.Nat.{_*_, _≤_}
 use native.Mathlib.Omega.{arith}
 use mathlib.Core.Bool.{Bool, not}
 use lib.ListN.{length}

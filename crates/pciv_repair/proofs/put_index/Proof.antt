@@ -1,16 +1,16 @@
 -- Proves pciv_repair::put_index: no line, or the one with both lengths.
-use mathlib.Core.Path.{_≡_, refl, sym, ap, ap₂, _∙_}
-use Prim.Native.Nat.{ℕ, _+_, _-_, _*_, _≤_}
+use mathlib.Core.Path.{_≡_, sym, ap, ap₂, _∙_}
+use Prim.Native.Nat.{ℕ, _*_, _≤_}
 use native.Mathlib.Omega.{arith}
 use mathlib.Core.List.{[], _∷_}
-use lib.ListN.{length, length-drop}
+use lib.ListN.{length}
 use lib.Seq.{sets}
 use Rattle.pciv_bytes.specs.LittleEndian.{Bytes}
 use Rattle.pciv_format.specs.Layout.{maxSlots, indexLen}
 use Rattle.pciv_format.proofs.LayoutLaws.{indexLen-le, indexStep-le}
 use Rattle.pciv_repair_file.specs.Repaired.{bytesAfter, rebuiltIndex}
 use Rattle.pciv_repair.specs.Repair.{indexLines, numbersOf}
-use Rattle.pciv_repair_file.proofs.IndexLaws.{kept-small, length-rebuilt}
+use Rattle.pciv_repair_file.proofs.IndexLaws.{kept-small, length-after, length-rebuilt}
 use Rattle.pciv_repair.proofs.CountLaws.{index-none, index-one, no-numbers, one-number}
 use borrow.Author.Needs.{needs}
 use Rattle.pciv_repair.proofs.put_index.Statement.{statement}
@@ -21,12 +21,6 @@ bytes q i = q .shared-slice-known .given i .fits
 
 small : (q : tie.After-shared-slice-known) → q .before .args .kept ≤ maxSlots
 small q = omega (arith, q .before .pre .1 .0, kept-small _ _ _ (bytes q) (q .before .pre .0))
-
--- how many bytes stand behind the entries
-behind : (q : tie.After-shared-slice-known)
-    → (let a = q .before .args in
-    length (bytesAfter (a .file .now) (a .n) (a .k)) ≡ length (a .file .now) - (40 + a .n + 12 * a .k))
-behind q = simp length-drop refl
 
 -- there is one line
 one : (c : tie.Else1)
@@ -85,7 +79,7 @@ returns-2 c =
     let s = q .before in
     let a = s .args in
     p .put-line .ensures .1
-    ∙ ap₂ (λ (x y : ℕ). sets (a .list .now) (4 * a .line) (4 ∷ 0 ∷ x ∷ y ∷ [])) (sym (behind q))
+    ∙ ap₂ (λ (x y : ℕ). sets (a .list .now) (4 * a .line) (4 ∷ 0 ∷ x ∷ y ∷ [])) (sym (length-after _ _ _ (bytes q) (s .pre .0)))
     (ap (λ (m : ℕ). 16 * m) (i .index-len .ensures ∙ ap indexLen (s .pre .1 .0)) ∙ sym (length-rebuilt _ _ _ (bytes q) (s .pre .0)))
     ∙ ap (sets (a .list .now) (4 * a .line)) (sym (one e .1))
 

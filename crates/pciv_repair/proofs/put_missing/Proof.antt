@@ -1,6 +1,6 @@
 -- Proves pciv_repair::put_missing: no byte is set, or the rebuilt file tells which.
 use mathlib.Core.Path.{_≡_, refl, ap, _∙_}
-use Prim.Native.Nat.{ℕ, _+_, _*_, _≤_}
+use Prim.Native.Nat.{ℕ, _+_, _*_}
 use native.Mathlib.Omega.{arith}
 use mathlib.Core.List.{List, map}
 use lib.ListN.{length, length-map}

@@ -1,6 +1,5 @@
 -- Proves pciv_repair::rebuild: refusal 12 for the list, then as writing the file ends.
-use mathlib.Core.Path.{_≡_, sym, ap, _∙_}
-use Prim.Native.Nat.{ℕ, _*_, _≤_}
+use Prim.Native.Nat.{_*_, _≤_}
 use native.Mathlib.Omega.{arith}
 use lib.ListN.{length}
 use Rattle.pciv_bytes.specs.LittleEndian.{Bytes}

@@ -14,7 +14,6 @@ use Rattle.pciv_repair_file.specs.Repaired.{keptEntries, bytesAfter}
 use Rattle.pciv_repair_file.proofs.IndexLaws.{Comparing, comparing-start, comparing-skip, comparing-pass}
 use Rattle.pciv_repair_file.proofs.IndexLaws.{comparing-take, comparing-right, comparing-wrong, comparing-small}
 use Rattle.pciv_repair_file.proofs.IndexLaws.{comparing-inside, comparing-end, kept-small, index-space}
-use borrow.Author.Needs.{needs}
 use Rattle.pciv_repair_file.proofs.index.same_entries.Statement.{statement}
 use Rattle.pciv_repair_file.proofs.index.same_entries.Tie as tie
 

@@ -1,14 +1,14 @@
 -- Proves pciv_repair_file::index::same_index: another length decides it, else the entries do.
-use mathlib.Core.Path.{_≡_, refl, sym, ap, _∙_}
+use mathlib.Core.Path.{_≡_, sym, ap, _∙_}
 use Prim.Native.Nat.{ℕ, _+_, _-_, _*_, _≤_}
 use native.Mathlib.Omega.{arith}
-use lib.ListN.{length, length-drop}
+use lib.ListN.{length}
 use Rattle.pciv_bytes.specs.LittleEndian.{Bytes}
 use Rattle.pciv_format.specs.Layout.{maxSlots, indexLen}
 use Rattle.pciv_format.specs.Check.{fileParts}
 use Rattle.pciv_format.proofs.LayoutLaws.{indexLen-le, indexStep-le}
 use Rattle.pciv_repair_file.specs.Repaired.{keptEntries, bytesAfter}
-use Rattle.pciv_repair_file.proofs.IndexLaws.{kept-small, index-other}
+use Rattle.pciv_repair_file.proofs.IndexLaws.{kept-small, length-after, index-other}
 use borrow.Author.Needs.{needs}
 use Rattle.pciv_repair_file.proofs.index.same_index.Statement.{statement}
 use Rattle.pciv_repair_file.proofs.index.same_index.Tie as tie
@@ -23,7 +23,7 @@ small q = omega (arith, q .before .pre .1, kept-small _ _ _ (bytes q) (q .before
 behind : (q : tie.After-shared-slice-known)
     → (let a = q .before .args in
     length (bytesAfter (a .file .now) (a .n) (a .k)) ≡ length (a .file .now) - (40 + a .n + 12 * a .k))
-behind q = simp length-drop refl
+behind q = length-after _ _ _ (bytes q) (q .before .pre .0)
 
 len-is : (c : tie.After-index-len)
     → (let a = c .before .before .args in

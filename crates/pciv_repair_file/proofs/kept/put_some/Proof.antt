@@ -1,6 +1,6 @@
 -- Proves pciv_repair_file::kept::put_some. Invariant: the entries below j are judged, and those kept are written.
 -- Falls: k - j.
-use mathlib.Core.Path.{_≡_, sym, ap, ap₂, _∙_}
+use mathlib.Core.Path.{_≡_, ap₂, _∙_}
 use Prim.Native.Nat.{ℕ, _+_, _-_, _*_, _≤_}
 use native.Mathlib.Omega.{arith}
 use mathlib.Core.Bool.{true}
