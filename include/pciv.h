@@ -495,7 +495,7 @@ enum pciv_correction_kind {
                                     before and after: its number, of 4 bytes at 0 and 4, else of 8 */
     PCIV_CORRECTION_DROPPED = 2, /* an overflow entry is dropped; place: its number among those
                                     given, from 0; before: its slot; after: 0 */
-    PCIV_CORRECTION_SET = 3,     /* a primary byte 255 without an overflow entry is set; place: its
+    PCIV_CORRECTION_SET = 3,     /* a primary byte 255 that no entry is left for is set; place: its
                                     slot; before: 255; after: 254 */
     PCIV_CORRECTION_INDEX = 4    /* the bytes behind the overflow entries given were not the sparse
                                     index; place: 0; before and after: how many there were, and are */
@@ -517,8 +517,8 @@ typedef struct {
 
 /* Repairs a file of n slots and k overflow entries. Of the file the primary array, which are the n
    bytes from byte 40 on, and the k overflow entries behind it are believed, and nothing else. Dropped
-   are the entries that refusal 6 is about, each judged in its order beside the last one kept: its slot
-   is n or more or not above that one's, its distance is below 255, or the primary byte of its slot is
+   are the entries that refusal 6 is about, judged in file order against the last one kept: the slot is
+   n or more or not above that one's, the distance is below 255, or the primary byte of the slot is
    not 255. A primary byte 255 that no entry is left for becomes 254. Header and sparse index are made
    anew. A sound file with its own n and k gives itself and no lines; pciv_check accepts every result.
    Refusals: 3 with map 1 where n is above 1,048,576; 4 with map 1 where k is above n; 5 with map 1

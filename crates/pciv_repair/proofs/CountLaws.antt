@@ -39,10 +39,10 @@ use Rattle.pciv_format.proofs.PartsLaws.{primaryByte-full}
 use Rattle.pciv_format.proofs.FileLaws.{file-byte}
 use Rattle.pciv_build.proofs.EntriesLaws.{count-sum, overflowCount-sum}
 use Rattle.pciv_repair_file.specs.Repaired.{isKept, keptEntries, isSet, repairedParts, repairedAt, repairedFile}
-use Rattle.pciv_repair_file.specs.Repaired.{fullBytes, bytesAfter, rebuiltIndex, same, PartsGiven}
+use Rattle.pciv_repair_file.specs.Repaired.{fullCount, bytesAfter, rebuiltIndex, same, PartsGiven}
 use Rattle.pciv_repair_file.proofs.KeptLaws.{set-full, kept-byte}
 use Rattle.pciv_repair_file.proofs.RepairedLaws.{repaired-count, repaired-le}
-use Rattle.pciv_repair_file.proofs.WalkLaws.{keptCount-all, fullBytes-is}
+use Rattle.pciv_repair_file.proofs.WalkLaws.{keptCount-all, fullCount-is}
 use Rattle.pciv_repair.specs.Repair.{fieldAt, fieldOf, otherField, Correction, correction, fieldLine, wasSet}
 use Rattle.pciv_repair.specs.Repair.{setLine, indexLine}
 use Rattle.pciv_repair.specs.Repair.{fieldLines, droppedLines, setLines, indexLines, corrections, numbersOf}
@@ -141,13 +141,13 @@ module _ (b : List ℕ) (n k : ℕ) (bytes : Bytes b) (given : PartsGiven b n k)
       go false e =
           ap₂ (λ (t : Bool) (x : ℕ). flag t + flag (eqb x 255)) e (kept-byte parts i e) ∙ zero-add (flag (eqb (parts .byte i) 255))
 
-  pub set-count : length (positions (isSet (fileParts b n k)) 0 n) + length (keptEntries (fileParts b n k)) ≡ fullBytes b n
+  pub set-count : length (positions (isSet (fileParts b n k)) 0 n) + length (keptEntries (fileParts b n k)) ≡ fullCount b n
   set-count =
       rw (
         count-sum (isSet parts) n 0,
         ← (repaired-count b n k bytes),
         overflowCount-sum n (repairedAt b n k),
-        fullBytes-is b n k,
+        fullCount-is b n k,
       )
       (sumFrom-plus (λ (i : ℕ). flag (isSet parts i)) (λ (i : ℕ). flag (inOverflow (repairedAt b n k i)))
       (λ (i : ℕ). flag (eqb (parts .byte i) 255)) 0 n (λ i h₁ h₂. full-or-set i (omega arith)))
@@ -256,7 +256,7 @@ module _ (b : List ℕ) (n k : ℕ) (bytes : Bytes b) (given : PartsGiven b n k)
           ∙ sym e
 
   -- none is set
-  pub set-none : fullBytes b n ≤ length (keptEntries (fileParts b n k)) → setLines b n k ≡ []
+  pub set-none : fullCount b n ≤ length (keptEntries (fileParts b n k)) → setLines b n k ≡ []
   set-none few = ap (map setLine) (nothing (positions (isSet parts) 0 n) (omega (arith, few, set-count)))
     where
       nothing : (l : List ℕ) → length l ≡ 0 → l ≡ []

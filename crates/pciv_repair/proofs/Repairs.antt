@@ -1,6 +1,6 @@
 -- What a repair does, as a whole (docs/FORMAT.md, "Repair"). That its list is complete, true and in order is in
 -- CompleteLaws.antt and TrueLaws.antt.
---   RepairKept b n k, repair-kept    the distance of each slot of the rebuilt file
+--   RepairKept b n k, repair-kept    which entries are kept, and the distance of each slot of the rebuilt file
 --   repair-accepted       every output passes the check, with the summary that is answered
 --   repair-sound          a sound file with its true counts stays, and nothing is listed
 --   repair-nothing-iff    nothing is listed exactly for a sound file with its true counts
@@ -24,10 +24,11 @@ use Rattle.pciv_format.specs.declared.Summary.{Summary}
 use Rattle.pciv_format.proofs.LayoutLaws.{fileLen-is, length-file, overflowCount-le, overflowCount-cong}
 use Rattle.pciv_format.proofs.LayoutLaws.{file-cong, summary-cong}
 use Rattle.pciv_format.proofs.FileLaws.{file-checked, file-value}
-use Rattle.pciv_format.proofs.Acceptance.{file-table-read, accepted-is-file}
+use Rattle.pciv_format.proofs.Acceptance.{file-table, summary-table, table-limits, accepted-is-file}
+use Rattle.pciv_format.proofs.ListLaws.{ReadAs, front-read}
 use Rattle.pciv_repair_file.specs.Repaired.{isKept, repairedAt, repairedFile, bytesAfter, rebuiltIndex, PartsGiven}
 use Rattle.pciv_repair_file.proofs.RepairedLaws.{repairedAt-is, repaired-count, repaired-le}
-use Rattle.pciv_repair_file.proofs.WholeLaws.{kept-rise, value-inline, value-kept, value-free}
+use Rattle.pciv_repair_file.proofs.WholeLaws.{MayStay, kept-iff, kept-rise, value-inline, value-kept, value-free}
 use Rattle.pciv_repair_file.proofs.WholeLaws.{right-all, sound-set, sound-value}
 use Rattle.pciv_repair.specs.Applied.{entriesLeft, applied}
 use Rattle.pciv_repair.specs.Repair.{Correction, corrections, repairOutcome, repairBuffer, repairList, numbersOf}
@@ -41,9 +42,11 @@ use Rattle.pciv_repair.proofs.CompleteLaws.{left-kept, corrections-appl
 
 -- ---- what is kept
 
--- the distance of each slot of the rebuilt file: a byte below 255 stays, a kept entry's slot has its distance, and any
--- other slot has 254; the slots of the kept entries rise
+-- an entry is kept exactly where its slot is inside and above those of all entries kept before it, its distance is in
+-- overflow, and the byte at its slot is 255. The distance of each slot of the rebuilt file: a byte below 255 stays, a kept
+-- entry's slot has its distance, and any other slot has 254. The slots of the kept entries rise
 pub record RepairKept (b : List ℕ) (n k : ℕ) : Type 0 where
+  pub judged : (j : ℕ) → (isKept (fileParts b n k) j ≡ true) ↔ MayStay (fileParts b n k) j
   pub inline : (i : ℕ) → i < n → byteAt b (40 + i) < 255 → repairedAt b n k i ≡ byteAt b (40 + i)
   pub kept : (j : ℕ) → j < k → isKept (fileParts b n k) j ≡ true
       → repairedAt b n k (fileParts b n k .slot j) ≡ fileParts b n k .distance j
@@ -53,10 +56,11 @@ pub record RepairKept (b : List ℕ) (n k : ℕ) : Type 0 where
   pub rise : (j t : ℕ) → j < t → t < k → isKept (fileParts b n k) j ≡ true → isKept (fileParts b n k) t ≡ true
       → fileParts b n k .slot j < fileParts b n k .slot t
 
-pub repair-kept : (b : List ℕ) (n k : ℕ) → Bytes b → PartsGiven b n k → RepairKept b n k
-repair-kept b n k bytes given =
+pub repair-kept : (b : List ℕ) (n k : ℕ) → RepairKept b n k
+repair-kept b n k =
     let P = fileParts b n k in
     record {
+      judged = kept-iff P;
       inline = λ i h small. repairedAt-is b n k i ∙ value-inline P i small;
       kept = λ j h kept. repairedAt-is b n k (P .slot j) ∙ value-kept P j h kept;
       free = λ i h full none. repairedAt-is b n k i ∙ value-free P i full none;
@@ -65,17 +69,17 @@ repair-kept b n k bytes given =
 
 -- ---- the output passes the check
 
--- with the summary that the repair answers, and it is read as the distances of the rebuilt file
-pub repair-accepted : (b : List ℕ) (n k capacity room : ℕ) (s : Repaired) → Bytes b
-    → repairOutcome b n k capacity room ≡ done s
-    → ((mp : ℕ) → checkFile mp (repairedFile b n k) ≡ done (s .summary))
-    × (listOf (repairedFile b n k) ≡ table (repairedAt b n k) 0 n)
-repair-accepted b n k capacity room s bytes e =
-    let d = done-repair b n k capacity room s e in
-    let v : ℕ → ℕ = repairedAt b n k in (
-      λ mp. rebuilt-accepted b n k bytes (d .given) mp ∙ ap (λ (r : Repaired). done (r .summary)) (sym (d .is)),
-      file-table-read n v (d .given .small) (repaired-le b n k bytes),
-    )
+-- what stands at the front of the output, as long as the answer says, is accepted with the summary that the repair
+-- answers, and is read as the distances of the rebuilt file
+pub repair-accepted : (b : List ℕ) (n k : ℕ) (out list : List ℕ) (s : Repaired) → Bytes b
+    → repairOutcome b n k (length out) (length list) ≡ done s
+    → ReadAs (repairBuffer b n k (length list) out) (s .summary) (table (repairedAt b n k) 0 n)
+unfolding repairBuffer
+repair-accepted b n k out list s bytes e =
+    let d = done-repair b n k (length out) (length list) s e in
+    let v : ℕ → ℕ = repairedAt b n k in
+    rw (e, d .is, file-table n v, summary-table n v)
+    (front-read (table v 0 n) _ (table-limits n v (d .given .small) (repaired-le b n k bytes)))
 
 -- ---- a sound file stays
 

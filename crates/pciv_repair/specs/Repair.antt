@@ -1,9 +1,10 @@
 -- What a repair answers and lists (docs/FORMAT.md, "Repair"). b are the bytes of a file, with n and k as the caller
 -- gives them.
 --   fieldAt i, fieldOf b i    the offset of header field i, of six, and its number in b
---   Correction                a change: its kind, its place, the number before and after it
+--   Correction                a change: its kind, its place, the number before and after it, by `correction`
 --   fieldLine, droppedLine, setLine, indexLine    a change of each kind
---   otherField, wasSet        header field i, or the byte of slot i, is another one in the file f; 255 before
+--   otherField b f i          header field i is another one in the file f than in b
+--   wasSet b f i              the byte of slot i is 255 in b and not in f
 --   fieldLines, droppedLines, setLines, indexLines    all changes of each kind, by rising place
 --   corrections b n k         all changes
 --   numbersOf cs              changes as numbers, four each

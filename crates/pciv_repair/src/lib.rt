@@ -9,7 +9,7 @@ ghost use lib.ListN.{length, drop};
 ghost use lib.Seq.{sets};
 ghost use Rattle.pciv_format.specs.Refusals.{refuse};
 ghost use Rattle.pciv_format.specs.Check.{fileParts};
-ghost use Rattle.pciv_repair_file.specs.Repaired.{keptEntries, fullBytes, repairedFile, bytesAfter, rebuiltIndex, same};
+ghost use Rattle.pciv_repair_file.specs.Repaired.{keptEntries, fullCount, repairedFile, bytesAfter, rebuiltIndex, same};
 ghost use Rattle.pciv_repair_file.specs.Repaired.{PartsGiven};
 ghost use Rattle.pciv_repair.specs.Repair.{setLines, indexLines, corrections, numbersOf, repairOutcome};
 ghost use Rattle.pciv_repair.specs.Repair.{repairBuffer, repairList, repairAnswer};
@@ -60,7 +60,7 @@ fn refuse_repair(number: usize, map: usize, place: usize) -> RepairAnswer
 // behind the entries are the index.
 fn count_lines(file: &[u8], n: usize, k: usize, kept: usize, full: usize, indexed: bool) -> usize
     requires { ⌜ PartsGiven (now file) n k ⌝ }
-    requires { ⌜ (kept ≡ length (keptEntries (fileParts (now file) n k))) × (full ≡ fullBytes (now file) n) ⌝ }
+    requires { ⌜ (kept ≡ length (keptEntries (fileParts (now file) n k))) × (full ≡ fullCount (now file) n) ⌝ }
     requires { ⌜ indexed ≡ same (bytesAfter (now file) n k) (rebuiltIndex (now file) n k) ⌝ }
     ensures { λ r. ⌜ r ≡ length (corrections (now (file .entry)) n k) ⌝ }
 {
@@ -82,7 +82,7 @@ fn put_missing(
     from: usize,
 ) -> usize
     requires { ⌜ PartsGiven (now file) n k ⌝ }
-    requires { ⌜ (kept ≡ length (keptEntries (fileParts (now file) n k))) × (full ≡ fullBytes (now file) n) ⌝ }
+    requires { ⌜ (kept ≡ length (keptEntries (fileParts (now file) n k))) × (full ≡ fullCount (now file) n) ⌝ }
     requires { ⌜ now new ≡ repairedFile (now file) n k ++ drop (length (repairedFile (now file) n k)) (now new) ⌝ }
     requires { ⌜ 4 * (from + length (setLines (now file) n k)) ≤ length (now list) ⌝ }
     ensures next { λ r. ⌜ r ≡ from + length (setLines (now (file .entry)) n k) ⌝ }
@@ -138,7 +138,7 @@ fn put_lines(
     list: &mut [usize],
 )
     requires { ⌜ PartsGiven (now file) n k ⌝ }
-    requires { ⌜ (kept ≡ length (keptEntries (fileParts (now file) n k))) × (full ≡ fullBytes (now file) n) ⌝ }
+    requires { ⌜ (kept ≡ length (keptEntries (fileParts (now file) n k))) × (full ≡ fullCount (now file) n) ⌝ }
     requires { ⌜ indexed ≡ same (bytesAfter (now file) n k) (rebuiltIndex (now file) n k) ⌝ }
     requires { ⌜ now new ≡ repairedFile (now file) n k ++ drop (length (repairedFile (now file) n k)) (now new) ⌝ }
     requires { ⌜ 4 * length (corrections (now file) n k) ≤ length (now list) ⌝ }

@@ -1,6 +1,7 @@
 -- The entries that a repair keeps, and the bytes that it sets.
 --   lowestKept-next         the least slot that the entry after entry j may have
 --   KeptEntry P j, kept-entry, dropped-next    what is known of an entry that is kept, and of one that is not
+--   step-cases              an entry is one or the other
 --   isKept-next             an entry is kept where that least slot goes up
 --   lowest-rises, lowest-le it never goes down, and is n at most
 --   kept-below              a kept entry's slot is below it from then on
@@ -68,7 +69,7 @@ module _ (P : Parts) where
       go true e = refl
       go false e = absurd (true-false e)
 
-  step-cases : {B : Type 0} (j : ℕ) → (isKept P j ≡ true → KeptEntry j → B)
+  pub step-cases : {B : Type 0} (j : ℕ) → (isKept P j ≡ true → KeptEntry j → B)
       → (isKept P j ≡ false → lowestKept P (suc j) ≡ lowestKept P j → B)
       → B
   step-cases {B} j kept dropped = go (isKept P j) refl

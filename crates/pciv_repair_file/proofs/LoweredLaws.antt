@@ -26,10 +26,10 @@ use Rattle.pciv_format.specs.Check.{fileParts}
 use Rattle.pciv_format.proofs.FullCountLaws.{count-complete}
 use Rattle.pciv_check_parts.proofs.PrimaryPartLaws.{part, length-part, part-at}
 use Rattle.pciv_repair_file.specs.Repaired.{lowestKept, isKept, keptEntries, keptParts, isSet, repairedParts}
-use Rattle.pciv_repair_file.specs.Repaired.{fullBytes}
+use Rattle.pciv_repair_file.specs.Repaired.{fullCount}
 use Rattle.pciv_repair_file.proofs.KeptLaws.{KeptEntry, kept-entry, free-between, free-past, isSet-free, isSet-kept}
 use Rattle.pciv_repair_file.proofs.KeptLaws.{isSet-is, set-byte, kept-byte, kept-right}
-use Rattle.pciv_repair_file.proofs.WalkLaws.{Judged, fullBytes-is}
+use Rattle.pciv_repair_file.proofs.WalkLaws.{Judged, fullCount-is}
 
 abbrev pub lowered : Parts → ℕ → ℕ → ℕ
 lowered P lowest i = cond (ltb i lowest) (repairedParts P .byte i) (min (P .byte i) 254)
@@ -146,12 +146,12 @@ module _ (b : List ℕ) (n k : ℕ) (bytes : Bytes b) (inside : 40 + n ≤ lengt
       ∙ lowered-start parts each-byte n)
 
   -- as it stands, where as many bytes are 255 as entries are kept
-  pub primary-copy : fullBytes b n ≡ length (keptEntries (fileParts b n k))
+  pub primary-copy : fullCount b n ≡ length (keptEntries (fileParts b n k))
       → part b n ≡ table (repairedParts (fileParts b n k) .byte) 0 n
   primary-copy same =
       let none : (i : ℕ) → i < n → isSet parts i ≡ false =
       λ i h. isSet-is parts i
-      ∙ count-complete (keptParts parts) (kept-right parts) (sym (fullBytes-is b n k) ∙ same) i h in
+      ∙ count-complete (keptParts parts) (kept-right parts) (sym (fullCount-is b n k) ∙ same) i h in
       let long : length (part b n) ≡ n = length-part b n k inside in
       ext-getD 0 (part b n) (table (repairedParts parts .byte) 0 n) (long ∙ sym (length-table (repairedParts parts .byte) 0 n))
       (λ i h.

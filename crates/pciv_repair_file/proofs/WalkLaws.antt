@@ -5,7 +5,7 @@
 --   judged-entry, -dropped, -same    what is known of it then, and otherwise
 --   keptCount P j         how many of the entries below j are kept
 --   keptCount-none, -more, -kept, -dropped, -le, -all    before the first entry, and one on; all entries
---   fullBytes-is          how many primary bytes are 255
+--   fullCount-is          how many primary bytes are 255
 -- Axioms: none.
 use mathlib.Core.Path.{_≡_, refl, sym, ap, _∙_}
 use Prim.Native.Nat.{ℕ, _+_, _≤_, _<_}
@@ -22,7 +22,7 @@ use Rattle.pciv_bytes.proofs.PositionsLaws.{positions-append, positions-count}
 use Rattle.pciv_format.specs.Parts.{Parts}
 use Rattle.pciv_format.specs.Check.{fileParts}
 use Rattle.pciv_format.proofs.FullCountLaws.{isFull}
-use Rattle.pciv_repair_file.specs.Repaired.{lowestAfter, lowestKept, isKept, keptEntries, fullBytes}
+use Rattle.pciv_repair_file.specs.Repaired.{lowestAfter, lowestKept, isKept, keptEntries, fullCount}
 use Rattle.pciv_repair_file.proofs.KeptLaws.{lowestKept-next, KeptEntry, kept-entry, dropped-next, isKept-next}
 
 pub record Judged (P : Parts) (j lowest : ℕ) : Type 0 where
@@ -90,6 +90,6 @@ pub keptCount-all : (P : Parts) → length (keptEntries P) ≡ keptCount P (P .k
 unfolding keptEntries
 keptCount-all P = refl
 
-pub fullBytes-is : (b : List ℕ) (n k : ℕ) → fullBytes b n ≡ sumFrom (isFull (fileParts b n k)) 0 n
-unfolding fullBytes
-fullBytes-is b n k = refl
+pub fullCount-is : (b : List ℕ) (n k : ℕ) → fullCount b n ≡ sumFrom (isFull (fileParts b n k)) 0 n
+unfolding fullCount
+fullCount-is b n k = refl

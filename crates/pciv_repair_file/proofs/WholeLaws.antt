@@ -1,6 +1,7 @@
 -- What a repair keeps: the last kept entry, the distance of each slot, and all of it where the parts are sound.
 --   lowestKept-none, -last    the least slot that an entry may have, by the last entry that is kept before it
 --   kept-rise                 the slots of the kept entries rise
+--   MayStay P j, kept-iff     an entry is kept exactly where it is right beside those kept before it
 --   value-inline, -kept, -set, -free    the distance of a slot: its byte, that of its kept entry, or 254
 --   right-all                 where every entry is right, every entry is kept
 --   sound-set, sound-value    where the parts are sound, no byte is set, and each distance stays
@@ -8,6 +9,7 @@
 --   kept-slots                the slots in overflow of the rebuilt file are those of the kept entries
 -- Axioms: none.
 use mathlib.Core.Path.{_≡_, refl, sym, ap, subst, _∙_}
+use mathlib.Core.Logic.{_↔_}
 use Prim.Native.Nat.{ℕ, zero, suc, _+_, _*_, _≤_, _<_}
 use native.Mathlib.Nat.{zero-add}
 use native.Mathlib.Omega.{arith}
@@ -24,12 +26,12 @@ use Rattle.pciv_bytes.proofs.JoinedLaws.{joined-cong}
 use Rattle.pciv_format.specs.Layout.{overflowSlots, at}
 use Rattle.pciv_format.specs.Parts.{Parts, lowestSlot, badEntry, valueOf, EntriesRight, SoundParts}
 use Rattle.pciv_format.specs.Check.{fileParts}
-use Rattle.pciv_format.proofs.PartsLaws.{valueOf-slot, valueOf-inline, slot-cases, slot-entry}
+use Rattle.pciv_format.proofs.PartsLaws.{wrongEntry-right, valueOf-slot, valueOf-inline, slot-cases, slot-entry}
 use Rattle.pciv_format.proofs.CheckedFileLaws.{two-numbers}
 use Rattle.pciv_close.specs.Close.{entriesFrom}
 use Rattle.pciv_repair_file.specs.Repaired.{lowestKept, isKept, keptEntries, isSet, repairedParts, keptBytes}
 use Rattle.pciv_repair_file.specs.Repaired.{repairedAt}
-use Rattle.pciv_repair_file.proofs.KeptLaws.{kept-entry, dropped-next, kept-below, kept-at, kept-number}
+use Rattle.pciv_repair_file.proofs.KeptLaws.{kept-entry, dropped-next, step-cases, kept-below, kept-at, kept-number}
 use Rattle.pciv_repair_file.proofs.KeptLaws.{isSet-inline, isSet-kept, isSet-free, set-byte, kept-byte}
 use Rattle.pciv_repair_file.proofs.KeptLaws.{repaired-sound}
 use Rattle.pciv_repair_file.proofs.RepairedLaws.{repaired-slots}
@@ -57,6 +59,32 @@ module _ (P : Parts) where
 
   pub kept-rise : (j t : ℕ) → j < t → isKept P j ≡ true → isKept P t ≡ true → P .slot j < P .slot t
   kept-rise j t h kept kept' = omega (arith, kept-below P j t kept h, kept-entry P t kept' .right .above)
+
+  -- what an entry has to be: inside, above all that are kept before it, in overflow, and marked
+  abbrev pub MayStay : ℕ → Type 0
+  MayStay j =
+      (P .slot j < P .n)
+      × ((t : ℕ) → t < j → isKept P t ≡ true → P .slot t < P .slot j)
+      × (255 ≤ P .distance j)
+      × (P .byte (P .slot j) ≡ 255)
+
+  -- above all kept entries is above the last of them
+  lowest-below : (j x : ℕ) → ((t : ℕ) → t < j → isKept P t ≡ true → P .slot t < x) → lowestKept P j ≤ x
+  unfolding lowestKept
+  lowest-below zero x above = omega arith
+  lowest-below (suc j) x above =
+      step-cases P j (λ e k. omega (arith, k .next, above j (omega arith) e))
+      (λ e q. omega (arith, q, lowest-below j x (λ t h. above t (omega arith))))
+
+  pub kept-iff : (j : ℕ) → (isKept P j ≡ true) ↔ MayStay j
+  unfolding isKept
+  kept-iff j = (
+    λ e. (let g = kept-entry P j e .right in
+        (g .inside, λ t h kept. kept-rise t j h kept e, g .overflows, g .marked)),
+    λ m. ap not
+        (wrongEntry-right (P .n) (P .byte) (lowestKept P j) (P .slot j) (P .distance j)
+        (record { inside = m .0; above = lowest-below j (P .slot j) (m .1); overflows = m .2; marked = m .3 })),
+  )
 
   -- ---- the distance of each slot
 

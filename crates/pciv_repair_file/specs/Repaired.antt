@@ -7,16 +7,16 @@
 --   keptEntries P          the numbers of the kept entries, rising
 --   keptParts P            P with these entries alone
 --   isSet P i              slot i has byte 255 and no kept entry (refusal 7): its byte is set to 254
---   repairedParts P        the kept entries, and the primary bytes after that
+--   repairedParts P        the kept entries, and the primary bytes with these set
 --   repairedAt b n k i     the distance of slot i in the rebuilt file
 --   repairedFile b n k     that file
---   fullBytes b n          how many primary bytes are 255
+--   fullCount b n          how many primary bytes are 255
 --   keptBytes P            the bytes of the kept entries
 --   bytesAfter b n k       what stands behind the given overflow entries
 --   rebuiltIndex b n k     the sparse index of the rebuilt file
 --   same xs ys             two lists of numbers are the same
 --   PartsGiven b n k       n and k are within their limits, and the parts lie within b
--- Laws are in proofs/KeptLaws.antt. Axioms: none.
+-- Laws are in proofs/KeptLaws.antt, RepairedLaws.antt and WholeLaws.antt. Axioms: none.
 use Prim.Native.Nat.{ℕ, zero, suc, _+_, _*_, _≤_}
 use mathlib.Core.Bool.{Bool, true, false, not, cond, _&&_}
 use mathlib.Core.List.{List, [], _∷_}
@@ -82,8 +82,8 @@ repairedFile b n k = file n (repairedAt b n k)
 
 -- ---- how it is written
 
-unfoldable pub fullBytes : List ℕ → ℕ → ℕ
-fullBytes b n = sumFrom (λ (i : ℕ). flag (eqb (fileParts b n 0 .byte i) 255)) 0 n
+unfoldable pub fullCount : List ℕ → ℕ → ℕ
+fullCount b n = sumFrom (λ (i : ℕ). flag (eqb (fileParts b n 0 .byte i) 255)) 0 n
 
 unfoldable pub keptBytes : Parts → List ℕ
 keptBytes P = entriesFrom (keptParts P .slot) (keptParts P .distance) 0 (length (keptEntries P))

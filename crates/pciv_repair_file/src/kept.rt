@@ -5,7 +5,7 @@ ghost use lib.ListN.{length};
 ghost use lib.Seq.{sets};
 ghost use Rattle.pciv_format.specs.Layout.{maxSlots};
 ghost use Rattle.pciv_format.specs.Check.{fileParts};
-ghost use Rattle.pciv_repair_file.specs.Repaired.{lowestAfter, keptEntries, fullBytes, keptBytes, PartsGiven};
+ghost use Rattle.pciv_repair_file.specs.Repaired.{lowestAfter, keptEntries, fullCount, keptBytes, PartsGiven};
 use pciv_build::put_entry;
 use pciv_bytes::copies::copy_bytes;
 use pciv_bytes::little_endian::get32;
@@ -51,7 +51,7 @@ pub fn count_kept(file: &[u8], n: usize, k: usize) -> usize
 // How many primary bytes are 255.
 pub fn count_full(file: &[u8], n: usize) -> usize
     requires { ⌜ 40 + n ≤ length (now file) ⌝ }
-    ensures { λ r. ⌜ r ≡ fullBytes (now (file .entry)) n ⌝ }
+    ensures { λ r. ⌜ r ≡ fullCount (now (file .entry)) n ⌝ }
 {
     count_byte(&file[HEADER_LEN..HEADER_LEN + n], SENTINEL)
 }

@@ -11,7 +11,7 @@ ghost use Rattle.pciv_bytes.specs.Ranges.{table};
 ghost use Rattle.pciv_format.specs.Refusals.{fileAnswer};
 ghost use Rattle.pciv_format.specs.Check.{fileParts};
 ghost use Rattle.pciv_format.specs.Write.{fileInto, fileBuffer};
-ghost use Rattle.pciv_repair_file.specs.Repaired.{keptEntries, repairedParts, repairedAt, fullBytes, PartsGiven};
+ghost use Rattle.pciv_repair_file.specs.Repaired.{keptEntries, repairedParts, repairedAt, fullCount, PartsGiven};
 use crate::kept::lowest_after;
 use crate::kept::put_kept;
 use pciv_build::begin;
@@ -55,7 +55,7 @@ fn put_lowered(file: &[u8], n: usize, k: usize, out: &mut [u8])
 // The same; where there are as many bytes 255 as kept entries, each has one.
 fn put_primary(file: &[u8], n: usize, k: usize, kept: usize, full: usize, out: &mut [u8])
     requires { ⌜ PartsGiven (now file) n k ⌝ }
-    requires { ⌜ (kept ≡ length (keptEntries (fileParts (now file) n k))) × (full ≡ fullBytes (now file) n) ⌝ }
+    requires { ⌜ (kept ≡ length (keptEntries (fileParts (now file) n k))) × (full ≡ fullCount (now file) n) ⌝ }
     requires { ⌜ 40 + n ≤ length (now out) ⌝ }
     ensures { λ _. ⌜ now (out .exit)
         ≡ sets (now (out .entry)) 40 (table (repairedParts (fileParts (now (file .entry)) n k) .byte) 0 n) ⌝ }
@@ -77,7 +77,7 @@ pub fn put_repaired(
     out: &mut [u8],
 ) -> FileAnswer
     requires { ⌜ PartsGiven (now file) n k ⌝ }
-    requires { ⌜ (kept ≡ length (keptEntries (fileParts (now file) n k))) × (full ≡ fullBytes (now file) n) ⌝ }
+    requires { ⌜ (kept ≡ length (keptEntries (fileParts (now file) n k))) × (full ≡ fullCount (now file) n) ⌝ }
     ensures answer { λ r. ⌜ r ≡ fileAnswer (fileInto n (repairedAt (now (file .entry)) n k) (length (now (out .entry)))) ⌝ }
     ensures buffer { λ _. ⌜ now (out .exit)
         ≡ fileBuffer (fileInto n (repairedAt (now (file .entry)) n k) (length (now (out .entry)))) n

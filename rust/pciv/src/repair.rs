@@ -27,7 +27,7 @@ impl Correction {
     /// An overflow entry: the place is its number among those given, from 0; before is its slot, after is
     /// 0.
     pub const DROPPED: u64 = 2;
-    /// A primary byte 255 without an overflow entry: the place is its slot; before is 255, after is 254.
+    /// A primary byte 255 that no entry is left for: the place is its slot; before is 255, after is 254.
     pub const SET: u64 = 3;
     /// The bytes behind the overflow entries given were not the sparse index: the place is 0, before and
     /// after are how many bytes there were, and are.
@@ -54,7 +54,7 @@ pub const fn most_corrections(n: u64, k: u64) -> usize {
 /// believed, and nothing else. The result goes to the front of `out`, and what was changed to the front
 /// of `corrections`. Answers the result's summary and the number of lines.
 ///
-/// Dropped are the entries that refusal 6 is about, each judged in its order beside the last one kept. A
+/// Dropped are the entries that refusal 6 is about, judged in file order against the last one kept. A
 /// primary byte 255 that no entry is left for becomes 254. Header and sparse index are made anew.
 /// A sound file with its own `n` and `k` gives itself and no lines, and [`check`](crate::check) accepts
 /// every result.

@@ -153,6 +153,14 @@ const A_SWAPPED: &str = "
     03 00 00 00 00 00 00 00   2C 01 00 00
     02 00 00 00 00 00 00 00   FF 00 00 00";
 
+/// A with slot 9, which is none of its four, in its first overflow entry.
+const A_OUTSIDE: &str = "
+    50 43 49 56 00 00 00 00   04 00 00 00 00 00 00 00
+    02 00 00 00 00 00 00 00   00 00 00 00 00 00 00 00
+    00 00 00 00 00 00 00 00   00 FE FF FF
+    09 00 00 00 00 00 00 00   FF 00 00 00
+    03 00 00 00 00 00 00 00   2C 01 00 00";
+
 /// 0, 254, 254, 300.
 const A_WITHOUT_255: &str = "
     50 43 49 56 00 00 00 00   04 00 00 00 00 00 00 00
@@ -349,6 +357,10 @@ const ROWS: [Row; 30] = [
             repairs(judge, (A_SWAPPED, 4, 2), of_four(1, 56, 808), A_WITHOUT_255, &lines)
         },
     ),
+    row("repair of A with byte 44 at 9, n = 4, k = 2", |judge| {
+        let lines = [[1, 16, 2, 1], [2, 0, 9, 0], [3, 2, 255, 254]];
+        repairs(judge, (A_OUTSIDE, 4, 2), of_four(1, 56, 808), A_WITHOUT_255, &lines)
+    }),
     row("repair of A, n = 4, k = 1", |judge| {
         let lines = [[1, 16, 2, 1], [3, 3, 255, 254], [4, 0, 12, 0]];
         repairs(judge, (A, 4, 1), of_four(1, 56, 763), A_WITHOUT_300, &lines)

@@ -2,7 +2,7 @@
 use mathlib.Core.Path.{sym, _∙_}
 use native.Mathlib.Omega.{arith}
 use Rattle.pciv_check_parts.proofs.PrimaryPartLaws.{part-count}
-use Rattle.pciv_repair_file.proofs.WalkLaws.{fullBytes-is}
+use Rattle.pciv_repair_file.proofs.WalkLaws.{fullCount-is}
 use borrow.Author.Needs.{needs}
 use Rattle.pciv_repair_file.proofs.kept.count_full.Statement.{statement}
 use Rattle.pciv_repair_file.proofs.kept.count_full.Tie as tie
@@ -25,7 +25,7 @@ count-byte-requires c κs = search needs
 returns : tie.Need-returns
 returns c =
     let a = c .before .before .before .args in
-    c .count-byte .ensures ∙ part-count (a .file .now) (a .n) 0 (omega arith) ∙ sym (fullBytes-is (a .file .now) (a .n) 0)
+    c .count-byte .ensures ∙ part-count (a .file .now) (a .n) 0 (omega arith) ∙ sym (fullCount-is (a .file .now) (a .n) 0)
 
 pub count-full-spec : {M : Type 1} → statement M
 count-full-spec =
