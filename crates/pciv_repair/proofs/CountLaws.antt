@@ -9,6 +9,7 @@
 --   index-none, index-one       no line about the index, or one
 --   length-fieldLines, length-droppedLines    how many there are of two kinds
 --   numbersOf-append, length-numbersOf, no-numbers, one-number    changes as numbers
+--   two-lists                   changes written behind others
 --   all-lines                   the four kinds, written one after another
 -- Axioms: none.
 use mathlib.Core.Path.{_≡_, refl, sym, ap, ap₂, _∙_}
@@ -88,7 +89,7 @@ unfolding numbersOf
 one-number cs c e = rw e (refl, refl)
 
 -- one list of changes behind another
-two-lists : (cs ds : List Correction) (at : ℕ) (l l₁ l₂ : List ℕ) → l₁ ≡ sets l (4 * at) (numbersOf cs)
+pub two-lists : (cs ds : List Correction) (at : ℕ) (l l₁ l₂ : List ℕ) → l₁ ≡ sets l (4 * at) (numbersOf cs)
     → l₂ ≡ sets l₁ (4 * (at + length cs)) (numbersOf ds) → l₂ ≡ sets l (4 * at) (numbersOf (cs ++ ds))
 two-lists cs ds at l l₁ l₂ first second =
     let next : 4 * (at + length cs) ≡ 4 * at + length (numbersOf cs) = omega (arith, length-numbersOf cs) in

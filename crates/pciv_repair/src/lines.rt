@@ -1,10 +1,12 @@
 // The list of changes: four numbers each, in a list of the caller.
 ghost use mathlib.Core.Path.{_≡_};
-ghost use Prim.Native.Nat.{ℕ, _+_, _*_, _≤_, _<_};
+ghost use Prim.Native.Nat.{ℕ, _+_, _-_, _*_, _≤_, _<_};
 ghost use mathlib.Core.Bool.{not};
 ghost use mathlib.Core.List.{[], _∷_, map};
-ghost use lib.ListN.{length};
+ghost use lib.ListN.{length, getD};
+ghost use lib.Dec.{eqb};
 ghost use lib.Seq.{sets};
+ghost use Rattle.pciv_bytes.specs.Any.{anyFrom};
 ghost use Rattle.pciv_bytes.specs.Ranges.{positions};
 ghost use Rattle.pciv_format.specs.Check.{fileParts};
 ghost use Rattle.pciv_repair_file.specs.Repaired.{isKept, PartsGiven};
@@ -12,6 +14,7 @@ ghost use Rattle.pciv_repair.specs.Repair.{fieldAt, fieldOf, otherField,
 ghost use Rattle.pciv_repair.specs.Repair.{wasSet, setLine, numbersOf};
 use pciv_bytes::little_endian::get32;
 use pciv_bytes::little_endian::get64;
+use pciv_bytes::numbers::smaller;
 use pciv_format::HEADER_LEN;
 use pciv_format::INLINE_MAX;
 use pciv_format::SENTINEL;
@@ -28,6 +31,9 @@ pub const INDEX: usize = 4;
 
 // How many fields the header has.
 const FIELDS: usize = 6;
+
+// How many slots a block has.
+const BLOCK: usize = 256;
 
 // Writes a change as line number `line`, and answers the number of the next one.
 pub fn put_line(
@@ -143,19 +149,43 @@ pub fn put_dropped(file: &[u8], n: usize, k: usize, list: &mut [usize], from: us
 
 // ---- bytes set
 
-// Lists the slots whose primary byte is 255 in `file` and not in `new`, from line number `from` on, and answers the
-// number of the next line.
-pub fn put_set(file: &[u8], n: usize, new: &[u8], list: &mut [usize], from: usize) -> usize
-    requires { ⌜ (40 + n ≤ length (now file)) × (40 + n ≤ length (now new)) ⌝ }
-    requires { ⌜ 4 * (from + length (positions (wasSet (now file) (now new)) 0 n)) ≤ length (now list) ⌝ }
-    ensures next { λ r. ⌜ r ≡ from + length (positions (wasSet (now (file .entry)) (now (new .entry))) 0 n) ⌝ }
+// One of the bytes from `from` up to `to` differs. With no early exit the compiler compares many bytes at once.
+fn any_other(a: &[u8], b: &[u8], from: usize, to: usize) -> bool
+    requires { ⌜ (from ≤ to) × (to ≤ length (now a)) × (to ≤ length (now b)) ⌝ }
+    ensures { λ r. ⌜ r
+        ≡ anyFrom (λ (i : ℕ). not (eqb (getD (now (a .entry)) i 0) (getD (now (b .entry)) i 0))) from (to - from) ⌝ }
+{
+    let mut found = false;
+    let mut i = from;
+    while i < to {
+        found |= a[i] != b[i];
+        i += 1;
+    }
+    found
+}
+
+// Lists the slots from `start` up to `to` whose primary byte is 255 in `file` and not in `new`, from line number `from`
+// on, and answers the number of the next line.
+fn put_block(
+    file: &[u8],
+    new: &[u8],
+    start: usize,
+    to: usize,
+    list: &mut [usize],
+    from: usize,
+) -> usize
+    requires { ⌜ (start ≤ to) × (40 + to ≤ length (now file)) × (40 + to ≤ length (now new)) ⌝ }
+    requires { ⌜ 4 * (from + length (positions (wasSet (now file) (now new)) start (to - start)))
+        ≤ length (now list) ⌝ }
+    ensures next { λ r. ⌜ r
+        ≡ from + length (positions (wasSet (now (file .entry)) (now (new .entry))) start (to - start)) ⌝ }
     ensures list { λ _. ⌜ now (list .exit)
         ≡ sets (now (list .entry)) (4 * from)
-        (numbersOf (map setLine (positions (wasSet (now (file .entry)) (now (new .entry))) 0 n))) ⌝ }
+        (numbersOf (map setLine (positions (wasSet (now (file .entry)) (now (new .entry))) start (to - start)))) ⌝ }
 {
     let mut line = from;
-    let mut i: usize = 0;
-    while i < n {
+    let mut i = start;
+    while i < to {
         let slot = i;
         let at = HEADER_LEN + slot;
         i += 1;
@@ -170,6 +200,28 @@ pub fn put_set(file: &[u8], n: usize, new: &[u8], list: &mut [usize], from: usiz
                     INLINE_MAX as usize,
                 );
             }
+        }
+    }
+    line
+}
+
+// Lists the slots whose primary byte is 255 in `file` and not in `new`, from line number `from` on, and answers the
+// number of the next line. A block in which no byte differs is skipped.
+pub fn put_set(file: &[u8], n: usize, new: &[u8], list: &mut [usize], from: usize) -> usize
+    requires { ⌜ (40 + n ≤ length (now file)) × (40 + n ≤ length (now new)) ⌝ }
+    requires { ⌜ 4 * (from + length (positions (wasSet (now file) (now new)) 0 n)) ≤ length (now list) ⌝ }
+    ensures next { λ r. ⌜ r ≡ from + length (positions (wasSet (now (file .entry)) (now (new .entry))) 0 n) ⌝ }
+    ensures list { λ _. ⌜ now (list .exit)
+        ≡ sets (now (list .entry)) (4 * from)
+        (numbersOf (map setLine (positions (wasSet (now (file .entry)) (now (new .entry))) 0 n))) ⌝ }
+{
+    let mut line = from;
+    let mut i: usize = 0;
+    while i < n {
+        let start = i;
+        i += smaller(BLOCK, n - start);
+        if any_other(file, new, HEADER_LEN + start, HEADER_LEN + i) {
+            line = put_block(file, new, start, i, list, line);
         }
     }
     line

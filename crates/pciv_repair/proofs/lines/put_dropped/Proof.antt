@@ -1,12 +1,13 @@
 -- Proves pciv_repair::lines::put_dropped. Invariant: the entries from j on are left to judge, and `lowest` is the least
 -- slot that entry j may have. Falls: k - j. The list reasoning is in LinesLaws.antt.
 use mathlib.Core.Path.{_≡_, refl, sym, ap, _∙_}
-use mathlib.Core.Bool.{true, not}
+use mathlib.Core.Bool.{Bool, true, not}
 use Prim.Native.Nat.{ℕ, _+_, _-_}
 use native.Mathlib.Numerals.{add-one}
 use native.Mathlib.Omega.{arith}
 use lib.Dec.{ltb}
 use borrow.Author.Tests.{lt-ltb, le-ltb}
+use Rattle.pciv_bytes.specs.Ranges.{positions}
 use Rattle.pciv_format.specs.Parts.{Parts}
 use Rattle.pciv_format.specs.Check.{fileParts}
 use Rattle.pciv_repair_file.specs.Repaired.{lowestAfter, lowestKept, isKept}
@@ -21,7 +22,8 @@ use Rattle.pciv_repair.proofs.lines.put_dropped.Tie as tie
 abbrev Inv-loop : tie.InvT-loop
 Inv-loop file n k list₀ from line₀ lowest₀ j₀ list line lowest j =
     let P : Parts = fileParts file n k in
-    Listing (droppedLine file n k) (λ (t : ℕ). not (isKept P t)) k from list₀ j line list × (lowest ≡ lowestKept P j)
+    let drop : ℕ → Bool = λ t. not (isKept P t) in
+    Listing (droppedLine file n k) drop k (positions drop 0 k) from list₀ j line list × (lowest ≡ lowestKept P j)
 
 abbrev μ-loop : tie.MeasureT-loop
 μ-loop file n k list₀ from line₀ lowest₀ j₀ list line lowest j = k - j

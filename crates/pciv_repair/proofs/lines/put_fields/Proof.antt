@@ -6,6 +6,7 @@ use Prim.Native.Nat.{_-_}
 use native.Mathlib.Nat.{zero-add}
 use native.Mathlib.Omega.{arith}
 use borrow.Author.Tests.{eq-eqb, ne-eqb}
+use Rattle.pciv_bytes.specs.Ranges.{positions}
 use Rattle.pciv_repair.specs.Repair.{fieldLine, otherField}
 use Rattle.pciv_repair.proofs.LinesLaws.{Listing, listing-start, listing-skip, listing-more}
 use Rattle.pciv_repair.proofs.LinesLaws.{listing-room, listing-end}
@@ -14,7 +15,8 @@ use Rattle.pciv_repair.proofs.lines.put_fields.Statement.{statement}
 use Rattle.pciv_repair.proofs.lines.put_fields.Tie as tie
 
 abbrev Inv-loop : tie.InvT-loop
-Inv-loop file new list₀ line₀ i₀ list line i = Listing (fieldLine file new) (otherField file new) 6 0 list₀ i line list
+Inv-loop file new list₀ line₀ i₀ list line i =
+    Listing (fieldLine file new) (otherField file new) 6 (positions (otherField file new) 0 6) 0 list₀ i line list
 
 abbrev μ-loop : tie.MeasureT-loop
 μ-loop file new list₀ line₀ i₀ list line i = 6 - i

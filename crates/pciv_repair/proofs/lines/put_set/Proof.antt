@@ -1,19 +1,23 @@
 -- Proves pciv_repair::lines::put_set. Invariant: the slots from i on are left to list. Falls: n - i.
 -- The list reasoning is in LinesLaws.antt.
-use mathlib.Core.Path.{_≡_, refl}
-use mathlib.Core.Bool.{true}
-use Prim.Native.Nat.{_-_}
+use mathlib.Core.Path.{sym, _∙_}
+use mathlib.Core.Bool.{not}
+use Prim.Native.Nat.{ℕ, _+_, _-_, _≤_}
 use native.Mathlib.Omega.{arith}
-use borrow.Author.Tests.{eq-eqb, ne-eqb}
+use lib.Dec.{eqb}
+use Rattle.pciv_bytes.specs.ByteAt.{byteAt}
+use Rattle.pciv_bytes.specs.Ranges.{positions}
+use Rattle.pciv_bytes.proofs.AnyLaws.{anyFrom-none}
 use Rattle.pciv_repair.specs.Repair.{setLine, wasSet}
-use Rattle.pciv_repair.proofs.LinesLaws.{Listing, listing-start, listing-skip, listing-more}
-use Rattle.pciv_repair.proofs.LinesLaws.{listing-room, listing-end}
+use Rattle.pciv_repair.proofs.LinesLaws.{wasSet-same, Listing, listing-start, listing-gap, listing-part}
+use Rattle.pciv_repair.proofs.LinesLaws.{listing-part-room, listing-end}
 use borrow.Author.Needs.{needs}
 use Rattle.pciv_repair.proofs.lines.put_set.Statement.{statement}
 use Rattle.pciv_repair.proofs.lines.put_set.Tie as tie
 
 abbrev Inv-loop : tie.InvT-loop
-Inv-loop file n new list₀ from line₀ i₀ list line i = Listing setLine (wasSet file new) n from list₀ i line list
+Inv-loop file n new list₀ from line₀ i₀ list line i =
+    Listing setLine (wasSet file new) n (positions (wasSet file new) 0 n) from list₀ i line list
 
 abbrev μ-loop : tie.MeasureT-loop
 μ-loop file n new list₀ from line₀ i₀ list line i = n - i
@@ -21,37 +25,38 @@ abbrev μ-loop : tie.MeasureT-loop
 loop-holds : tie.Need-loop-holds Inv-loop μ-loop
 loop-holds c = listing-start _ _ _ _ _
 
-add-at : tie.Need-add-at Inv-loop μ-loop
-add-at c = search needs
+sub-smaller : tie.Need-sub-smaller Inv-loop μ-loop
+sub-smaller c = search needs
+
+smaller-requires : tie.Need-smaller-requires Inv-loop μ-loop
+smaller-requires c κs = search needs
+
+-- the block ends within the n slots
+inside : (c : tie.After-smaller Inv-loop μ-loop)
+    → (let l = c .before .before in
+    let a = l .before .before .before .before .args in
+    l .loop .i + c .smaller .result ≤ a .n)
+inside c = omega (arith, c .smaller .ensures)
 
 add-i : tie.Need-add-i Inv-loop μ-loop
 add-i c = search needs
 
-shared-slice-read-if1 : tie.Need-shared-slice-read-if1 Inv-loop μ-loop
-shared-slice-read-if1 c = search needs
+add-any-other : tie.Need-add-any-other Inv-loop μ-loop
+add-any-other c = search needs
 
-shared-slice-read-if2 : tie.Need-shared-slice-read-if2 Inv-loop μ-loop
-shared-slice-read-if2 c = search needs
+add-any-other-2 : tie.Need-add-any-other-2 Inv-loop μ-loop
+add-any-other-2 c = search needs
 
-cast-put-line : tie.Need-cast-put-line Inv-loop μ-loop
-cast-put-line c = search needs
+any-other-requires : tie.Need-any-other-requires Inv-loop μ-loop
+any-other-requires c κs = search needs
 
-cast-put-line-2 : tie.Need-cast-put-line-2 Inv-loop μ-loop
-cast-put-line-2 c = search needs
-
--- the byte of slot i is set
-set-here : (c : tie.Then2 Inv-loop μ-loop)
-    → (let l = c .before .before .before .before .before in
-    let a = l .before .before .before .before .args in
-    wasSet (a .file .now) (a .new .now) (l .loop .i) ≡ true)
-set-here c = rw (eq-eqb _ _ (c .before .before .if1 .taken), ne-eqb _ _ (c .if2 .taken))
-
-put-line-requires : tie.Need-put-line-requires Inv-loop μ-loop
-put-line-requires c κs =
-    let t = c .before in
-    let l = t .before .before .before .before .before in
+put-block-requires : tie.Need-put-block-requires Inv-loop μ-loop
+put-block-requires c κs =
+    let k = c .before .before .before in
+    let l = k .before .before in
     let s = l .before .before .before .before in
-    listing-room (l .loop .inv) (s .pre .1) (omega arith) (set-here t)
+    let room = listing-part-room (l .loop .inv) (s .pre .1) _ (omega arith) (inside k) in
+    ((search needs, search needs, search needs), room)
 
 loop-less : tie.Need-loop-less Inv-loop μ-loop
 loop-less c = search needs
@@ -59,26 +64,22 @@ loop-less c = search needs
 loop-again : tie.Need-loop-again Inv-loop μ-loop
 loop-again c =
     let put = c .before .before in
-    let t = put .before .before in
-    let l = t .before .before .before .before .before in
-    listing-more (l .loop .inv) (omega arith) (set-here t) refl (put .put-line .ensures)
+    let k = put .before .before .before .before in
+    let l = k .before .before in
+    listing-part (l .loop .inv) _ (omega arith) (inside k) (put .put-block .ensures)
 
 loop-less-2 : tie.Need-loop-less-2 Inv-loop μ-loop
 loop-less-2 c = search needs
 
 loop-again-2 : tie.Need-loop-again-2 Inv-loop μ-loop
 loop-again-2 c =
-    let l = c .before .before .before .before .before in
-    listing-skip (l .loop .inv) (omega arith)
-    (rw (eq-eqb _ _ (c .before .before .if1 .taken), eq-eqb _ _ (c .if2 .left)))
-
-loop-less-3 : tie.Need-loop-less-3 Inv-loop μ-loop
-loop-less-3 c = search needs
-
-loop-again-3 : tie.Need-loop-again-3 Inv-loop μ-loop
-loop-again-3 c =
-    let l = c .before .before .before in
-    listing-skip (l .loop .inv) (omega arith) (rw (ne-eqb _ _ (c .if1 .left)))
+    let k = c .before .before in
+    let l = k .before .before in
+    let a = l .before .before .before .before .args in
+    listing-gap (l .loop .inv) _ (omega arith) (inside k)
+    (λ t h₁ h₂. wasSet-same (a .file .now) (a .new .now) t
+    (anyFrom-none (λ (j : ℕ). not (eqb (byteAt (a .file .now) j) (byteAt (a .new .now) j))) _ _
+    (sym (c .before .any-other .ensures) ∙ c .if1 .left) (40 + t) (omega arith) (omega arith)))
 
 same-length : tie.Need-same-length Inv-loop μ-loop
 same-length c = search needs
@@ -93,18 +94,16 @@ put-set-spec =
     Inv-loop
     μ-loop
     loop-holds
-    add-at
+    sub-smaller
+    smaller-requires
     add-i
-    shared-slice-read-if1
-    shared-slice-read-if2
-    cast-put-line
-    cast-put-line-2
-    put-line-requires
+    add-any-other
+    add-any-other-2
+    any-other-requires
+    put-block-requires
     loop-less
     loop-again
     loop-less-2
     loop-again-2
-    loop-less-3
-    loop-again-3
     same-length
     returns)
