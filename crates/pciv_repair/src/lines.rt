@@ -36,7 +36,7 @@ const FIELDS: usize = 6;
 const BLOCK: usize = 256;
 
 // Writes a change as line number `line`, and answers the number of the next one.
-pub fn put_line(
+pub(crate) fn put_line(
     list: &mut [usize],
     line: usize,
     kind: usize,
@@ -80,7 +80,7 @@ fn field_of(file: &[u8], i: usize) -> usize
 }
 
 // How many fields differ in two headers.
-pub fn count_fields(file: &[u8], new: &[u8]) -> usize
+pub(crate) fn count_fields(file: &[u8], new: &[u8]) -> usize
     requires { ⌜ (40 ≤ length (now file)) × (40 ≤ length (now new)) ⌝ }
     ensures { λ r. ⌜ r ≡ length (positions (otherField (now (file .entry)) (now (new .entry))) 0 6) ⌝ }
 {
@@ -94,7 +94,7 @@ pub fn count_fields(file: &[u8], new: &[u8]) -> usize
 }
 
 // Lists the fields that differ, from the first line on, and answers the number of the next line.
-pub fn put_fields(file: &[u8], new: &[u8], list: &mut [usize]) -> usize
+pub(crate) fn put_fields(file: &[u8], new: &[u8], list: &mut [usize]) -> usize
     requires { ⌜ (40 ≤ length (now file)) × (40 ≤ length (now new)) ⌝ }
     requires { ⌜ 4 * length (positions (otherField (now file) (now new)) 0 6) ≤ length (now list) ⌝ }
     ensures next { λ r. ⌜ r ≡ length (positions (otherField (now (file .entry)) (now (new .entry))) 0 6) ⌝ }
@@ -120,7 +120,7 @@ pub fn put_fields(file: &[u8], new: &[u8], list: &mut [usize]) -> usize
 // ---- entries dropped
 
 // Lists the entries that are dropped, from line number `from` on, and answers the number of the next line.
-pub fn put_dropped(file: &[u8], n: usize, k: usize, list: &mut [usize], from: usize) -> usize
+pub(crate) fn put_dropped(file: &[u8], n: usize, k: usize, list: &mut [usize], from: usize) -> usize
     requires { ⌜ PartsGiven (now file) n k ⌝ }
     requires { ⌜ 4 * (from + length (positions (λ (j : ℕ). not (isKept (fileParts (now file) n k) j)) 0 k))
         ≤ length (now list) ⌝ }
@@ -207,7 +207,7 @@ fn put_block(
 
 // Lists the slots whose primary byte is 255 in `file` and not in `new`, from line number `from` on, and answers the
 // number of the next line. A block in which no byte differs is skipped.
-pub fn put_set(file: &[u8], n: usize, new: &[u8], list: &mut [usize], from: usize) -> usize
+pub(crate) fn put_set(file: &[u8], n: usize, new: &[u8], list: &mut [usize], from: usize) -> usize
     requires { ⌜ (40 + n ≤ length (now file)) × (40 + n ≤ length (now new)) ⌝ }
     requires { ⌜ 4 * (from + length (positions (wasSet (now file) (now new)) 0 n)) ≤ length (now list) ⌝ }
     ensures next { λ r. ⌜ r ≡ from + length (positions (wasSet (now (file .entry)) (now (new .entry))) 0 n) ⌝ }
