@@ -131,7 +131,8 @@ module _ (b : List ℕ) (n k : ℕ) (bytes : Bytes b) (given : PartsGiven b n k)
       → flag (isSet parts i) + flag (inOverflow (repairedAt b n k i)) ≡ flag (eqb (parts .byte i) 255)
   full-or-set i h =
       let byte : primaryByte (repairedAt b n k i) ≡ repairedParts parts .byte i =
-      sym (file-byte n (repairedAt b n k) (given .small) (repaired-le b n k bytes) i h) ∙ rebuilt-byte b n k bytes given i h in
+      sym (file-byte n (repairedAt b n k) (given .small) (repaired-le b n k bytes) i h)
+      ∙ rebuilt-byte b n k bytes given i h in
       ap (λ (t : Bool). flag (isSet parts i) + flag t)
       (sym (primaryByte-full (repairedAt b n k i)) ∙ ap (λ (x : ℕ). eqb x 255) byte)
       ∙ go (isSet parts i) refl
@@ -140,7 +141,8 @@ module _ (b : List ℕ) (n k : ℕ) (bytes : Bytes b) (given : PartsGiven b n k)
           → flag (isSet parts i) + flag (eqb (repairedParts parts .byte i) 255) ≡ flag (eqb (parts .byte i) 255)
       go true e = rw (e, set-full parts i e)
       go false e =
-          ap₂ (λ (t : Bool) (x : ℕ). flag t + flag (eqb x 255)) e (kept-byte parts i e) ∙ zero-add (flag (eqb (parts .byte i) 255))
+          ap₂ (λ (t : Bool) (x : ℕ). flag t + flag (eqb x 255)) e (kept-byte parts i e)
+          ∙ zero-add (flag (eqb (parts .byte i) 255))
 
   pub set-count : length (positions (isSet (fileParts b n k)) 0 n) + length (keptEntries (fileParts b n k)) ≡ fullCount b n
   set-count =
@@ -166,7 +168,8 @@ module _ (b : List ℕ) (n k : ℕ) (bytes : Bytes b) (given : PartsGiven b n k)
   lines-count =
       lines-total ∙ simp length-map (omega (arith, go (same (bytesAfter b n k) (rebuiltIndex b n k))))
     where
-      go : (t : Bool) → length (cond t [] (indexLine (length (bytesAfter b n k)) (length (rebuiltIndex b n k)) ∷ [])) ≡ flag (not t)
+      go : (t : Bool)
+          → length (cond t [] (indexLine (length (bytesAfter b n k)) (length (rebuiltIndex b n k)) ∷ [])) ≡ flag (not t)
       go true = refl
       go false = refl
 

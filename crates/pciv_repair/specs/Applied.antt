@@ -7,7 +7,7 @@
 --   entriesLeft k cs               the numbers of the entries that cs does not drop, rising
 --   newField, newHeader, newPrimary, newEntries, newIndex    the parts of the file that b becomes by cs
 --   applied b n k cs               that file
---   Before c c'                    c comes before c' in a list: its kind is smaller, or it is the same and its place is smaller
+--   Before c c'                    c comes before c' in a list: its kind is smaller, or its place in the same kind
 --   TrueLine b n k c               c tells a change of b that a repair makes
 -- Laws are in proofs/AppliedLaws.antt, CompleteLaws.antt and TrueLaws.antt. Axioms: none.
 use mathlib.Core.Path.{_≡_}

@@ -153,9 +153,12 @@ fn put_lines(
 // The file and the list, or refusal 12.
 fn rebuild(file: &[u8], n: usize, k: usize, out: &mut [u8], list: &mut [usize]) -> RepairAnswer
     requires { ⌜ PartsGiven (now file) n k ⌝ }
-    ensures answer { λ r. ⌜ r ≡ repairAnswer (repairOutcome (now (file .entry)) n k (length (now (out .entry))) (length (now (list .entry)))) ⌝ }
-    ensures buffer { λ _. ⌜ now (out .exit) ≡ repairBuffer (now (file .entry)) n k (length (now (list .entry))) (now (out .entry)) ⌝ }
-    ensures list { λ _. ⌜ now (list .exit) ≡ repairList (now (file .entry)) n k (length (now (out .entry))) (now (list .entry)) ⌝ }
+    ensures answer { λ r. ⌜ r ≡ repairAnswer (repairOutcome (now (file .entry)) n k (length (now (out .entry)))
+        (length (now (list .entry)))) ⌝ }
+    ensures buffer { λ _. ⌜ now (out .exit)
+        ≡ repairBuffer (now (file .entry)) n k (length (now (list .entry))) (now (out .entry)) ⌝ }
+    ensures list { λ _. ⌜ now (list .exit)
+        ≡ repairList (now (file .entry)) n k (length (now (out .entry))) (now (list .entry)) ⌝ }
 {
     let kept = count_kept(file, n, k);
     let full = count_full(file, n);
@@ -179,9 +182,12 @@ fn rebuild(file: &[u8], n: usize, k: usize, out: &mut [u8], list: &mut [usize]) 
 // kind, place, the number before and after. Refusals: 3, 4 and 5 with map 1, then 12 for either of the two.
 // A refused call changes nothing; bytes past the file and numbers past the list stay.
 pub fn repair(file: &[u8], n: usize, k: usize, out: &mut [u8], list: &mut [usize]) -> RepairAnswer
-    ensures answer { λ r. ⌜ r ≡ repairAnswer (repairOutcome (now (file .entry)) n k (length (now (out .entry))) (length (now (list .entry)))) ⌝ }
-    ensures buffer { λ _. ⌜ now (out .exit) ≡ repairBuffer (now (file .entry)) n k (length (now (list .entry))) (now (out .entry)) ⌝ }
-    ensures list { λ _. ⌜ now (list .exit) ≡ repairList (now (file .entry)) n k (length (now (out .entry))) (now (list .entry)) ⌝ }
+    ensures answer { λ r. ⌜ r ≡ repairAnswer (repairOutcome (now (file .entry)) n k (length (now (out .entry)))
+        (length (now (list .entry)))) ⌝ }
+    ensures buffer { λ _. ⌜ now (out .exit)
+        ≡ repairBuffer (now (file .entry)) n k (length (now (list .entry))) (now (out .entry)) ⌝ }
+    ensures list { λ _. ⌜ now (list .exit)
+        ≡ repairList (now (file .entry)) n k (length (now (out .entry))) (now (list .entry)) ⌝ }
 {
     if MAX_SLOTS < n {
         return refuse_repair(TOO_MANY_SLOTS, 1, 0);

@@ -96,7 +96,8 @@ module _ (P : Parts) (bytes : (i : ℕ) → P .byte i < 256) where
         let s : ℕ = P .slot j in
         let k : KeptEntry P j = kept-entry P j kept in
         let long : length (table (lowered P lowest) 0 (P .n)) ≡ P .n = length-table (lowered P lowest) 0 (P .n) in
-        set-sets d (table (lowered P lowest) 0 (P .n)) 40 s 255 (omega (arith, long)) (omega (arith, long, k .right .inside))
+        set-sets d (table (lowered P lowest) 0 (P .n)) 40 s 255 (omega (arith, long))
+        (omega (arith, long, k .right .inside))
         ∙ ap (sets d 40)
         (set-table (lowered P lowest) (lowered P next) (P .n) s 255 (k .right .inside)
         (lowered-below next s (omega arith) ∙ kept-byte P s (isSet-kept P j inside kept) ∙ k .right .marked)
@@ -153,7 +154,8 @@ module _ (b : List ℕ) (n k : ℕ) (bytes : Bytes b) (inside : 40 + n ≤ lengt
       λ i h. isSet-is parts i
       ∙ count-complete (keptParts parts) (kept-right parts) (sym (fullCount-is b n k) ∙ same) i h in
       let long : length (part b n) ≡ n = length-part b n k inside in
-      ext-getD 0 (part b n) (table (repairedParts parts .byte) 0 n) (long ∙ sym (length-table (repairedParts parts .byte) 0 n))
+      ext-getD 0 (part b n) (table (repairedParts parts .byte) 0 n)
+      (long ∙ sym (length-table (repairedParts parts .byte) 0 n))
       (λ i h.
       (let l : i < n = omega (arith, long) in
       part-at b n k inside i l

@@ -32,7 +32,8 @@ module _ (P : Parts) (start : ℕ) (d₀ : List ℕ) where
   putting-start =
       record {
         placeIs = omega (arith, keptCount-none P);
-        rest = rw (keptCount-none P) (entries-start (keptParts P .slot) (keptParts P .distance) (length (keptEntries P)) start d₀);
+        rest = rw (keptCount-none P)
+            (entries-start (keptParts P .slot) (keptParts P .distance) (length (keptEntries P)) start d₀);
       }
 
   module _ (j place : ℕ) (d : List ℕ) (e : Putting j place d) where
@@ -57,7 +58,8 @@ module _ (P : Parts) (start : ℕ) (d₀ : List ℕ) where
             rest = rw more
                 (entries-more _ _ _ start d₀ (keptCount P j) d (e .rest) (number .0) d'
                 (put
-                ∙ ap₂ (λ (x : ℕ) (i : ℕ). sets d x (le 8 (P .slot i) ++ le 4 (P .distance i))) (e .placeIs) (sym (number .1))));
+                ∙ ap₂ (λ (x : ℕ) (i : ℕ). sets d x (le 8 (P .slot i) ++ le 4 (P .distance i))) (e .placeIs)
+                (sym (number .1))));
           }
 
     pub putting-end : j ≡ P .k → d ≡ sets d₀ start (keptBytes P)
