@@ -117,9 +117,16 @@ pub fn tell_repaired(
 {
     match a {
         RepairAnswer::Done(repaired) => {
-            let s = repaired.summary;
+            let rebuilt = repaired.summary;
             *count = repaired.lines;
-            *summary = [s.n, s.k, s.m, s.step, s.len, s.sum];
+            *summary = [
+                rebuilt.n,
+                rebuilt.k,
+                rebuilt.m,
+                rebuilt.step,
+                rebuilt.len,
+                rebuilt.sum,
+            ];
             tell_done(refusal)
         }
         RepairAnswer::Refused(r) => tell_refused(r, refusal),
