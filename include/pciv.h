@@ -1,5 +1,5 @@
 /*
- * pciv.h - reading, writing, combining and editing PCIV depth maps
+ * pciv.h - reading, writing, combining, editing and repairing PCIV depth maps
  *
  * A PCIV file stores a map: a list of 0 to 1,048,576 distances in whole centimetres, 32 bits each,
  * one for each slot. A file has no width or height; the caller keeps them. docs/FORMAT.md describes
@@ -23,7 +23,7 @@
  *     longer buffer is unchanged too, and so is what a call only reads.
  *   - A call checks each whole file it is given, which must be exactly as long as its header says;
  *     bytes may follow it only in a buffer to be edited. A fault of a file is refused before a fault
- *     of the call.
+ *     of the call. pciv_repair alone takes files that are not sound.
  *   - Nothing is allocated or kept between calls; calls may run in parallel.
  *
  * For x86-64 only (System V calling convention): size_t has 64 bits.
@@ -42,9 +42,9 @@
    with 1,000 for each MINOR and 1,000,000 for each MAJOR, and is for comparisons by #if. */
 #define PCIV_VERSION_MAJOR 0
 #define PCIV_VERSION_MINOR 6
-#define PCIV_VERSION_PATCH 0
-#define PCIV_VERSION_NUMBER 6000
-#define PCIV_VERSION "0.6.0"
+#define PCIV_VERSION_PATCH 1
+#define PCIV_VERSION_NUMBER 6001
+#define PCIV_VERSION "0.6.1"
 
 #ifdef __cplusplus
 extern "C" {
@@ -62,9 +62,11 @@ enum pciv_refusal_number {
     PCIV_TRUNCATED_HEADER = 1,       /* the file has fewer than 40 bytes */
     PCIV_BAD_MAGIC = 2,              /* the first eight bytes are not "PCIV" and four zeros */
     PCIV_TOO_MANY_SLOTS = 3,         /* n is above 1,048,576 */
-    PCIV_BAD_COUNTS = 4,             /* k is above n, or step or m is not the one that k gives */
+    PCIV_BAD_COUNTS = 4,             /* k is above n, or step or m is not the one that k gives; for
+                                        pciv_repair, the k given is above the n given */
     PCIV_BAD_LENGTH = 5,             /* the file is not as long as n, k and m say; for a buffer to be
-                                        edited, the buffer is shorter than that */
+                                        edited, the buffer is shorter than that; for pciv_repair,
+                                        the file ends before its overflow entries do */
     PCIV_BAD_OVERFLOW_ENTRY = 6,     /* an overflow entry's slot is n or more or not above the one
                                         before, its distance is below 255, or the primary byte of
                                         its slot is not 255; place: the least such entry */
@@ -478,6 +480,67 @@ static inline uint64_t pciv_edit_all(uint8_t *buffer, size_t buffer_len, const u
     uint64_t count;
     return pciv_edit_list(buffer, buffer_len, slots, edits, distances, edits, (uint64_t *)answers,
                           PCIV_ANSWER_LEN * edits, &count, refusal);
+}
+
+/* ---- Repair -----------------------------------------------------------------------------------
+ *
+ * For a file whose header or sparse index is spoiled, as by a damaged card, while its primary array
+ * and most of its overflow entries are right. The caller says how many slots and overflow entries
+ * there are. What is changed is listed, a line of four numbers for each correction.
+ */
+
+/* What a correction is about, in the order of the list; lines of one kind come by rising place. */
+enum pciv_correction_kind {
+    PCIV_CORRECTION_FIELD = 1,   /* a field of the header; place: its offset, 0, 4, 8, 16, 24 or 32;
+                                    before and after: its number, of 4 bytes at 0 and 4, else of 8 */
+    PCIV_CORRECTION_DROPPED = 2, /* an overflow entry is dropped; place: its number among those
+                                    given, from 0; before: its slot; after: 0 */
+    PCIV_CORRECTION_SET = 3,     /* a primary byte 255 that no entry is left for is set; place: its
+                                    slot; before: 255; after: 254 */
+    PCIV_CORRECTION_INDEX = 4    /* the bytes behind the overflow entries given were not the sparse
+                                    index; place: 0; before and after: how many there were, and are */
+};
+
+/* A line of the list. */
+typedef struct {
+    uint64_t kind; /* of enum pciv_correction_kind */
+    uint64_t place;
+    uint64_t before;
+    uint64_t after;
+} pciv_correction;
+
+/* How many numbers of 64 bits a pciv_correction has. */
+#define PCIV_CORRECTION_LEN 4
+
+/* How many lines any list has at most, for n up to 1,048,576 and k up to n: n + k + 7. */
+#define PCIV_MOST_CORRECTIONS(n, k) ((size_t)(n) + (size_t)(k) + 7)
+
+/* Repairs a file of n slots and k overflow entries. Of the file the primary array, which are the n
+   bytes from byte 40 on, and the k overflow entries behind it are believed, and nothing else. Dropped
+   are the entries that refusal 6 is about, judged in file order against the last one kept: the slot is
+   n or more or not above that one's, the distance is below 255, or the primary byte of the slot is
+   not 255. A primary byte 255 that no entry is left for becomes 254. Header and sparse index are made
+   anew. A sound file with its own n and k gives itself and no lines; pciv_check accepts every result.
+   Refusals: 3 with map 1 where n is above 1,048,576; 4 with map 1 where k is above n; 5 with map 1
+   where file_len is below 40 + n + 12k; then 12 where the result is longer than out_len, for which
+   PCIV_LONGEST_FILE(n) is always enough, or corrections_len is below PCIV_CORRECTION_LEN times the
+   number of lines.
+   When done the first summary->len bytes of out are the result, the first PCIV_CORRECTION_LEN times
+   *count elements of corrections are the lines, each laid out as a pciv_correction, what follows in
+   both is unchanged, *summary is the result's summary, and *count is the number of lines. After a
+   refusal out, corrections, *summary and *count are unchanged. */
+uint64_t pciv_repair(const uint8_t *file, size_t file_len, uint64_t n, uint64_t k, uint8_t *out,
+                     size_t out_len, uint64_t *corrections, size_t corrections_len,
+                     pciv_summary *summary, uint64_t *count, pciv_refusal *refusal);
+
+/* As pciv_repair, with the lines as structs: corrections has corrections_len of them. */
+static inline uint64_t pciv_repair_all(const uint8_t *file, size_t file_len, uint64_t n, uint64_t k,
+                                       uint8_t *out, size_t out_len, pciv_correction *corrections,
+                                       size_t corrections_len, pciv_summary *summary,
+                                       uint64_t *count, pciv_refusal *refusal)
+{
+    return pciv_repair(file, file_len, n, k, out, out_len, (uint64_t *)corrections,
+                       PCIV_CORRECTION_LEN * corrections_len, summary, count, refusal);
 }
 
 /* ---- Report ----------------------------------------------------------------------------------- */

@@ -651,6 +651,84 @@ static void test_edit_list(const uint8_t *file)
     EXPECT(is_file_of(buffer, 56, &answers[2].summary, expected));
 }
 
+static int is_correction(const pciv_correction *line, uint64_t kind, uint64_t place, uint64_t before,
+                         uint64_t after)
+{
+    return line->kind == kind && line->place == place && line->before == before &&
+           line->after == after;
+}
+
+/* The map with its entries swapped: the second one is dropped, and its slot set to 254. */
+static void test_repair(const uint8_t *file)
+{
+    static const uint32_t expected[N] = {0, 254, 254, 300};
+    uint8_t swapped[MAP_LEN], out[MAP_LEN];
+    pciv_correction lines[4];
+    uint64_t *numbers = (uint64_t *)lines;
+    uint64_t count;
+    pciv_summary summary;
+    pciv_refusal refusal;
+    memcpy(swapped, file, 44);
+    memcpy(swapped + 44, file + 56, 12);
+    memcpy(swapped + 56, file + 44, 12);
+    memset(out, DIRTY, sizeof out);
+    memset(lines, DIRTY, sizeof lines);
+    memset(&count, DIRTY, sizeof count);
+    memset(&summary, DIRTY, sizeof summary);
+    EXPECT(sizeof(pciv_correction) == 32 && offsetof(pciv_correction, after) == 24);
+    EXPECT(sizeof(pciv_correction) == PCIV_CORRECTION_LEN * sizeof(uint64_t));
+    EXPECT(pciv_repair(swapped, MAP_LEN, 1048577, UINT64_MAX, out, MAP_LEN, numbers, 16, &summary,
+                       &count, &refusal) == PCIV_TOO_MANY_SLOTS);
+    EXPECT(is_refusal(&refusal, PCIV_TOO_MANY_SLOTS, 1, 0));
+    EXPECT(pciv_repair(swapped, MAP_LEN, N, N + 1, out, MAP_LEN, numbers, 16, &summary, &count,
+                       &refusal) == PCIV_BAD_COUNTS);
+    EXPECT(is_refusal(&refusal, PCIV_BAD_COUNTS, 1, 0));
+    EXPECT(pciv_repair(swapped, MAP_LEN - 1, N, 2, out, MAP_LEN, numbers, 16, &summary, &count,
+                       &refusal) == PCIV_BAD_LENGTH);
+    EXPECT(is_refusal(&refusal, PCIV_BAD_LENGTH, 1, 0));
+    EXPECT(pciv_repair(swapped, MAP_LEN, N, 2, out, 55, numbers, 16, &summary, &count, &refusal) ==
+           PCIV_BUFFER_TOO_SMALL);
+    EXPECT(pciv_repair(swapped, MAP_LEN, N, 2, out, 56, numbers, 11, &summary, &count, &refusal) ==
+           PCIV_BUFFER_TOO_SMALL);
+    EXPECT(is_refusal(&refusal, PCIV_BUFFER_TOO_SMALL, 0, 0));
+    EXPECT(is_dirty(out, sizeof out) && is_dirty(lines, sizeof lines));
+    EXPECT(is_dirty(&summary, sizeof summary) && is_dirty(&count, sizeof count));
+    EXPECT(pciv_repair(swapped, MAP_LEN, N, 2, out, MAP_LEN, numbers, 16, &summary, &count,
+                       &refusal) == PCIV_OK);
+    EXPECT(is_refusal(&refusal, PCIV_OK, 0, 0) && count == 3);
+    EXPECT(is_correction(&lines[0], PCIV_CORRECTION_FIELD, 16, 2, 1));
+    EXPECT(is_correction(&lines[1], PCIV_CORRECTION_DROPPED, 1, 2, 0));
+    EXPECT(is_correction(&lines[2], PCIV_CORRECTION_SET, 2, 255, 254));
+    EXPECT(is_dirty(&lines[3], sizeof lines[3]) && is_dirty(out + 56, MAP_LEN - 56));
+    EXPECT(is_summary(&summary, N, 1, 56, 808) && is_file_of(out, 56, &summary, expected));
+}
+
+/* The lines as structs; a sound file gives itself and none. */
+static void test_repair_all(const uint8_t *file)
+{
+    static const uint32_t expected[N] = {0, 254, 255, 254};
+    uint8_t out[PCIV_LONGEST_FILE(N)];
+    pciv_correction lines[PCIV_MOST_CORRECTIONS(N, 2)];
+    uint64_t count;
+    pciv_summary summary;
+    pciv_refusal refusal;
+    memset(lines, DIRTY, sizeof lines);
+    EXPECT(pciv_repair_all(file, MAP_LEN, N, 2, out, sizeof out, NULL, 0, &summary, &count,
+                           &refusal) == PCIV_OK);
+    EXPECT(count == 0 && is_summary(&summary, N, 2, MAP_LEN, 809));
+    EXPECT(memcmp(out, file, MAP_LEN) == 0);
+    EXPECT(pciv_repair_all(file, MAP_LEN, N, 1, out, sizeof out, lines, 2, &summary, &count,
+                           &refusal) == PCIV_BUFFER_TOO_SMALL);
+    EXPECT(memcmp(out, file, MAP_LEN) == 0 && is_dirty(lines, sizeof lines) && count == 0);
+    EXPECT(pciv_repair_all(file, MAP_LEN, N, 1, out, sizeof out, lines, 3, &summary, &count,
+                           &refusal) == PCIV_OK);
+    EXPECT(count == 3 && is_correction(&lines[0], PCIV_CORRECTION_FIELD, 16, 2, 1));
+    EXPECT(is_correction(&lines[1], PCIV_CORRECTION_SET, 3, 255, 254));
+    EXPECT(is_correction(&lines[2], PCIV_CORRECTION_INDEX, 0, 12, 0));
+    EXPECT(is_dirty(&lines[3], sizeof lines[3]));
+    EXPECT(is_summary(&summary, N, 1, 56, 763) && is_file_of(out, 56, &summary, expected));
+}
+
 static void test_report(const uint8_t *file)
 {
     const size_t len = strlen(REPORT);
@@ -684,8 +762,8 @@ static void test_damage(const uint8_t *map, size_t at, uint8_t byte, uint64_t nu
 /* The string and the number say what the three numbers say; #if can compare them. */
 static void test_version(void)
 {
-#if PCIV_VERSION_NUMBER < 6000
-#error "this header is older than 0.6.0"
+#if PCIV_VERSION_NUMBER < 6001
+#error "this header is older than 0.6.1"
 #endif
     char text[32];
     snprintf(text, sizeof text, "%d.%d.%d", PCIV_VERSION_MAJOR, PCIV_VERSION_MINOR,
@@ -810,7 +888,7 @@ static void test_null_pair(combine *call, const uint8_t *file)
     EXPECT(call(file, MAP_LEN, file, MAP_LEN, NULL, 0, &summary, &why) == PCIV_BUFFER_TOO_SMALL);
 }
 
-/* The same for writing, combining and editing. */
+/* The same for writing, combining, editing and repairing. */
 static void test_null_write(const uint8_t *file)
 {
     static const uint8_t primary[N] = {0, 254, 255, 255};
@@ -869,6 +947,14 @@ static void test_null_write(const uint8_t *file)
     EXPECT(pciv_edit_list(out, MAP_LEN, slots, 2, distances, 2, NULL, 0, &count, &why) ==
            PCIV_BUFFER_TOO_SMALL);
     EXPECT(pciv_edit_list(out, MAP_LEN, NULL, 0, NULL, 0, NULL, 0, &count, &why) == PCIV_OK);
+    EXPECT(count == 0 && memcmp(out, file, MAP_LEN) == 0);
+    EXPECT(pciv_repair(NULL, 0, 0, 0, out, 100, answers, 20, &summary, &count, &why) ==
+           PCIV_BAD_LENGTH);
+    EXPECT(pciv_repair(file, MAP_LEN, N, 2, NULL, 0, answers, 20, &summary, &count, &why) ==
+           PCIV_BUFFER_TOO_SMALL);
+    EXPECT(pciv_repair(file, MAP_LEN, N, 1, out, 100, NULL, 0, &summary, &count, &why) ==
+           PCIV_BUFFER_TOO_SMALL);
+    EXPECT(pciv_repair(file, MAP_LEN, N, 2, out, 68, NULL, 0, &summary, &count, &why) == PCIV_OK);
     EXPECT(count == 0 && memcmp(out, file, MAP_LEN) == 0);
 }
 
@@ -935,6 +1021,8 @@ int main(void)
     test_edit(file);
     test_edit_capacity(file);
     test_edit_list(file);
+    test_repair(file);
+    test_repair_all(file);
     test_report(file);
     test_version();
     test_lengths();

@@ -1,7 +1,8 @@
-// Writes, checks and reads a map from C++, and passes empty vectors. If it fails, the header or the way that the library
+// Writes, checks, reads and repairs a map from C++, and passes empty vectors. If it fails, the header or the way that the library
 // is linked is wrong for C++ programs.
 #include "pciv.h"
 
+#include <algorithm>
 #include <array>
 #include <cstdio>
 #include <string>
@@ -12,7 +13,8 @@ static bool empty_vectors()
 {
     std::vector<uint32_t> distances;
     std::vector<uint64_t> slots, entries, mask;
-    std::vector<uint8_t> file(pciv_file_len(0, 0)), none;
+    std::vector<uint8_t> file(pciv_file_len(0, 0)), repaired(file.size()), none;
+    std::vector<pciv_correction> corrections;
     pciv_summary summary{};
     pciv_refusal refusal{};
     uint64_t count = 7;
@@ -27,9 +29,31 @@ static bool empty_vectors()
                           &refusal) == PCIV_OK &&
            pciv_edit_all(file.data(), file.size(), slots.data(), distances.data(), nullptr, 0,
                          &refusal) == PCIV_OK &&
+           pciv_repair_all(file.data(), file.size(), 0, 0, repaired.data(), repaired.size(),
+                           corrections.data(), corrections.size(), &summary, &count,
+                           &refusal) == PCIV_OK &&
+           count == 0 && repaired == file &&
            pciv_check(none.data(), none.size(), &summary, &refusal) == PCIV_TRUNCATED_HEADER &&
            std::string(pciv_refusal_text(refusal.number)) == "the file has fewer than 40 bytes" &&
            pciv_primary(none.data(), none.size()).len == 0;
+}
+
+// A wrong step in the header is the one correction.
+static bool repairs(std::array<uint8_t, 68> spoiled)
+{
+    const std::array<uint8_t, 68> file = spoiled;
+    std::vector<uint8_t> out(PCIV_LONGEST_FILE(4));
+    std::vector<pciv_correction> corrections(PCIV_MOST_CORRECTIONS(4, 2));
+    pciv_summary summary{};
+    pciv_refusal refusal{};
+    uint64_t count = 0;
+    spoiled[32] = 9;
+    return pciv_repair_all(spoiled.data(), spoiled.size(), 4, 2, out.data(), out.size(),
+                           corrections.data(), corrections.size(), &summary, &count,
+                           &refusal) == PCIV_OK &&
+           count == 1 && corrections[0].kind == PCIV_CORRECTION_FIELD &&
+           corrections[0].place == 32 && corrections[0].before == 9 && corrections[0].after == 0 &&
+           summary.len == file.size() && std::equal(file.begin(), file.end(), out.begin());
 }
 
 int main()
@@ -49,7 +73,7 @@ int main()
             PCIV_OK &&
         count == read.size() && read == distances &&
         pciv_check(file.data(), file.size() - 1, &summary, &refusal) == PCIV_BAD_LENGTH &&
-        refusal.map == 1 && empty_vectors();
+        refusal.map == 1 && empty_vectors() && repairs(file);
     std::puts(done ? "cpp_smoke: passed" : "cpp_smoke: FAILED");
     return done ? 0 : 1;
 }

@@ -1,6 +1,6 @@
 #!/bin/sh
-# Builds and runs the C and Rust side: header, C and C++ programs, what make shows and ships, Rust tests, interface,
-# vectorised loops, comparison, test vectors, the fuzzer's corpus, the names in docs/PROMISES.md, report program.
+# Builds and runs the C and Rust side: header, C and C++ programs, what make shows and ships, Rust tests, the program
+# that repairs maps, interface, vectorised loops, comparison, test vectors, the fuzzer's corpus, the names in docs/PROMISES.md, report program.
 # Wants libpciv_c.a in PCIV_LIB_DIR (default target/staticlib) and the report program at PCIV_REPORT
 # (default target/bin/report); relative paths start at the repository's root.
 set -u
@@ -199,6 +199,133 @@ examples() {
         echo 'C and Rust agree, and README.md has them with their output'
 }
 
+# put FILE OFFSET TEXT: puts bytes into a file, in printf's escapes.
+put() {
+    printf "$3" | dd of="$1" bs=1 seek="$2" conv=notrunc status=none
+}
+
+# repaired PROGRAM MAP SLOTS FAR FILE LINE..: it says these lines and no more, and writes a file like that one.
+repaired() {
+    program=$1
+    map=$2
+    slots=$3
+    far=$4
+    wanted=$5
+    shift 5
+    rm -f "$work/out.pciv"
+    "$program" "$map" "$slots" "$far" "$work/out.pciv" >"$work/said" 2>&1 && printf '%s\n' "$@" | cmp - "$work/said" &&
+        cmp "$work/out.pciv" "$wanted" && [ ! -e "$work/out.pciv.tmp" ] ||
+        { echo "$program $map $slots $far: not so, it said"; cat "$work/said"; return 1; }
+}
+
+# repair_repairs PROGRAM: the spoiled sample map, and the worked examples of docs/FORMAT.md.
+repair_repairs() {
+    folder=$work/repairs
+    a=examples/map-a.pciv
+    rm -rf "$folder" && mkdir "$folder" && cp "$a" "$folder/spoiled" && put "$folder/spoiled" 0 '\007' &&
+        put "$folder/spoiled" 32 '\011' && head -c 44 "$a" >"$folder/swapped" && tail -c 12 "$a" >>"$folder/swapped" &&
+        head -c 56 "$a" | tail -c 12 >>"$folder/swapped" && printf 'PCIV' >"$folder/empty" &&
+        head -c 36 /dev/zero >>"$folder/empty" &&
+        head -c 44 "$a" >"$folder/without-255" && tail -c 12 "$a" >>"$folder/without-255" &&
+        put "$folder/without-255" 16 '\001' && put "$folder/without-255" 42 '\376' &&
+        head -c 56 "$a" >"$folder/without-300" && put "$folder/without-300" 16 '\001' &&
+        put "$folder/without-300" 43 '\376' &&
+        repaired "$1" examples/portrait-160x120-spoiled.pciv 19200 2145 examples/portrait-160x120.pciv \
+            '1 16 0 2145 (header: overflow entries)' '1 24 0 1073 (header: index entries)' \
+            '1 32 0 2 (header: step of the index)' '4 0 17168 17168 (index made anew: its bytes)' \
+            '4 corrections: 19200 slots, 2145 in overflow, 62148 bytes, mean 220.2 cm' &&
+        while IFS= read -r line; do
+            grep -qxF -e "$line" README.md || { echo "README.md does not have: $line"; return 1; }
+        done <"$work/said" &&
+        repaired "$1" "$a" 4 2 "$a" '0 corrections: 4 slots, 2 in overflow, 68 bytes, mean 202.2 cm' &&
+        repaired "$1" "$folder/spoiled" 4 2 "$a" \
+            '1 0 1447641863 1447641936 (header: the letters PCIV)' '1 32 9 0 (header: step of the index)' \
+            '2 corrections: 4 slots, 2 in overflow, 68 bytes, mean 202.2 cm' &&
+        repaired "$1" "$folder/swapped" 4 2 "$folder/without-255" \
+            '1 16 2 1 (header: overflow entries)' '2 1 2 0 (overflow entry dropped: its slot)' \
+            '3 2 255 254 (slot without an overflow entry: now 254 cm)' \
+            '3 corrections: 4 slots, 1 in overflow, 56 bytes, mean 202.0 cm' &&
+        repaired "$1" "$a" 4 1 "$folder/without-300" \
+            '1 16 2 1 (header: overflow entries)' '3 3 255 254 (slot without an overflow entry: now 254 cm)' \
+            '4 0 12 0 (index made anew: its bytes)' '3 corrections: 4 slots, 1 in overflow, 56 bytes, mean 190.8 cm' &&
+        repaired "$1" "$folder/empty" 0 0 "$folder/empty" '0 corrections: 0 slots, 0 in overflow, 40 bytes, mean 0.0 cm'
+}
+
+# repair_keeps PROGRAM: it may write over its map, which keeps its mode; where it fails it says why, and leaves OUT as it
+# was and nothing else.
+repair_keeps() {
+    folder=$work/repairs
+    map=$folder/map
+    usage='usage: repair MAP SLOTS FAR OUT'
+    rm -rf "$folder" && mkdir "$folder" "$folder/inner" && cp examples/portrait-160x120-spoiled.pciv "$map" &&
+        echo old >"$folder/old" && echo other >"$folder/taken.tmp" || return 1
+    for number in abc -5 +5 18446744073709551616 99999999999999999999 5x ' 5' '' 0x5; do
+        expect 2 "$usage" "$1" "$map" "$number" 2145 "$folder/out" &&
+            expect 2 "$usage" "$1" "$map" 19200 "$number" "$folder/out" || return 1
+    done
+    expect 2 "$usage" "$1" "$map" 19200 2145 && expect 2 "$usage" "$1" "$map" 19200 2145 "$folder/out" more &&
+        expect 1 'none: No such file or directory' "$1" "$folder/none" 19200 2145 "$folder/out" &&
+        expect 1 'inner: Is a directory' "$1" "$folder/inner" 19200 2145 "$folder/out" || return 1
+    # slots, overflow entries, and the refusal that they give
+    while read -r slots far refusal; do
+        expect 3 "$refusal" "$1" "$map" "$slots" "$far" "$folder/old" && head -n 1 "$work/said" | grep -qxF "$refusal" ||
+            return 1
+    done <<END
+1048577 0 refused 3 map 1 place 0
+18446744073709551615 18446744073709551615 refused 3 map 1 place 0
+19200 19201 refused 4 map 1 place 0
+0 18446744073709551615 refused 4 map 1 place 0
+19200 3576 refused 5 map 1 place 0
+62109 0 refused 5 map 1 place 0
+1048576 1048576 refused 5 map 1 place 0
+END
+    expect 1 'taken.tmp: File exists' "$1" "$map" 19200 2145 "$folder/taken" &&
+        expect 1 'inner: is no regular file' "$1" "$map" 19200 2145 "$folder/inner" &&
+        expect 1 'none/out.tmp: No such file or directory' "$1" "$map" 19200 2145 "$folder/none/out" &&
+        expect 1 'File too large' limited "$1" "$map" 19200 2145 "$folder/old" &&
+        expect 1 'standard output: ' sh -c '"$@" >/dev/full' sh "$1" "$map" 19200 2145 "$folder/old" &&
+        cmp "$map" examples/portrait-160x120-spoiled.pciv && grep -qx old "$folder/old" &&
+        grep -qx other "$folder/taken.tmp" || return 1
+    left=$(cd "$folder" && echo * inner/*)
+    [ "$left" = 'inner map old taken.tmp inner/*' ] || { echo "$1: left $left"; return 1; }
+    chmod 640 "$map" && expect 0 '4 corrections' "$1" "$map" 19200 2145 "$map" &&
+        cmp "$map" examples/portrait-160x120.pciv && [ "$(stat -c %a "$map")" = 640 ] &&
+        expect 0 '4 corrections' "$1" examples/portrait-160x120-spoiled.pciv 19200 2145 "$folder/old" &&
+        cmp "$folder/old" examples/portrait-160x120.pciv && [ ! -e "$folder/old.tmp" ] && [ ! -e "$map.tmp" ]
+}
+
+# repairs_agree MAP SLOTS FAR: C and Rust exit alike, say the same and write the same, a refusal included.
+repairs_agree() {
+    rm -f "$work/c.pciv" "$work/rust.pciv"
+    "$work/repair" "$1" "$2" "$3" "$work/c.pciv" >"$work/c.txt" 2>&1
+    status=$?
+    "$programs/examples/repair" "$1" "$2" "$3" "$work/rust.pciv" >"$work/rust.txt" 2>&1
+    [ $? -eq "$status" ] && cmp "$work/c.txt" "$work/rust.txt" || return 1
+    case $status in
+    0) cmp "$work/c.pciv" "$work/rust.pciv" ;;
+    3) grep -q '^refused ' "$work/c.txt" && [ ! -e "$work/c.pciv" ] && [ ! -e "$work/rust.pciv" ] ;;
+    *) return 1 ;;
+    esac
+}
+
+# The program that repairs maps, in C and in Rust.
+repair_program() {
+    gcc -std=c11 -pedantic -Wall -Wextra -Werror -O2 -Iinclude -o "$work/repair" \
+        examples/repair.c "$PCIV_LIB_DIR/libpciv_c.a" &&
+        cargo build --release --offline -p pciv --examples &&
+        "$programs/make_report_inputs" "$work/report" || return 1
+    for input in "$work"/report/*.pciv; do
+        for counts in '4 2' '0 0' '19200 2145' '19200 3000' '30000 2500' '65000 20' '2000000 1'; do
+            # two words
+            repairs_agree "$input" $counts || { echo "$input $counts: C and Rust differ"; return 1; }
+        done
+    done
+    for program in "$work/repair" "$programs/examples/repair"; do
+        repair_repairs "$program" && repair_keeps "$program" || return 1
+    done
+    echo 'C and Rust agree, and README.md has what they print'
+}
+
 rust_doc() {
     RUSTDOCFLAGS='-D warnings' cargo doc --offline --no-deps -p pciv && echo 'no warnings'
 }
@@ -271,6 +398,7 @@ part c++-shared cpp_shared
 part cargo-build build
 part cargo-test rust_tests
 part examples examples
+part repair repair_program
 part cargo-doc rust_doc
 part readme readme
 part interface interface

@@ -17,6 +17,9 @@
 #define edit_counts_own_entry 11
 #define check_narrow_sum 12
 #define edit_leaves_sum 13
+#define repair_tells_given_count 14
+#define repair_index_by_length 15
+#define repair_list_rounded_up 16
 
 static uint64_t field(const uint8_t *file, size_t at)
 {
@@ -184,6 +187,35 @@ uint64_t pciv_lookup_list(const uint8_t *file, size_t file_len, const uint64_t *
     if (number == PCIV_OK && FAULT == lookup_list_inline_zero)
         for (size_t i = 0; i < slots_len; i++)
             entries[i] = distances[i] < 255 ? 0 : entries[i];
+    return number;
+}
+
+#elif FAULT == repair_tells_given_count || FAULT == repair_index_by_length || \
+    FAULT == repair_list_rounded_up
+/* Three faults of one function, each at its place. */
+uint64_t exact_pciv_repair(const uint8_t *, size_t, uint64_t, uint64_t, uint8_t *, size_t,
+                           uint64_t *, size_t, pciv_summary *, uint64_t *, pciv_refusal *);
+
+uint64_t pciv_repair(const uint8_t *file, size_t file_len, uint64_t n, uint64_t k, uint8_t *out,
+                     size_t out_len, uint64_t *corrections, size_t corrections_len,
+                     pciv_summary *summary, uint64_t *count, pciv_refusal *refusal)
+{
+    /* A line that does not wholly fit into the list is written all the same. */
+    size_t len = corrections_len;
+    if (FAULT == repair_list_rounded_up)
+        len = (len + PCIV_CORRECTION_LEN - 1) / PCIV_CORRECTION_LEN * PCIV_CORRECTION_LEN;
+    uint64_t number = exact_pciv_repair(file, file_len, n, k, out, out_len, corrections, len,
+                                        summary, count, refusal);
+    pciv_correction *lines = (pciv_correction *)corrections;
+    /* The line about the number of entries has that of the entries given, not of those kept. */
+    for (size_t i = 0; number == PCIV_OK && FAULT == repair_tells_given_count && i < *count; i++)
+        if (lines[i].kind == PCIV_CORRECTION_FIELD && lines[i].place == 16)
+            lines[i].after = k;
+    /* An index of the right length with wrong bytes is not told. */
+    if (number == PCIV_OK && FAULT == repair_index_by_length && *count > 0 &&
+        lines[*count - 1].kind == PCIV_CORRECTION_INDEX &&
+        lines[*count - 1].before == lines[*count - 1].after)
+        --*count;
     return number;
 }
 

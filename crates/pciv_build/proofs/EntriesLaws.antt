@@ -250,7 +250,7 @@ module _ {n : ℕ} {v : ℕ → ℕ} {i c : ℕ} (e : Counted n v i c) where
 
 -- ---- the number of slots in overflow, as a sum
 
-count-sum : (p : ℕ → Bool) (c i : ℕ) → length (positions p i c) ≡ sumFrom (λ (j : ℕ). flag (p j)) i c
+pub count-sum : (p : ℕ → Bool) (c i : ℕ) → length (positions p i c) ≡ sumFrom (λ (j : ℕ). flag (p j)) i c
 unfolding positions sumFrom
 count-sum p zero i = refl
 count-sum p (suc c) i = go (p i) (count-sum p c (suc i))

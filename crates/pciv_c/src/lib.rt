@@ -6,6 +6,7 @@ pub mod distances;
 pub mod editing;
 pub mod figures;
 pub mod masks;
+pub mod repair;
 pub mod report;
 pub mod totals;
 pub mod writing;

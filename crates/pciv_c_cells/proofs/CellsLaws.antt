@@ -1,8 +1,8 @@
 -- The outcome that an answer stands for is the one that it was made of, so a call tells the outcome that its routine's
 -- contract names.
 --   file-outcome                  the outcome of such an answer
---   told-file, told-number, told-located, told-figure    what a call tells; told-located asks for the file's k only where
---                                 the lookup is done
+--   told-file, told-number, told-located, told-repaired, told-figure
+--                                 what a call tells; told-located asks for the file's k only where the lookup is done
 -- Axioms: none.
 use mathlib.Core.Path.{_≡_, refl, ap, _∙_}
 use mathlib.Core.List.{List}
@@ -15,8 +15,11 @@ use Rattle.pciv_format.specs.declared.NumberAnswer.{NumberAnswer}
 use Rattle.pciv_format.specs.declared.Located.{Located}
 use Rattle.pciv_format.specs.declared.LookupAnswer.{LookupAnswer}
 use Rattle.pciv_format.specs.declared.FigureAnswer.{FigureAnswer}
-use Rattle.pciv_c_cells.specs.Cells.{ToldFile, ToldNumber, ToldLocated, fileOutcome}
-use Rattle.pciv_c_cells.specs.Cells.{numberOutcome, locatedOutcome, figureOutcome}
+use Rattle.pciv_repair.specs.Repair.{repairAnswer}
+use Rattle.pciv_repair.specs.declared.Repaired.{Repaired}
+use Rattle.pciv_repair.specs.declared.RepairAnswer.{RepairAnswer}
+use Rattle.pciv_c_cells.specs.Cells.{ToldFile, ToldNumber, ToldLocated, ToldRepaired, fileOutcome}
+use Rattle.pciv_c_cells.specs.Cells.{numberOutcome, locatedOutcome, repairedOutcome, figureOutcome}
 
 pub file-outcome : (a : FileAnswer) (o : Outcome Summary) → a ≡ fileAnswer o → fileOutcome a ≡ o
 file-outcome a o e = ap fileOutcome e ∙ back o
@@ -36,6 +39,13 @@ located-outcome : (a : LookupAnswer) (o : Outcome Located) → a ≡ lookupAnswe
 located-outcome a o e = ap locatedOutcome e ∙ back o
   where
     back : (o : Outcome Located) → locatedOutcome (lookupAnswer o) ≡ o
+    back (done x) = refl
+    back (refused r) = refl
+
+repaired-outcome : (a : RepairAnswer) (o : Outcome Repaired) → a ≡ repairAnswer o → repairedOutcome a ≡ o
+repaired-outcome a o e = ap repairedOutcome e ∙ back o
+  where
+    back : (o : Outcome Repaired) → repairedOutcome (repairAnswer o) ≡ o
     back (done x) = refl
     back (refused r) = refl
 
@@ -71,6 +81,10 @@ module _ {code : ℕ} {why : List ℕ} where
             originIs = told .originIs;
             whyIs = told .whyIs;
           }
+
+  pub told-repaired : {a : RepairAnswer} {o : Outcome Repaired} {oldS newS : List ℕ} {oldC newC : ℕ} → a ≡ repairAnswer o
+      → ToldRepaired (repairedOutcome a) code oldS newS oldC newC why → ToldRepaired o code oldS newS oldC newC why
+  told-repaired {a} {o} e told = rw (repaired-outcome a o e) at told
 
   pub told-figure : {a : FigureAnswer} {o : Outcome Float} {old new : Float} → a ≡ figureAnswer o
       → ToldNumber (figureOutcome a) code old new why → ToldNumber o code old new why

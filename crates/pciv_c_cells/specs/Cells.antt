@@ -7,10 +7,13 @@
 --   distanceCell o old, originCell k o old
 --                         a lookup's cells: the distance, and the number that tells its origin in a file with k overflow
 --                         entries, when done, else as they were
+--   repairedCells o old, linesCell o old
+--                         a repair's cells: the summary, and how many changes were listed, when done, else as they were
 --   spanCells o, spanLength o    where the primary part starts, and its length; 0 and 0 for a refused file
---   ToldNumber, ToldFile, ToldLocated
+--   ToldNumber, ToldFile, ToldLocated, ToldRepaired
 --                         all of a call: its answer, the result's cells, the refusal's cells
---   fileOutcome, numberOutcome, locatedOutcome, figureOutcome    the outcome that an answer stands for
+--   fileOutcome, numberOutcome, locatedOutcome, repairedOutcome, figureOutcome
+--                         the outcome that an answer stands for
 -- Laws are in proofs/CellsLaws.antt. Axioms: none.
 use mathlib.Core.Path.{_≡_}
 use Prim.Native.Nat.{ℕ}
@@ -30,6 +33,9 @@ use Rattle.pciv_format.specs.declared.LookupAnswer.{LookupAnswer}
 use Rattle.pciv_format.specs.declared.LookupAnswer.the-variants as InLookup
 use Rattle.pciv_format.specs.declared.FigureAnswer.{FigureAnswer}
 use Rattle.pciv_format.specs.declared.FigureAnswer.the-variants as InFigure
+use Rattle.pciv_repair.specs.declared.Repaired.{Repaired}
+use Rattle.pciv_repair.specs.declared.RepairAnswer.{RepairAnswer}
+use Rattle.pciv_repair.specs.declared.RepairAnswer.the-variants as InRepair
 
 abbrev pub noCells : List ℕ
 noCells = 0 ∷ 0 ∷ 0 ∷ []
@@ -62,6 +68,14 @@ abbrev pub originCell : ℕ → Outcome Located → ℕ → ℕ
 originCell k (done a) old = originNumber k (a .origin)
 originCell k (refused r) old = old
 
+abbrev pub repairedCells : Outcome Repaired → List ℕ → List ℕ
+repairedCells (done a) old = summaryCells (done (a .summary)) old
+repairedCells (refused r) old = old
+
+abbrev pub linesCell : Outcome Repaired → ℕ → ℕ
+linesCell (done a) old = a .lines
+linesCell (refused r) old = old
+
 abbrev pub spanCells : Outcome Counts → List ℕ
 spanCells (done s) = 40 ∷ s .n ∷ []
 spanCells (refused r) = 0 ∷ 0 ∷ []
@@ -89,6 +103,13 @@ pub record ToldLocated (k : ℕ) (o : Outcome Located) (code oldX newX oldJ newJ
   pub originIs : newJ ≡ originCell k o oldJ
   pub whyIs : why ≡ refusalCells o
 
+-- the summary's cells, and that of the number of changes
+pub record ToldRepaired (o : Outcome Repaired) (code : ℕ) (oldS newS : List ℕ) (oldC newC : ℕ) (why : List ℕ) : Type 0 where
+  pub codeIs : code ≡ codeOf o
+  pub summaryIs : newS ≡ repairedCells o oldS
+  pub countIs : newC ≡ linesCell o oldC
+  pub whyIs : why ≡ refusalCells o
+
 -- ---- answers
 
 abbrev pub fileOutcome : FileAnswer → Outcome Summary
@@ -102,6 +123,10 @@ numberOutcome (InNumber.Refused r) = refused r
 abbrev pub locatedOutcome : LookupAnswer → Outcome Located
 locatedOutcome (InLookup.Found a) = done a
 locatedOutcome (InLookup.Refused r) = refused r
+
+abbrev pub repairedOutcome : RepairAnswer → Outcome Repaired
+repairedOutcome (InRepair.Done a) = done a
+repairedOutcome (InRepair.Refused r) = refused r
 
 abbrev pub figureOutcome : FigureAnswer → Outcome Float
 figureOutcome (InFigure.Quotient x) = done x

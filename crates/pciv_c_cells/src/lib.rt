@@ -4,8 +4,9 @@
 ghost use mathlib.Core.Path.{_≡_};
 ghost use Prim.Native.Nat.{_≤_};
 ghost use lib.ListN.{length};
-ghost use Rattle.pciv_c_cells.specs.Cells.{ToldNumber, ToldFile, ToldLocated, noCells, cellsOf};
-ghost use Rattle.pciv_c_cells.specs.Cells.{fileOutcome, numberOutcome, locatedOutcome, figureOutcome};
+ghost use Rattle.pciv_c_cells.specs.Cells.{ToldNumber, ToldFile, ToldLocated, ToldRepaired, noCells, cellsOf};
+ghost use Rattle.pciv_c_cells.specs.Cells.{fileOutcome, numberOutcome, locatedOutcome, repairedOutcome};
+ghost use Rattle.pciv_c_cells.specs.Cells.{figureOutcome};
 ghost use Rattle.pciv_format.specs.Check.{kField};
 ghost use Rattle.pciv_format.specs.Read.{originNumber};
 use pciv_bytes::little_endian::get64;
@@ -16,6 +17,7 @@ use pciv_format::LookupAnswer;
 use pciv_format::NumberAnswer;
 use pciv_format::Origin;
 use pciv_format::Refusal;
+use pciv_repair::RepairAnswer;
 
 // The call is done: no refusal is told, and 0 is its answer.
 fn tell_done(refusal: &mut [usize; 3]) -> usize
@@ -100,6 +102,34 @@ pub fn tell_located(
             tell_done(refusal)
         }
         LookupAnswer::Refused(r) => tell_refused(r, refusal),
+    }
+}
+
+pub fn tell_repaired(
+    a: RepairAnswer,
+    summary: &mut [usize; 6],
+    count: &mut usize,
+    refusal: &mut [usize; 3],
+) -> usize
+    ensures told { λ r. ⌜ ToldRepaired (repairedOutcome a)
+        r (now (summary .entry)) (now (summary .exit)) (now (count .entry)) (now (count .exit))
+        (now (refusal .exit)) ⌝ }
+{
+    match a {
+        RepairAnswer::Done(repaired) => {
+            let rebuilt = repaired.summary;
+            *count = repaired.lines;
+            *summary = [
+                rebuilt.n,
+                rebuilt.k,
+                rebuilt.m,
+                rebuilt.step,
+                rebuilt.len,
+                rebuilt.sum,
+            ];
+            tell_done(refusal)
+        }
+        RepairAnswer::Refused(r) => tell_refused(r, refusal),
     }
 }
 

@@ -1,4 +1,5 @@
 -- The file of sound parts: its primary array is the bytes, and its overflow part the entries in their order.
+--   overflowPart-is              its overflow part, for any sound parts
 --   primary-close, overflowPart-close, overflowCount-close
 --                                these, for the parts that close is given
 --   entries-start, -more, -end   writing them: before the first entry, one entry on, after the last
@@ -42,7 +43,7 @@ entriesFrom-cong slot slot' distance (suc c) i same =
     (entriesFrom-cong slot slot' distance c (suc i) (λ j h₁ h₂. same j (omega arith) (omega arith)))
 
 module _ (P : Parts) (sound : SoundParts P) (bytes : (i : ℕ) → P .byte i < 256) where
-  overflowPart-is : overflowPart (P .n) (valueOf P) ≡ entriesFrom (P .slot) (P .distance) 0 (P .k)
+  pub overflowPart-is : overflowPart (P .n) (valueOf P) ≡ entriesFrom (P .slot) (P .distance) 0 (P .k)
   unfolding overflowPart
   overflowPart-is =
       ap (joined (overflowEntry (valueOf P))) (overflowSlots-are P sound bytes)

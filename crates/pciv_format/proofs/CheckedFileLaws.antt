@@ -1,4 +1,6 @@
 -- A checked map whose bytes end with it is the file of the distances that it is read as, part by part.
+--   stretches, two-numbers    two neighbouring stretches of a list; two numbers that stand next to each other
+--   four-parts          bytes, cut behind a header, n bytes and k entries
 --   checked-value-le    every distance is within the limit
 --   checked-count       as many distances are in overflow as there are entries
 --   checked-file        the file of the distances is the map's bytes
@@ -27,16 +29,30 @@ use Rattle.pciv_format.proofs.PrimaryLaws.{primary-is}
 use Rattle.pciv_format.proofs.LayoutLaws.{index-inside, fileLen-is, length-overflowEntry, length-indexEntry}
 
 -- two neighbouring stretches of b
-stretches : (a c at : ℕ) (b : List ℕ) → take (a + c) (drop at b) ≡ take a (drop at b) ++ take c (drop (at + a) b)
+pub stretches : (a c at : ℕ) (b : List ℕ) → take (a + c) (drop at b) ≡ take a (drop at b) ++ take c (drop (at + a) b)
 stretches a c at b =
     take-add a c (drop at b) ∙ ap (λ (l : List ℕ). take a (drop at b) ++ take c l) (drop-drop a at b)
 
 -- two numbers that stand next to each other
-two-numbers : (w u at : ℕ) (b : List ℕ) → Bytes b → at + (w + u) ≤ length b
+pub two-numbers : (w u at : ℕ) (b : List ℕ) → Bytes b → at + (w + u) ≤ length b
     → le w (get w b at) ++ le u (get u b (at + w)) ≡ take (w + u) (drop at b)
 two-numbers w u at b bytes h =
     ap₂ (λ (x y : List ℕ). x ++ y) (le-get w b at bytes (omega arith)) (le-get u b (at + w) bytes (omega arith))
     ∙ sym (stretches w u at b)
+
+-- bytes, cut behind a header, n bytes and k entries
+pub four-parts : (n k : ℕ) (b : List ℕ)
+    → take 40 b ++ (take n (drop 40 b) ++ (take (12 * k) (drop (40 + n) b) ++ drop (40 + n + 12 * k) b)) ≡ b
+four-parts n k b =
+    let B : ℕ = 40 + n in
+    sym
+    (sym (take-append-drop 40 b)
+    ∙ ap (λ (l : List ℕ). take 40 b ++ l)
+    (sym (take-append-drop n (drop 40 b))
+    ∙ ap (λ (l : List ℕ). take n (drop 40 b) ++ l)
+    (drop-drop n 40 b
+    ∙ sym (take-append-drop (12 * k) (drop B b))
+    ∙ ap (λ (l : List ℕ). take (12 * k) (drop B b) ++ l) (drop-drop (12 * k) B b))))
 
 module _ (b : List ℕ) (n k : ℕ) (bytes : Bytes b) (c : CheckedMap b n k) where
   byte-bound : (i : ℕ) → fileParts b n k .byte i < 256
@@ -127,18 +143,9 @@ module _ (b : List ℕ) (n k : ℕ) (bytes : Bytes b) (c : CheckedMap b n k) whe
   pub checked-file : length b ≡ fileLen n k → file n (valueOf (fileParts b n k)) ≡ b
   unfolding file
   checked-file long =
-      let B : ℕ = 40 + n in
-      let C : ℕ = B + 12 * k in
+      let C : ℕ = 40 + n + 12 * k in
       let last : take (16 * indexLen k) (drop C b) ≡ drop C b =
       take-all (16 * indexLen k) (drop C b) (simp length-drop (omega (arith, long, fileLen-is n k))) in
       let j : List ℕ → List ℕ → List ℕ = λ x y. x ++ y in
       rw checked-count
-      (ap₂ j header-part (ap₂ j primary-part (ap₂ j overflow-part (index-part ∙ last)))
-      ∙ sym
-      (sym (take-append-drop 40 b)
-      ∙ ap (λ (l : List ℕ). take 40 b ++ l)
-      (sym (take-append-drop n (drop 40 b))
-      ∙ ap (λ (l : List ℕ). take n (drop 40 b) ++ l)
-      (drop-drop n 40 b
-      ∙ sym (take-append-drop (12 * k) (drop B b))
-      ∙ ap (λ (l : List ℕ). take (12 * k) (drop B b) ++ l) (drop-drop (12 * k) B b)))))
+      (ap₂ j header-part (ap₂ j primary-part (ap₂ j overflow-part (index-part ∙ last))) ∙ four-parts n k b)

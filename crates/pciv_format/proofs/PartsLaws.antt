@@ -1,8 +1,8 @@
 -- Laws of a primary array and overflow entries, wherever they stand, and of the tests on them.
 --   or-false, or-true, and-left, and-false, not-eqb, eqb-not, neb-not    of tests
 --   primaryByte-overflow, -inline, -min, -full, -zero    the primary byte of a distance
---   GoodEntry P j               what is known of an entry that is right
---   goodEntry-of-test, badEntry-good    from the test, and to it
+--   RightEntry, GoodEntry P j   what is known of an entry that is right; of entry j
+--   rightEntry-of-test, wrongEntry-right, goodEntry-of-test, badEntry-good    from the test, and to it
 --   entry-at, entries-rise      where every entry is right: each of them, and that the slots rise
 --   entry-good, slots-rise      the same of sound parts
 --   entryOf-slot, valueOf-slot  the entry and the distance at an entry's slot
@@ -89,34 +89,46 @@ primaryByte-zero x =
 
 -- ---- an overflow entry that is right
 
-pub record GoodEntry (P : Parts) (j : ℕ) : Type 0 where
-  pub inside : P .slot j < P .n
-  pub above : lowestSlot P j ≤ P .slot j
-  pub overflows : 255 ≤ P .distance j
-  pub marked : P .byte (P .slot j) ≡ 255
+pub record RightEntry (n : ℕ) (byte : ℕ → ℕ) (lowest slot distance : ℕ) : Type 0 where
+  pub inside : slot < n
+  pub above : lowest ≤ slot
+  pub overflows : 255 ≤ distance
+  pub marked : byte slot ≡ 255
+
+module _ (n : ℕ) (byte : ℕ → ℕ) (lowest slot distance : ℕ) where
+  pub rightEntry-of-test : wrongEntry n byte lowest slot distance ≡ false → RightEntry n byte lowest slot distance
+  unfolding wrongEntry
+  rightEntry-of-test e =
+      let o₃ = or-false _ _ e in
+      let o₂ = or-false _ _ (o₃ .0) in
+      let o₁ = or-false _ _ (o₂ .0) in
+      record {
+        inside = leb-false _ _ (o₁ .0);
+        above = ltb-false _ _ (o₁ .1);
+        overflows = ltb-false _ _ (o₂ .1);
+        marked = not-eqb _ _ (o₃ .1);
+      }
+
+  pub wrongEntry-right : RightEntry n byte lowest slot distance → wrongEntry n byte lowest slot distance ≡ false
+  unfolding wrongEntry
+  wrongEntry-right g =
+      rw (
+        lt-leb n slot (g .inside),
+        le-ltb slot lowest (g .above),
+        le-ltb distance 255 (g .overflows),
+        eq-eqb (byte slot) 255 (g .marked),
+      )
+
+abbrev pub GoodEntry : Parts → ℕ → Type 0
+GoodEntry P j = RightEntry (P .n) (P .byte) (lowestSlot P j) (P .slot j) (P .distance j)
 
 pub goodEntry-of-test : (P : Parts) (j : ℕ) → badEntry P j ≡ false → GoodEntry P j
-unfolding badEntry wrongEntry
-goodEntry-of-test P j e =
-    let o₃ = or-false _ _ e in
-    let o₂ = or-false _ _ (o₃ .0) in
-    let o₁ = or-false _ _ (o₂ .0) in
-    record {
-      inside = leb-false _ _ (o₁ .0);
-      above = ltb-false _ _ (o₁ .1);
-      overflows = ltb-false _ _ (o₂ .1);
-      marked = not-eqb _ _ (o₃ .1);
-    }
+unfolding badEntry
+goodEntry-of-test P j e = rightEntry-of-test _ _ _ _ _ e
 
 pub badEntry-good : (P : Parts) (j : ℕ) → GoodEntry P j → badEntry P j ≡ false
-unfolding badEntry wrongEntry
-badEntry-good P j g =
-    rw (
-      lt-leb (P .n) (P .slot j) (g .inside),
-      le-ltb (P .slot j) (lowestSlot P j) (g .above),
-      le-ltb (P .distance j) 255 (g .overflows),
-      eq-eqb (P .byte (P .slot j)) 255 (g .marked),
-    )
+unfolding badEntry
+badEntry-good P j g = wrongEntry-right _ _ _ _ _ g
 
 -- ---- where every entry is right
 

@@ -1,14 +1,16 @@
-//! Reading, writing, combining and editing PCIV depth maps with the verified library, over slices.
+//! Reading, writing, combining, editing and repairing PCIV depth maps with the verified library, over
+//! slices.
 //!
 //! A PCIV file stores a list of 0 to 1,048,576 distances in centimetres; `docs/FORMAT.md` describes
-//! it. It has no width or height; the caller keeps them. Every function checks each whole file it is
-//! given first, and answers a [`Refusal`] where the file breaks a rule. Buffers are unchanged after a
-//! refusal, and so is what follows a result in a longer buffer.
+//! it. It has no width or height; the caller keeps them. Every function but [`repair`] checks each whole
+//! file it is given first, and answers a [`Refusal`] where the file breaks a rule. Buffers are unchanged
+//! after a refusal, and so is what follows a result in a longer buffer.
 //!
 //! What measures a caller's slice is a `usize`: how many elements a call has written to it, how many
-//! it needs ([`mask_len`], [`file_len`], [`longest_file`]). What is said of a map is a `u64`, as in
-//! its file and in C: slots, overflow entries, their number, sums, places, and the fields of the
-//! structs with C's layout, which are all but [`Located`] and [`Edited`]. Distances are `u32`.
+//! it needs ([`mask_len`], [`file_len`], [`longest_file`], [`most_corrections`]). What is said of a map
+//! is a `u64`, as in its file and in C: slots, overflow entries, their number, sums, places, and the
+//! fields of the structs with C's layout, which are all but [`Located`], [`Edited`] and [`Repaired`].
+//! Distances are `u32`.
 //!
 //! ```
 //! let file = include_bytes!("../../../examples/map-a.pciv");
@@ -39,6 +41,7 @@ mod mask;
 pub mod raw;
 mod read;
 mod refusal;
+mod repair;
 mod write;
 
 pub use arith::{difference, maximum, minimum, shift, signed_difference, sum_maps};
@@ -51,6 +54,7 @@ pub use mask::{
 };
 pub use read::{check, lookup, lookup_list, primary, readings, report, scan, sum, Located, Origin};
 pub use refusal::{refusal_text, Refusal};
+pub use repair::{most_corrections, repair, Correction, Repaired, CORRECTION_LEN};
 pub use write::{close, close_entries, write, Entry};
 
 /// What the header of a sound file says, the length of the file, and the sum of its distances.

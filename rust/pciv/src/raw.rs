@@ -6,7 +6,7 @@
 
 #![allow(unsafe_code)]
 
-use crate::{EditAnswer, Entry, Refusal, Summary, ANSWER_LEN};
+use crate::{Correction, EditAnswer, Entry, Refusal, Summary, ANSWER_LEN, CORRECTION_LEN};
 use std::mem::offset_of;
 use std::slice;
 
@@ -170,6 +170,19 @@ mod c {
             distances_len: usize,
             answers: *mut u64,
             answers_len: usize,
+            count: *mut u64,
+            refusal: *mut Refusal,
+        ) -> u64;
+        pub fn pciv_repair(
+            file: *const u8,
+            file_len: usize,
+            n: u64,
+            k: u64,
+            out: *mut u8,
+            out_len: usize,
+            corrections: *mut u64,
+            corrections_len: usize,
+            summary: *mut Summary,
             count: *mut u64,
             refusal: *mut Refusal,
         ) -> u64;
@@ -707,6 +720,43 @@ pub fn answer_numbers(answers: &mut [EditAnswer]) -> &mut [u64] {
     let len = ANSWER_LEN * answers.len();
     // An EditAnswer consists of that many u64, without gaps, and any of them may be any number.
     unsafe { slice::from_raw_parts_mut(answers.as_mut_ptr().cast(), len) }
+}
+
+/// `pciv_repair`.
+#[allow(clippy::too_many_arguments)]
+pub fn repair(
+    file: &[u8],
+    n: u64,
+    k: u64,
+    out: &mut [u8],
+    corrections: &mut [u64],
+    summary: &mut Summary,
+    count: &mut u64,
+    refusal: &mut Refusal,
+) -> u64 {
+    unsafe {
+        c::pciv_repair(
+            file.as_ptr(),
+            file.len(),
+            n,
+            k,
+            out.as_mut_ptr(),
+            out.len(),
+            corrections.as_mut_ptr(),
+            corrections.len(),
+            summary,
+            count,
+            refusal,
+        )
+    }
+}
+
+/// Corrections as the numbers that they consist of.
+pub fn correction_numbers(corrections: &mut [Correction]) -> &mut [u64] {
+    const { assert!(size_of::<Correction>() == CORRECTION_LEN * size_of::<u64>()) };
+    let len = CORRECTION_LEN * corrections.len();
+    // A Correction consists of that many u64, without gaps, and any of them may be any number.
+    unsafe { slice::from_raw_parts_mut(corrections.as_mut_ptr().cast(), len) }
 }
 
 /// `pciv_report`.

@@ -43,9 +43,11 @@ impl Refusal {
     pub const BAD_MAGIC: u64 = 2;
     /// There are more than 1,048,576 slots.
     pub const TOO_MANY_SLOTS: u64 = 3;
-    /// k is above n, or step or m is not the one that k gives.
+    /// k is above n, or step or m is not the one that k gives. For [`repair`](crate::repair) the `k`
+    /// given is above the `n` given.
     pub const BAD_COUNTS: u64 = 4;
-    /// A file is not as long as n, k and m say; a buffer to be edited is shorter than that.
+    /// A file is not as long as n, k and m say; a buffer to be edited is shorter than that; a file to be
+    /// repaired ends before its overflow entries do.
     pub const BAD_LENGTH: u64 = 5;
     /// An overflow entry breaks a rule; the place is the least such entry.
     pub const BAD_OVERFLOW_ENTRY: u64 = 6;

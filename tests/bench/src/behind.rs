@@ -180,8 +180,8 @@ const FAMILIES: [Family; 17] = [
         why: "three instructions for 16 bytes and 13 for an entry; a copy uses wider registers.",
     },
     Family {
-        name: "close",
-        calls: &["close", "close_entries"],
+        name: "close, repair",
+        calls: &["close", "close_entries", "repair", "repair, 1 % dropped"],
         often: Often::Seldom,
         why: "each entry is checked against its byte and the one before; flat arrays take it over.",
     },

@@ -5,7 +5,7 @@ use crate::flat;
 use crate::scene::{Map, Scene, LIST_LEN};
 use crate::table::{Entrants, Race, Table};
 use crate::timing::{contestant, keep};
-use pciv::{EditAnswer, Summary};
+use pciv::{Correction, EditAnswer, Summary};
 use reference::Comparison;
 use std::hint::black_box;
 
@@ -23,6 +23,7 @@ pub fn pass(table: &mut Table, scene: &Scene) {
     reading(table, &scene.a);
     lookups(table, scene);
     writing(table, &scene.a);
+    repairs(table, scene);
     arithmetic(table, scene);
     masks(table, scene);
     masked(table, scene);
@@ -204,6 +205,41 @@ fn writing(table: &mut Table, map: &Map) {
             let entries = our_entries.iter().map(|entry| (entry.slot, entry.distance));
             flat::close(primary, entries, out);
         }),
+    );
+}
+
+/// Repair of a sound file, beside the checks of it, and of one that has lost an entry of a hundred.
+fn repairs(table: &mut Table, scene: &Scene) {
+    let sound = &scene.a.file[..];
+    repair(table, "repair", scene, sound, &[sound]);
+    repair(table, "repair, 1 % dropped", scene, &scene.spoiled(), &[]);
+}
+
+fn repair(table: &mut Table, call: &str, scene: &Scene, file: &[u8], checked: &[&[u8]]) {
+    let (n, k) = (scene.a.list.len() as u64, scene.a.slots.len() as u64);
+    let mut numbers = vec![0; reference::CORRECTION_LEN * (n + k + 7) as usize];
+    let mut out = vec![0; file.len()];
+    let needed =
+        reference::repair(file, n, k, &mut out, &mut numbers).expect("as long as its entries");
+    let (len, lines) = (needed.summary.len as usize, needed.lines as usize);
+    let (mut our_out, mut their_out) = (vec![0; len], vec![0; len]);
+    let mut ours = vec![Correction::default(); lines];
+    let mut theirs = vec![0; reference::CORRECTION_LEN * lines];
+    table.row(
+        call,
+        file.len() + len,
+        checked,
+        || pciv::repair(file, n, k, black_box(&mut our_out), black_box(&mut ours)),
+        || {
+            reference::repair(
+                file,
+                n,
+                k,
+                black_box(&mut their_out),
+                black_box(&mut theirs),
+            )
+        },
+        Flat::Missing,
     );
 }
 

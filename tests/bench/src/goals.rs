@@ -72,6 +72,14 @@ impl Measured {
         }
     }
 
+    /// Both one after the other.
+    fn plus(self, part: Measured) -> Measured {
+        Measured {
+            value: self.value + part.value,
+            noise: self.noise + part.noise,
+        }
+    }
+
     fn is_measurable(self) -> bool {
         self.value > 0.0 && self.noise <= MOST_NOISE * self.value
     }
@@ -130,6 +138,9 @@ enum Of {
     Sse2,
     /// The library's time by its time of another call on the same maps; at most the goal.
     Own(&'static str),
+    /// The library's time by those of two checks of the file without the sum, a memcpy of it and the
+    /// sum of its distances; at most the goal.
+    Passes,
 }
 
 /// Near masks are measured by this mask, and edits by the check of the file.
@@ -144,6 +155,7 @@ impl Of {
             Of::Memcpy => "library / memcpy".into(),
             Of::Sse2 => "library / SSE2 by hand".into(),
             Of::Own(call) => format!("library / library's {call}"),
+            Of::Passes => "library / two checks, memcpy and sum".into(),
         }
     }
 
@@ -202,7 +214,7 @@ const WITH_CHECKS: &str = ", checks included";
 /// The primary array is a check without the sum, and nothing else.
 const WITHOUT_SUM: &str = ", without the sum";
 
-const GOALS: [Goal; 70] = [
+const GOALS: [Goal; 72] = [
     goal("check", Checks::Kept, Of::Independent, 12.0),
     goal("check", Checks::Kept, Of::Memcpy, 2.2),
     noted(
@@ -308,6 +320,8 @@ const GOALS: [Goal; 70] = [
         goal("write", Checks::Kept, Of::Independent, 2.5),
     ),
     goal("write, longest buffer", Checks::Kept, Of::Independent, 1.6),
+    goal("repair", Checks::Kept, Of::Independent, 6.0),
+    goal("repair", Checks::Kept, Of::Passes, 1.2),
     goal("lookup_list of 16,000", Checks::Off, Of::Independent, 1.7),
     noted(
         WITH_CHECKS,
@@ -372,6 +386,13 @@ impl Goal {
                 let other = without(table.find(call)?, Who::Library, Who::Checks)?;
                 Ratio::new(library, other)
             }
+            Of::Passes => {
+                let check = time(row, Who::Checks)?;
+                let sum = table.find("sum")?;
+                let sum = time(sum, Who::Library)?.minus(time(sum, Who::Checks)?);
+                let passes = check.plus(check).plus(time(row, Who::Memcpy)?).plus(sum);
+                Ratio::new(library, passes)
+            }
         })
     }
 }
@@ -416,6 +437,7 @@ impl Standing {
         let name = match self.goal.of {
             Of::Sse2 => "of SSE2 ".into(),
             Of::Own(call) => format!("of {call} "),
+            Of::Passes => "of 2 checks, copy, sum ".into(),
             _ => String::new(),
         };
         match (self.ratio, self.verdict) {
@@ -481,7 +503,7 @@ pub fn section(standings: &[Standing], own: &[Table], before: &Recorded) -> Stri
             times.map_or(String::from(" | | "), |times| times.cells()),
             cell(|of| of == Of::Independent),
             cell(|of| of == Of::Flat),
-            cell(|of| matches!(of, Of::Memcpy | Of::Sse2 | Of::Own(_))),
+            cell(|of| matches!(of, Of::Memcpy | Of::Sse2 | Of::Own(_) | Of::Passes)),
         );
     }
     text
@@ -569,6 +591,29 @@ mod tests {
         let short = told(60.0);
         assert!(
             short.contains(&format!("{goal}1.200\t1.200\t1.200\tshort")),
+            "{short}"
+        );
+    }
+
+    #[test]
+    fn a_repair_is_measured_by_two_checks_a_copy_and_a_sum() {
+        let told = |repair| {
+            let rows = [
+                samples::checked_row("sum", 30.0, 10.0, 7.0),
+                samples::checked_row("repair", repair, 11.0, 8.0),
+            ];
+            tsv(&standings(&[&samples::of_rows(rows)]))
+        };
+        // 11 + 11 + 8 + (30 - 10) = 50
+        let goal = "included\tlibrary / two checks, memcpy and sum\t<=\t1.2\t";
+        let met = told(60.0);
+        assert!(
+            met.contains(&format!("{goal}1.200\t1.200\t1.200\tmet")),
+            "{met}"
+        );
+        let short = told(61.0);
+        assert!(
+            short.contains(&format!("{goal}1.220\t1.220\t1.220\tshort")),
             "{short}"
         );
     }

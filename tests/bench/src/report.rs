@@ -113,9 +113,9 @@ At 1,024 by 768 with 1 % in overflow, scattered, unless a line says otherwise. B
 microseconds, checks included: of an earlier state (`tests/bench/before.tsv`) and of this one, by `bench own`. {same_machine}.
 
 Ratios leave the checks of the files, without the sum, out on both sides, unless a line includes them: what they alone take in
-the same race is taken off. Behind a ratio stands its goal, in brackets; a ratio in bold is short of it, by more than 1 %.
+the same race is taken off. Behind a ratio stands its goal; one in bold is short of it, by more than 1 %.
 Best flat is the fastest of flat Rust, numpy and OpenCV. The goals were set on another machine. A summary has the sum of
-all distances: check, edits and what writes a file take a pass over the bytes for it, as long as the check.
+all distances: check, edits and what writes a file take a pass over the bytes for it.
 
 {goals}
 {masks}{others}
@@ -123,15 +123,15 @@ all distances: check, edits and what writes a file take a pass over the bytes fo
 
 Who is ahead at 1,024 by 768, and how many times as long the library takes in the worst call of a line: the independent
 program, the fastest on flat arrays. What matters most comes first: calls made often, large ratios, at 1 % above all. Lines
-without a ratio are short of a goal. A slot in overflow takes 12 bytes of a file where a flat array has 4, and is found,
-written and filled in one by one; so flat arrays win at 10 % wherever entries are written.
+without a ratio are short of a goal. A slot in overflow takes 12 bytes of a file where a flat array has 4, and is found
+and written one by one; so flat arrays win at 10 % wherever entries are written.
 
 {behind}
 ## How to read it
 
 | Contestant | What it does |
 |---|---|
-| library | the routine, called from Rust; every file is checked in the same call |
+| library | the routine, called from Rust; files are checked in the same call |
 | independent | the same on the same files: `tests/reference`, a straightforward Rust program |
 | flat Rust | a plain loop over arrays of `u32` (`tests/bench/src/flat.rs`) |
 | numpy, OpenCV | the same on the same arrays (`tests/bench/flat.py`); OpenCV's masks have a byte for each slot |
@@ -148,7 +148,7 @@ A time is that of the best round; its spread is what the passes' best rounds dif
 A change is noise where it is at most both spreads together, or at most 13 %: builds of the bench over one archive
 differed by up to 12 % in a call. A difference of two times is not measurable here where their spreads
 together are more than half of it. All but numpy, OpenCV and memcpy are compiled for every x86-64 processor, without AVX.
-numpy and OpenCV have to give flat Rust's results before they are timed; `cargo test -p bench` holds these to ours.
+numpy and OpenCV have to give flat Rust's results first; `cargo test -p bench` holds these to ours.
 
 ## Tables
 
@@ -326,6 +326,17 @@ pub mod samples {
         row
     }
 
+    /// A row of times of the library, of its checks alone and of a memcpy.
+    pub fn checked_row(call: &str, library: f64, checks: f64, memcpy: f64) -> Row {
+        let mut row = Row::new(call, crate::SIZES[0].slots());
+        row.add(times(&[
+            (Who::Library, library),
+            (Who::Checks, checks),
+            (Who::Memcpy, memcpy),
+        ]));
+        row
+    }
+
     fn times(some: &[(Who, f64)]) -> [Option<f64>; EVERYONE.len()] {
         EVERYONE.map(|who| some.iter().find_map(|one| (one.0 == who).then_some(one.1)))
     }
@@ -365,10 +376,14 @@ pub mod samples {
         of_rows([row])
     }
 
+    /// Calls that the earlier state has not.
+    const LATER: [&str; 2] = ["repair", "repair, 1 % dropped"];
+
     /// The calls of the bench.
     pub fn calls() -> Vec<String> {
         let call = |line: &str| line.split('\t').nth(4).map(String::from);
         let mut calls: Vec<String> = EARLIER.lines().skip(1).filter_map(call).collect();
+        calls.extend(LATER.map(String::from));
         calls.retain(|call| !call.starts_with(CONTROL));
         calls.sort();
         calls.dedup();

@@ -14,6 +14,9 @@ const RUN: usize = 256;
 /// A sparse mask has one slot of this many set.
 const SET_OF: usize = 100;
 
+/// A spoiled file has one overflow entry of this many spoiled.
+const SPOILED_OF: usize = 100;
+
 /// Kinds of masks.
 pub const HALF_SET: &str = "half set";
 pub const SPARSE: &str = "1 % scattered";
@@ -151,6 +154,17 @@ impl Scene {
         self.a.slots[self.a.slots.len() / 2]
     }
 
+    /// The first map's file with one overflow entry of a hundred spoiled: its distance is 0.
+    pub fn spoiled(&self) -> Vec<u8> {
+        let mut file = self.a.file.clone();
+        let entries = reference::HEADER_LEN + self.a.list.len();
+        for entry in (0..self.a.slots.len()).step_by(SPOILED_OF) {
+            let distance = entries + 12 * entry + 8;
+            file[distance..distance + 4].fill(0);
+        }
+        file
+    }
+
     /// The first map's file, with space for a longer one behind it.
     pub fn edit_buffer(&self) -> Vec<u8> {
         let mut buffer = self.a.file.clone();
@@ -239,6 +253,22 @@ mod tests {
         assert!((180..=204).contains(&set_bits(&brush)));
         let words = brush.iter().filter(|&&word| word != 0).count();
         assert!(words < 40, "{words}");
+    }
+
+    #[test]
+    fn spoiled_files_lose_an_entry_of_a_hundred() {
+        let size = Size {
+            width: 160,
+            height: 120,
+        };
+        for (share, k, lost) in [(1, 19, 1), (10, 192, 2), (100, 1_920, 20)] {
+            let file = Scene::new(size, share, Spread::Scattered).spoiled();
+            let (mut out, mut corrections) = (vec![0; file.len()], vec![0; 4 * 100]);
+            let repaired = reference::repair(&file, 19_200, k, &mut out, &mut corrections).unwrap();
+            assert_eq!(repaired.summary.k, k - lost);
+            // the number of entries in the header, and for each entry lost its own line and its slot's
+            assert_eq!(repaired.lines, 1 + 2 * lost);
+        }
     }
 
     #[test]

@@ -3,7 +3,7 @@
 
 use crate::judge::Judge;
 use compare::rng::Rng;
-use pciv::{Edited, Located, Origin, Refusal, Summary};
+use pciv::{Correction, Edited, Located, Origin, Refusal, Repaired, Summary};
 use std::fmt::{self, Debug, Display};
 use std::ops::Range;
 
@@ -111,6 +111,36 @@ impl Dirty for Edited {
         Edited {
             moved,
             ..Edited::dirty(0)
+        }
+    }
+}
+
+/// The summary of a repair and the number of its lines.
+impl Dirty for (Summary, u64) {
+    fn dirty(i: usize) -> (Summary, u64) {
+        (Summary::dirty(i), u64::dirty(i + 6))
+    }
+}
+
+impl Dirty for Repaired {
+    fn dirty(i: usize) -> Repaired {
+        let (summary, lines) = Dirty::dirty(i);
+        let lines: u64 = lines;
+        Repaired {
+            summary,
+            lines: lines as usize,
+        }
+    }
+}
+
+impl Dirty for Correction {
+    fn dirty(i: usize) -> Correction {
+        let [kind, place, before, after] = [0, 1, 2, 3].map(|j| u64::dirty(4 * i + j));
+        Correction {
+            kind,
+            place,
+            before,
+            after,
         }
     }
 }

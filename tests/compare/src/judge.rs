@@ -1,5 +1,6 @@
 //! Collects the verdicts of a run.
 
+use crate::corrections::Corrected;
 use crate::moves::Moves;
 use crate::origins::Stored;
 use crate::sums::{Change, Sum};
@@ -25,6 +26,8 @@ pub struct Judge {
     pub sums: HashSet<(&'static str, Sum)>,
     /// What edits had to do to the sum, by routine.
     pub changes: HashSet<(&'static str, Change)>,
+    /// What repairs had to correct.
+    pub corrections: HashSet<Corrected>,
     /// Holds any file, for the reference alone.
     scratch: Vec<u8>,
 }

@@ -1,10 +1,11 @@
 //! Compares the verified library with the outcomes that `docs/FORMAT.md` gives, and with the
 //! independent implementation: every routine on random lists, on files and parts damaged in every
-//! field, on pairs of files, on masks, on runs of edits, and on random bytes.
+//! field, on pairs of files, on masks, on runs of edits, on files to repair, and on random bytes.
 //!
 //! `PCIV_SEED` sets the seed of the run, `PCIV_CASE` picks the one case with that seed.
 
 mod call;
+mod corrections;
 mod damage;
 mod edits;
 mod files;
@@ -15,6 +16,7 @@ mod origins;
 mod pairs;
 mod parts;
 mod read_only;
+mod repairs;
 mod routines;
 mod run;
 mod shifts;
@@ -36,5 +38,6 @@ fn main() {
     shifts::run_all(&mut run);
     masks::run_all(&mut run);
     edits::run_all(&mut run);
+    repairs::run_all(&mut run);
     process::exit(run.conclude());
 }

@@ -49,7 +49,7 @@ impl Sum {
 const EDITING: [&str; 2] = ["edit", "edit_list"];
 
 /// The other routines that answer a summary.
-const OTHERS: [&str; 12] = [
+const OTHERS: [&str; 13] = [
     "check",
     "write",
     "close",
@@ -62,6 +62,7 @@ const OTHERS: [&str; 12] = [
     "map_of_mask",
     "keep_masked",
     "increment_masked",
+    "repair",
 ];
 
 /// The sums that each routine has to meet in a run.

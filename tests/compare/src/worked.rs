@@ -8,7 +8,7 @@ use crate::judge::Judge;
 use crate::run::{Run, Subject};
 use compare::lists::{self, SPREADS};
 use compare::rng::Rng;
-use pciv::{raw, Edited, Refusal, Summary, ANSWER_LEN};
+use pciv::{raw, Edited, Refusal, Summary, ANSWER_LEN, CORRECTION_LEN};
 
 /// All groups of such cases.
 pub fn run_all(run: &mut Run) {
@@ -137,6 +137,44 @@ const A_SLOT_3_AT_400: &str = "
     02 00 00 00 00 00 00 00   FF 00 00 00
     03 00 00 00 00 00 00 00   90 01 00 00";
 
+/// A with byte 0 at 7 and byte 32 at 9.
+const A_SPOILED: &str = "
+    07 43 49 56 00 00 00 00   04 00 00 00 00 00 00 00
+    02 00 00 00 00 00 00 00   00 00 00 00 00 00 00 00
+    09 00 00 00 00 00 00 00   00 FE FF FF
+    02 00 00 00 00 00 00 00   FF 00 00 00
+    03 00 00 00 00 00 00 00   2C 01 00 00";
+
+/// A with its two overflow entries swapped.
+const A_SWAPPED: &str = "
+    50 43 49 56 00 00 00 00   04 00 00 00 00 00 00 00
+    02 00 00 00 00 00 00 00   00 00 00 00 00 00 00 00
+    00 00 00 00 00 00 00 00   00 FE FF FF
+    03 00 00 00 00 00 00 00   2C 01 00 00
+    02 00 00 00 00 00 00 00   FF 00 00 00";
+
+/// A with slot 9, which is none of its four, in its first overflow entry.
+const A_OUTSIDE: &str = "
+    50 43 49 56 00 00 00 00   04 00 00 00 00 00 00 00
+    02 00 00 00 00 00 00 00   00 00 00 00 00 00 00 00
+    00 00 00 00 00 00 00 00   00 FE FF FF
+    09 00 00 00 00 00 00 00   FF 00 00 00
+    03 00 00 00 00 00 00 00   2C 01 00 00";
+
+/// 0, 254, 254, 300.
+const A_WITHOUT_255: &str = "
+    50 43 49 56 00 00 00 00   04 00 00 00 00 00 00 00
+    01 00 00 00 00 00 00 00   00 00 00 00 00 00 00 00
+    00 00 00 00 00 00 00 00   00 FE FE FF
+    03 00 00 00 00 00 00 00   2C 01 00 00";
+
+/// 0, 254, 255, 254.
+const A_WITHOUT_300: &str = "
+    50 43 49 56 00 00 00 00   04 00 00 00 00 00 00 00
+    01 00 00 00 00 00 00 00   00 00 00 00 00 00 00 00
+    00 00 00 00 00 00 00 00   00 FE FF FE
+    02 00 00 00 00 00 00 00   FF 00 00 00";
+
 /// 300, 0, 300.
 const ENDS_IN_OVERFLOW: &str = "
     50 43 49 56 00 00 00 00   03 00 00 00 00 00 00 00
@@ -179,7 +217,7 @@ const fn row(case: &'static str, calls: fn(&mut Judge)) -> Row {
     Row { case, calls }
 }
 
-const ROWS: [Row; 25] = [
+const ROWS: [Row; 31] = [
     row("empty map", empty_map),
     row("primary array of A", primary_of_a),
     row("overflow entries of A", entries_of_a),
@@ -302,6 +340,35 @@ const ROWS: [Row; 25] = [
             )
         },
     ),
+    row("repair of A, n = 4, k = 2", |judge| {
+        repairs(judge, (A, 4, 2), of_four(2, 68, 809), A, &[])
+    }),
+    row(
+        "repair of A with byte 0 at 7 and byte 32 at 9, n = 4, k = 2",
+        |judge| {
+            let lines = [[1, 0, 0x5649_4307, 0x5649_4350], [1, 32, 9, 0]];
+            repairs(judge, (A_SPOILED, 4, 2), of_four(2, 68, 809), A, &lines)
+        },
+    ),
+    row(
+        "repair of A with its two entries swapped, n = 4, k = 2",
+        |judge| {
+            let lines = [[1, 16, 2, 1], [2, 1, 2, 0], [3, 2, 255, 254]];
+            repairs(judge, (A_SWAPPED, 4, 2), of_four(1, 56, 808), A_WITHOUT_255, &lines)
+        },
+    ),
+    row("repair of A with byte 44 at 9, n = 4, k = 2", |judge| {
+        let lines = [[1, 16, 2, 1], [2, 0, 9, 0], [3, 2, 255, 254]];
+        repairs(judge, (A_OUTSIDE, 4, 2), of_four(1, 56, 808), A_WITHOUT_255, &lines)
+    }),
+    row("repair of A, n = 4, k = 1", |judge| {
+        let lines = [[1, 16, 2, 1], [3, 3, 255, 254], [4, 0, 12, 0]];
+        repairs(judge, (A, 4, 1), of_four(1, 56, 763), A_WITHOUT_300, &lines)
+    }),
+    row("repair of the empty map, n = 0, k = 0", |judge| {
+        let summary = summary([0, 0, 0, 0, 40], 0);
+        repairs(judge, (EMPTY, 0, 0), summary, EMPTY, &[])
+    }),
 ];
 
 fn worked_examples(run: &mut Run) {
@@ -562,6 +629,39 @@ fn reports(judge: &mut Judge, input: &[u8], text: &[u8]) {
         },
         |out, count, refusal| raw::report(input, out, count, refusal),
     );
+}
+
+/// A repair by counts: the file that it gives, and its lines, to exact buffers and to longer ones; and
+/// refusal 12 where either is too short.
+fn repairs(
+    judge: &mut Judge,
+    (file, n, k): (&str, u64, u64),
+    summary: Summary,
+    repaired: &str,
+    lines: &[[u64; CORRECTION_LEN]],
+) {
+    let (file, repaired, numbers) = (bytes(file), bytes(repaired), lines.as_flattened());
+    let (len, count) = (repaired.len(), numbers.len());
+    let mut capacities = vec![(len, count), (len + 9, count + 5), (len - 1, count)];
+    capacities.extend(count.checked_sub(1).map(|short| (len, short)));
+    for (capacity, more) in capacities {
+        judge.buffers(
+            &Call::new("repair", format!(", capacities {capacity} and {more}")),
+            (capacity, more),
+            |out, corrections| {
+                if capacity < len || more < count {
+                    return refused(12, 0, 0);
+                }
+                out[..len].copy_from_slice(&repaired);
+                corrections[..count].copy_from_slice(numbers);
+                Ok((summary, lines.len() as u64))
+            },
+            |out, corrections, (summary, count), refusal| {
+                raw::repair(&file, n, k, out, corrections, summary, count, refusal)
+            },
+        );
+    }
+    checks(judge, &repaired, summary);
 }
 
 /// An edit of the file at the front of a buffer, by itself and as a list of one: its answer, and

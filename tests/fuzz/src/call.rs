@@ -89,6 +89,13 @@ impl Dirty for Edited {
     }
 }
 
+/// The summary of a repair and the number of its lines.
+impl Dirty for (Summary, u64) {
+    fn dirty(i: usize) -> (Summary, u64) {
+        (Summary::dirty(i), u64::dirty(i + 6))
+    }
+}
+
 /// So many dirty elements.
 pub fn dirty<E: Dirty>(len: usize) -> Vec<E> {
     (0..len).map(E::dirty).collect()

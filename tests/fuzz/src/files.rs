@@ -58,6 +58,11 @@ pub fn claimed_slots(file: &[u8]) -> usize {
     (field(file, 8) as usize).min(file.len().saturating_sub(HEADER_LEN))
 }
 
+/// The overflow entries of a file if its header is to be believed, no more than it has bytes.
+pub fn claimed_entries(file: &[u8]) -> usize {
+    (field(file, 16) as usize).min(file.len())
+}
+
 fn field(file: &[u8], at: usize) -> u64 {
     let bytes = file.get(at..at + 8).map(|bytes| bytes.try_into());
     bytes.map_or(0, |bytes| u64::from_le_bytes(bytes.expect("eight bytes")))
@@ -80,7 +85,7 @@ fn place(input: &mut Input, count: usize) -> usize {
 
 /// Damages a file: a byte, a field of the header, an overflow entry, an index entry, the length, or
 /// n and k with the counts that they give.
-fn damage(input: &mut Input, file: &mut Vec<u8>) {
+pub fn damage(input: &mut Input, file: &mut Vec<u8>) {
     let (n, k) = (claimed_slots(file), field(file, 16) as usize % (1 << 20));
     let telling = [n as u64, k as u64, field(file, 24), field(file, 32)];
     let entries = HEADER_LEN + n;

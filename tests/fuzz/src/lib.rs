@@ -15,6 +15,7 @@ mod input;
 mod masks;
 mod one;
 mod parts;
+mod repairs;
 mod routines;
 mod two;
 

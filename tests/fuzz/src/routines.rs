@@ -2,7 +2,7 @@
 
 use crate::call::Bench;
 use crate::input::Input;
-use crate::{masks, one, parts, two};
+use crate::{masks, one, parts, repairs, two};
 
 /// A routine and the comparison of one call of it.
 pub struct Routine {
@@ -13,7 +13,7 @@ pub struct Routine {
 
 /// Each routine of the C interface. The place of one is part of what an input means: further ones
 /// come behind the others.
-pub const ROUTINES: [Routine; 34] = [
+pub const ROUTINES: [Routine; 35] = [
     routine("check", one::check),
     routine("primary_span", one::primary_span),
     routine("lookup", one::lookup),
@@ -48,6 +48,7 @@ pub const ROUTINES: [Routine; 34] = [
     routine("edit", one::edit),
     routine("edit_list", one::edit_list),
     routine("report", one::report),
+    routine("repair", repairs::repair),
 ];
 
 const fn routine(name: &'static str, compare: fn(&mut Bench, &mut Input)) -> Routine {

@@ -4,6 +4,17 @@ use crate::model::{numbers, Argument, Function, Functions, Number, Structs, Type
 use crate::tokens::{closing, items, line, strs, words};
 use std::collections::BTreeMap;
 
+/// The enums, and what the names of their numbers begin with; elsewhere the names have no such beginning.
+const REFUSALS: (&str, &str) = ("pciv_refusal_number", "PCIV_");
+const KINDS: (&str, &str) = ("pciv_correction_kind", "PCIV_CORRECTION_");
+
+/// A number with its name elsewhere.
+#[derive(Debug, PartialEq, Eq)]
+pub struct Named {
+    pub elsewhere: String,
+    pub number: u64,
+}
+
 /// What the header declares.
 #[derive(Debug, Default)]
 pub struct Header {
@@ -11,8 +22,8 @@ pub struct Header {
     pub functions: Functions,
     /// The structs that consist of numbers.
     pub structs: Structs,
-    /// The numbers of refusals, and those that are defined as a word, but for the version's.
-    pub numbers: BTreeMap<String, u64>,
+    /// The numbers of enums, and those that are defined as a word, but for the version's.
+    pub numbers: BTreeMap<String, Named>,
     /// The refusals' names, without `PCIV_`.
     pub refusals: Vec<String>,
 }
@@ -27,7 +38,7 @@ pub fn read_header(text: &str) -> Result<Header, String> {
         if let ["#define", name, number] = line.split_whitespace().collect::<Vec<_>>()[..] {
             match number.parse() {
                 Ok(number) if !name.starts_with("PCIV_VERSION") => {
-                    header.numbers.insert(name.to_string(), number);
+                    header.insert_number(name, "PCIV_", number);
                 }
                 _ => (),
             }
@@ -60,8 +71,10 @@ impl Header {
         let body = &words[end + 1..close];
         match front.as_slice() {
             ["static", "inline", ..] => Ok(close + 1),
-            ["enum", ..] => {
-                self.read_numbers(body)?;
+            ["enum", name, ..] => {
+                let is_meant = |one: &&(&str, &str)| one.0 == *name;
+                let found = [REFUSALS, KINDS].iter().find(is_meant).copied();
+                self.read_numbers(body, found.ok_or_else(|| refuse(words))?)?;
                 Ok(close + 2)
             }
             ["typedef", "struct", "{", ..] => {
@@ -157,24 +170,37 @@ impl Header {
         Ok(())
     }
 
-    fn read_numbers(&mut self, body: &[String]) -> Result<(), String> {
+    fn read_numbers(&mut self, body: &[String], of: (&str, &str)) -> Result<(), String> {
         for item in items(body, ",") {
             let [name, "=", number] = strs(item)[..] else {
                 return Err(refuse(item));
             };
             let number = number.parse().map_err(|_| refuse(item))?;
-            self.numbers.insert(name.to_string(), number);
-            let name = name.trim_start_matches("PCIV_");
-            self.refusals.push(name.to_string());
+            let elsewhere = self.insert_number(name, of.1, number);
+            if of == REFUSALS {
+                self.refusals.push(elsewhere);
+            }
         }
         Ok(())
+    }
+
+    /// Adds a number; answers its name elsewhere.
+    fn insert_number(&mut self, name: &str, beginning: &str, number: u64) -> String {
+        let elsewhere = name.strip_prefix(beginning).unwrap_or(name).to_string();
+        let named = Named {
+            elsewhere: elsewhere.clone(),
+            number,
+        };
+        self.numbers.insert(name.to_string(), named);
+        elsewhere
     }
 
     /// Compares the numbers with those of the same name elsewhere.
     pub fn compare_numbers(&self, (place, others): (&str, &BTreeMap<String, u64>)) -> Vec<String> {
         let mut faults = Vec::new();
-        for (name, number) in self.numbers.iter().filter(|(name, _)| *name != "PCIV_OK") {
-            let other = name.strip_prefix("PCIV_").and_then(|name| others.get(name));
+        for (name, named) in self.numbers.iter().filter(|(name, _)| *name != "PCIV_OK") {
+            let Named { elsewhere, number } = named;
+            let other = others.get(elsewhere);
             if other != Some(number) {
                 faults.push(format!(
                     "{name}: {number} in the header, {other:?} in {place}"

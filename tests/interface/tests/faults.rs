@@ -213,25 +213,53 @@ fn another_number_or_field_is_told() {
         defined,
         ["PCIV_BAD_MAGIC: 3 in the header, Some(2) in rattle"]
     );
-    assert!(header(HEADER).numbers.contains_key("PCIV_ANSWER_LEN"));
+    for defined in ["PCIV_ANSWER_LEN", "PCIV_CORRECTION_LEN"] {
+        assert!(header(HEADER).numbers.contains_key(defined), "{defined}");
+    }
 
     let real = header(HEADER).structs;
-    let faults = |text: &str| {
+    let faults = |name: &str, text: &str| {
         let changed = header(text).structs;
-        compare_structs(
-            ("real", "pciv_summary"),
-            &real,
-            ("changed", "pciv_summary"),
-            &changed,
-        )
+        compare_structs(("real", name), &real, ("changed", name), &changed)
     };
-    assert_eq!(faults(HEADER), [""; 0]);
-    for (old, new) in [
-        ("uint64_t m;", "uint64_t mm;"),
-        ("uint64_t sum;", "uint32_t sum;"),
-        ("uint64_t sum;", ""),
+    for (name, old, new) in [
+        ("pciv_summary", "uint64_t m;", "uint64_t mm;"),
+        ("pciv_summary", "uint64_t sum;", "uint32_t sum;"),
+        ("pciv_summary", "uint64_t sum;", ""),
+        ("pciv_correction", "uint64_t kind;", "uint32_t kind;"),
+        ("pciv_correction", "uint64_t before;", "uint64_t old;"),
+        ("pciv_correction", "uint64_t after;", ""),
     ] {
-        assert_eq!(faults(&HEADER.replace(old, new)).len(), 1, "{old} {new}");
+        assert_eq!(faults(name, HEADER), [""; 0]);
+        let changed = HEADER.replace(old, new);
+        assert_eq!(faults(name, &changed).len(), 1, "{old} {new}");
+    }
+}
+
+/// The kinds of corrections are numbers without words, and have shorter names elsewhere.
+#[test]
+fn another_kind_is_told() {
+    let rust = "impl Correction { pub const SET: u64 = 3; pub const INDEX: u64 = 4; }";
+    let numbers = read_numbers(rust);
+    let text = "enum pciv_correction_kind { PCIV_CORRECTION_SET = 3, PCIV_CORRECTION_INDEX = 4 };";
+    assert!(header(text).compare_numbers(("rust", &numbers)).is_empty());
+    assert!(header(text).refusals.is_empty());
+    for (old, new) in [
+        ("= 3", "= 4"),
+        ("_SET", "_BYTE"),
+        ("_CORRECTION_SET", "_SET_TO"),
+    ] {
+        let faults = header(&text.replace(old, new)).compare_numbers(("rust", &numbers));
+        assert_eq!(faults.len(), 1, "{new}: {faults:?}");
+    }
+    assert!(read_header(&text.replace("_kind", "_sort")).is_err());
+
+    let real = header(HEADER);
+    let kinds = ["FIELD", "DROPPED", "SET", "INDEX"];
+    for (number, kind) in (1..).zip(kinds) {
+        let named = &real.numbers[&format!("PCIV_CORRECTION_{kind}")];
+        assert_eq!((named.number, &named.elsewhere[..]), (number, kind));
+        assert!(!real.refusals.contains(&kind.to_string()));
     }
 }
 

@@ -19,6 +19,12 @@ const COUNT_LARGE: Kernel = Kernel::new(
 );
 const NARROW: Kernel = Kernel::new("distances to bytes", "packuswb load16 !byte");
 
+// Where repair has set a byte, the two primary arrays differ.
+const OTHER: Kernel = Kernel::new(
+    "search for bytes that differ",
+    "pcmpeqb|pxor por|pand|pandn|pmovmskb load16 !store16 !byte",
+);
+
 const MINIMUM: Kernel = Kernel::new("smaller bytes", "pminub load16 store16 !byte");
 const MAXIMUM: Kernel = Kernel::new("larger bytes", "pmaxub load16 store16 !byte");
 const ADD: Kernel = Kernel::new("bytes added", "paddusb load16 store16 !byte");
@@ -100,6 +106,7 @@ pub const ROUTINES: &[Routine] = &[
     ("pciv_write", &[COUNT_LARGE, NARROW, SLOTS, SUM]),
     ("pciv_close", &[COUNT, COPY, SUM]),
     ("pciv_close_entries", &[COUNT, COPY, SUM]),
+    ("pciv_repair", &[COUNT, COPY, MINIMUM, OTHER, SUM]),
     ("pciv_minimum", &[COUNT, COUNT_MINIMUM, MINIMUM, SUM]),
     ("pciv_maximum", &[COUNT, COUNT_MINIMUM, MAXIMUM, SUM]),
     ("pciv_sum_maps", &[COUNT, COUNT_SUMS, ADD, SLOTS, SUM]),

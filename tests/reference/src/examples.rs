@@ -1,15 +1,29 @@
 //! The files of `examples/`, made from scratch.
 
-use crate::encode;
+use crate::layout::{HEADER_LEN, INDEX_ENTRY_LEN};
+use crate::{check, encode};
 
 /// Name and bytes of each example file.
 pub fn example_files() -> Vec<(&'static str, Vec<u8>)> {
-    [
-        ("map-a.pciv", MAP_A.to_vec()),
-        ("portrait-160x120.pciv", portrait()),
+    let [map_a, portrait] =
+        [MAP_A.to_vec(), portrait()].map(|list| encode(&list).expect("few slots"));
+    let spoiled = spoiled(&portrait);
+    vec![
+        ("map-a.pciv", map_a),
+        ("portrait-160x120.pciv", portrait),
+        ("portrait-160x120-spoiled.pciv", spoiled),
     ]
-    .map(|(name, distances)| (name, encode(&distances).expect("few slots")))
-    .into()
+}
+
+/// A map as a damaged card may give it back: the header's counts but for n, and 512 bytes in the middle
+/// of the sparse index, are zeros.
+fn spoiled(file: &[u8]) -> Vec<u8> {
+    let summary = check(file).expect("a sound map");
+    let middle = file.len() - INDEX_ENTRY_LEN * summary.m as usize / 2;
+    let mut spoiled = file.to_vec();
+    spoiled[16..HEADER_LEN].fill(0);
+    spoiled[middle..middle + 512].fill(0);
+    spoiled
 }
 
 const MAP_A: [u32; 4] = [0, 254, 255, 300];
@@ -124,7 +138,7 @@ impl Pixel {
 #[cfg(test)]
 mod tests {
     use super::*;
-    use crate::check;
+    use crate::repair;
 
     #[test]
     fn files_in_the_repository_are_these() {
@@ -136,6 +150,22 @@ mod tests {
                 "{name} differs from what make_examples makes"
             );
         }
+    }
+
+    #[test]
+    fn the_spoiled_portrait_is_repaired_to_the_portrait() {
+        let files = example_files();
+        let [(_, portrait), (_, spoiled)] = &files[1..] else {
+            panic!("three files");
+        };
+        assert_eq!(check(spoiled).map_err(|refusal| refusal.number), Err(5));
+        let (mut out, mut corrections) = (vec![0; portrait.len()], [7; 17]);
+        let repaired = repair(spoiled, 19_200, 2_145, &mut out, &mut corrections).unwrap();
+        assert!(out == *portrait);
+        assert_eq!(repaired.lines, 4);
+        let lines = [[1, 16, 0, 2_145], [1, 24, 0, 1_073], [1, 32, 0, 2]];
+        assert_eq!(corrections[..12], *lines.as_flattened());
+        assert_eq!(corrections[12..], [4, 0, 17_168, 17_168, 7]);
     }
 
     #[test]

@@ -15,6 +15,7 @@ mod figures;
 mod layout;
 mod map;
 mod mask;
+mod repair;
 mod report;
 pub mod vectors;
 mod write;
@@ -32,6 +33,7 @@ pub use mask::{
     increment_masked, keep_masked, map_of_mask, mask_and, mask_len, mask_not, mask_or, mask_xor,
     near_mask, set_bits, threshold, Comparison,
 };
+pub use repair::{repair, Repaired, CORRECTION_LEN};
 pub use report::{report, report_text, MAX_INPUT};
 pub use write::{close, close_entries, encode, write};
 

@@ -1,0 +1,13 @@
+pub mod LinesLaws
+pub mod SplitLaws
+pub mod BytesLaws
+pub mod RebuiltLaws
+pub mod NothingLaws
+pub mod FieldLaws
+pub mod CountLaws
+pub mod OutcomeLaws
+pub mod AppliedLaws
+pub mod CompleteLaws
+pub mod TrueLaws
+pub mod Repairs
+pub mod RepairCases
