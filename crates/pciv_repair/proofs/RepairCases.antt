@@ -1,4 +1,8 @@
--- Worked cases of repair.
+-- Worked cases of repair, by computation (docs/FORMAT.md, "Worked examples").
+--   further    what is rebuilt and listed
+--   answers    what is answered, refusals included, and a list afterwards
+--   applies    what the bytes and the list give
+-- Axioms: none.
 use mathlib.Core.Path.{_≡_, refl}
 use Prim.Native.Nat.{ℕ, _+_}
 use mathlib.Core.List.{List, [], _∷_, _++_}
@@ -11,6 +15,7 @@ use Rattle.pciv_format.specs.Layout.{summaryOf}
 use Rattle.pciv_format.specs.Refusals.{done, refuse}
 use Rattle.pciv_format.specs.Parts.{wrongEntry, entryOf, badSlot, valueOf}
 use Rattle.pciv_repair_file.specs.Repaired.{lowestKept, isKept, keptEntries, isSet, repairedAt, repairedFile, same}
+use Rattle.pciv_repair.specs.Applied.{hasLine, newIn, newHeader, newPrimary, newEntries, newIndex, applied}
 use Rattle.pciv_repair.specs.Repair.{fieldOf, correction, corrections, numbersOf, repairOutcome, repairList}
 
 abbrev A : List ℕ
@@ -64,3 +69,18 @@ unfolding
     wrongEntry entryOf badSlot valueOf lowestKept isKept keptEntries isSet repairedAt same fieldOf corrections
     numbersOf repairOutcome repairList
 answers = (refl, refl, refl, refl, refl, refl, refl, refl, refl)
+
+-- the bytes and the list, read back: what is rebuilt
+pub applies :
+    (applied swapped 4 2 (correction 1 16 2 1 ∷ correction 2 1 2 0 ∷ correction 3 2 255 254 ∷ [])
+    ≡ fileOf (0 ∷ 254 ∷ 254 ∷ 300 ∷ []))
+    × (applied (fileOf A) 4 1 (correction 1 16 2 1 ∷ correction 3 3 255 254 ∷ correction 4 0 12 0 ∷ [])
+    ≡ fileOf (0 ∷ 254 ∷ 255 ∷ 254 ∷ []))
+    × (applied (set (set (fileOf A) 0 7) 32 9) 4 2 (correction 1 0 0x56494307 0x56494350 ∷ correction 1 32 9 0 ∷ [])
+    ≡ fileOf A)
+    × (applied (fileOf A) 4 2 [] ≡ fileOf A)
+unfolding
+    firstFrom firstBelow table positions joined sumFrom le number get indexStep indexLen fileLen primary
+    overflowSlots overflowCount overflowEntry overflowPart indexEntry indexPart header file fieldOf
+    hasLine newIn newHeader newPrimary newEntries newIndex applied
+applies = (refl, refl, refl, refl)
