@@ -185,7 +185,7 @@ framesIn-more rs i h e =
     let split = ap (λ (l : List Record). length (framesIn l)) (take-append-drop i rs) in
     let apart = ap length (framesIn-append (take i rs) (drop i rs)) in
     let here : length (framesIn (drop i rs)) ≡ suc (length (framesIn (drop (suc i) rs))) =
-        rw (drop-cons rs i noRecord h, e) in
+    rw (drop-cons rs i noRecord h, e) in
     omega (arith, split, apart, here, length-append (framesIn (take i rs)) (framesIn (drop i rs)))
 
 -- ---- what is read
@@ -236,8 +236,8 @@ module _ (rs : List Record) (fit : AllFit rs) where
       let b : List ℕ = recordsBytes rs in
       let many = bytes-many rs in
       let all : recordAt b (length rs) ≡ length b =
-          records-at (length rs) (omega arith)
-          ∙ ap (λ (l : List Record). length (recordsBytes l)) (take-length rs) in
+      records-at (length rs) (omega arith)
+      ∙ ap (λ (l : List Record). length (recordsBytes l)) (take-length rs) in
       elim (decLe (length b) (length rs)) [
         | yes d ↦ firstBelow-none (λ (r : ℕ). leb (length b) (recordAt b r)) (length b) (λ j h. absurd (omega arith))
             ∙ omega arith
