@@ -75,8 +75,8 @@ Cut =
     × (Fault (AB ++ replicate 3 9) 3)
     × (Fault (AB ++ (le 4 1 ++ (2 ∷ []))) 3)
 
--- a first record of kind 1, of length 9, with no frames, with nine; kind 0 later, which comes before a missing frame; a frame
--- too many; a frame missing
+-- a first record of kind 1, of length 9, with no frames, with nine; kind 0 later, which comes before a missing frame;
+-- a frame too many; a frame missing
 abbrev Wrong : Type 0
 Wrong =
     (Fault (recordsBytes (recordOf 1 (le 4 4 ++ le 2 2) ∷ frame A ∷ frame B ∷ [])) 0)
@@ -109,8 +109,8 @@ Empty =
     × (rowOutcome (bundleOf 0 (fileOf [] ∷ [])) 0 ≡ refuse 9 0 0)
     × (nearestOutcome (bundleOf 0 (fileOf [] ∷ [])) 0 ≡ done 0)
 
--- the writer: a buffer just long enough, and one byte short; no frames, and nine; frame 2 of another slot count, and with a
--- wrong mark; what is past the count is not looked at; bytes past the bundle stay
+-- the writer: a buffer just long enough, and one byte short; no frames, and nine; frame 2 of another slot count, and
+-- with a wrong mark; what is past the count is not looked at; bytes past the bundle stay
 abbrev Writes : Type 0
 Writes =
     (bundleWriteOutcome (fileOf A ∷ fileOf B ∷ []) 2 148 ≡ done 148)

@@ -161,7 +161,7 @@ module _ (xss : List (List ℕ)) (n : ℕ) (l : Bundled xss n) where
   frames-are = bundleOf-frames n files small
 
   slots-are : slotCount b ≡ n
-  slots-are = bundleOf-slotCount n files small n-small
+  slots-are = bundleOf-slotCount n files n-small
 
   counts : bundleOutcome b ≡ done (record { slots = n; frames = length xss })
   unfolding bundleOutcome
@@ -219,7 +219,8 @@ module _ (xss : List (List ℕ)) (n : ℕ) (l : Bundled xss n) where
   row-is slot f =
       elim (decLe (length xss) f) [
         | yes absent ↦
-            rw (List·getD-eq-default files [] {n = f} (omega (arith, count)), List·getD-eq-default xss [] absent, no-file)
+            (let past : length files ≤ f = omega (arith, count) in
+            rw (List·getD-eq-default files [] past, List·getD-eq-default xss [] absent, no-file))
         | no present ↦
             (let inside : f < length xss = omega arith in
             rw (getD-files xss f inside, file-read (getD xss f []) (l .limits f inside)))
