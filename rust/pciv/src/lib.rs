@@ -34,6 +34,7 @@
 compile_error!("pciv is built for x86-64 Linux with 64-bit pointers only");
 
 mod arith;
+pub mod bundle;
 mod edit;
 mod figures;
 mod length;
