@@ -17,8 +17,8 @@ use std::fmt;
 pub struct Refusal {
     /// Number of the rule, 1 to 14: one of the constants below.
     pub number: u64,
-    /// The file at fault, counted from 1; for a [`bundle`](crate::bundle) the frame at fault, 1 to 8; 0
-    /// for a fault of the call or of a bundle's records.
+    /// The file, or the frame of a [`bundle`](crate::bundle), at fault, counted from 1; 0 for a fault of
+    /// the call or of a bundle as a whole.
     pub map: u64,
     /// The entry, slot, position, record or frame that the rule names, 0 where it names none.
     pub place: u64,
@@ -59,8 +59,8 @@ impl Refusal {
     /// A slot asked for is n or more, or the lists of [`edit_list`](crate::edit_list) differ in
     /// length; for a list the place is the least such position in it.
     pub const SLOT_OUT_OF_RANGE: u64 = 9;
-    /// Two maps differ in n. For a [`bundle`](crate::bundle) the place is the least frame, from 1, whose n
-    /// is not the slot count; for [`bundle::write`](crate::bundle::write) that is the n of frame 1.
+    /// Two maps differ in n; for a [`bundle`](crate::bundle), a frame's n is not the slot count, or frame
+    /// 1's n where it is written, and the place is the least such frame, from 1.
     pub const SIZE_MISMATCH: u64 = 10;
     /// A resulting distance is above 4,294,967,295; the place is the least such slot.
     pub const DISTANCE_OVERFLOW: u64 = 11;
@@ -71,8 +71,9 @@ impl Refusal {
     pub const BAD_MASK: u64 = 13;
     /// A record of a [`bundle`](crate::bundle) is cut short, has a length below 2, stands first without
     /// kind 0, length 8 and a frame count of 1 to 8, has kind 0 later, or is a frame too many; the place is
-    /// the least such record, from 0. Or records or frames are missing; the place is the number of records.
-    /// Or [`bundle::write`](crate::bundle::write) is given no frame or more than eight.
+    /// the least such record, from 0. Or no record is at fault, and records or frames are missing; the place
+    /// is the number of records. Or [`bundle::write`](crate::bundle::write) is given no frame, or more than
+    /// eight.
     pub const BAD_BUNDLE: u64 = 14;
 }
 
@@ -105,12 +106,15 @@ pub const fn refusal_text(number: u64) -> &'static str {
             "the slot asked for, of a list the one at that place, is n or more, \
              or only one of two lists has that place"
         }
-        Refusal::SIZE_MISMATCH => "the two maps differ in their number of slots",
+        Refusal::SIZE_MISMATCH => {
+            "the two maps, or the frame at that place and its bundle, \
+             differ in their number of slots"
+        }
         Refusal::DISTANCE_OVERFLOW => "the distance at that place would be above 4,294,967,295",
         Refusal::BUFFER_TOO_SMALL => "the result does not fit into the buffer",
         Refusal::BAD_MASK => "the mask has a wrong number of words or a bit set past n",
         Refusal::BAD_BUNDLE => {
-            "the bundle's record at that place is wrong or missing, \
+            "the record at that place of the bundle is wrong or missing, \
              or the frames to be written are not one to eight"
         }
         _ => "unknown refusal",
