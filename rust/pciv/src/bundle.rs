@@ -104,3 +104,78 @@ pub fn write(frames: &[&[u8]], out: &mut [u8]) -> Result<usize, Refusal> {
     }
     count(|written, refusal| raw::bundle_write(&parts, frames.len(), out, written, refusal))
 }
+
+#[cfg(test)]
+mod tests {
+    use super::*;
+
+    const MAP_A: &[u8] = include_bytes!("../../../examples/map-a.pciv");
+
+    /// The map of no slots.
+    fn empty() -> [u8; 40] {
+        let mut file = [0; 40];
+        crate::write(&[], &mut file).unwrap();
+        file
+    }
+
+    fn numbers<T>(answer: Result<T, Refusal>) -> (u64, u64, u64) {
+        let refusal = answer.err().expect("a refusal");
+        (refusal.number, refusal.map, refusal.place)
+    }
+
+    fn bundle_of(frames: &[&[u8]]) -> Vec<u8> {
+        let mut bundle = vec![0; bundle_len(frames)];
+        assert_eq!(write(frames, &mut bundle), Ok(bundle.len()));
+        bundle
+    }
+
+    #[test]
+    fn one_to_eight_frames_are_written() {
+        for count in 1..=MAX_FRAMES {
+            let bundle = bundle_of(&vec![MAP_A; count]);
+            assert_eq!(bundle.len(), 12 + 74 * count);
+            let counts = read(&bundle).unwrap();
+            assert_eq!((counts.slots, counts.frames), (4, count as u64));
+            let mut wanted = [0; MAX_FRAMES];
+            wanted[..count].fill(300);
+            assert_eq!(row(&bundle, 3), Ok(wanted));
+        }
+        let mut out = [7; 700];
+        for count in [0, 9, 100] {
+            assert_eq!(numbers(write(&vec![MAP_A; count], &mut out)), (14, 0, 0));
+        }
+        assert_eq!(out, [7; 700]);
+    }
+
+    #[test]
+    fn a_bundle_of_no_slots() {
+        let bundle = bundle_of(&[&empty(), &empty()]);
+        assert_eq!(nearest(&bundle, &mut []), Ok(0));
+        assert_eq!(numbers(row(&bundle, 0)), (9, 0, 0));
+    }
+
+    #[test]
+    fn refused_buffers_are_unchanged() {
+        let mut out = [7; 160];
+        assert_eq!(numbers(write(&[MAP_A, &MAP_A[1..]], &mut out)), (2, 2, 0));
+        assert_eq!(numbers(write(&[MAP_A, &empty()], &mut out)), (10, 0, 2));
+        assert_eq!(numbers(write(&[MAP_A, MAP_A], &mut out[..159])), (12, 0, 0));
+        assert_eq!(out, [7; 160]);
+
+        let mut distances = [7; 4];
+        let bundle = bundle_of(&[MAP_A, MAP_A]);
+        assert_eq!(numbers(nearest(&bundle, &mut distances[..3])), (12, 0, 0));
+        assert_eq!(numbers(nearest(&bundle[1..], &mut distances)), (14, 0, 0));
+        assert_eq!(numbers(nearest(&bundle[..159], &mut distances)), (14, 0, 2));
+        assert_eq!(distances, [7; 4]);
+    }
+
+    #[test]
+    fn other_records_are_passed_over() {
+        let mut bundle = bundle_of(&[MAP_A]);
+        bundle.extend([3, 0, 0, 0, 2, 0, 99]);
+        assert_eq!(read(&bundle).map(|counts| counts.frames), Ok(1));
+        bundle.push(0);
+        assert_eq!(numbers(read(&bundle)), (14, 0, 3));
+    }
+}
