@@ -1,1 +1,2 @@
 pub mod RecordBytesLaws
+pub mod RecordListLaws
