@@ -12,26 +12,28 @@
 --   headerOf n c               record 0 with n slots and c frames
 --   records-slotCount, records-frameCount    what it says
 --   records-sound              a header, and behind it as many frames as it says and no other header: no refusal
+--   bundleOf-frames, -sound, -slotCount    the frames of the bundle of frames, its reader's 14, its slot count
 -- Axioms: none.
-use mathlib.Core.Path.{_≡_, refl, sym, ap, ap₂, _∙_}
+use mathlib.Core.Path.{_≡_, refl, sym, ap, ap₂, subst, _∙_}
 use Prim.Native.Nat.{ℕ, zero, suc, _+_, _*_, _-_, _≤_, _<_}
 use native.Mathlib.Omega.{arith}
 use native.Mathlib.Decide.{decLe}
 use mathlib.Core.Bool.{Bool, true, false, cond, _&&_}
 use mathlib.Core.List.{List, [], _∷_, _++_, map, append-assoc}
-use lib.ListN.{length, getD, take, drop, length-append, take-append-drop, length-map}
+use lib.ListN.{length, getD, take, drop, length-append, take-append-drop, length-map, List·getD-map}
 use lib.Seq.{take-at, drop-at, drop-drop, drop-cons, take-suc, take-length}
 use lib.Dec.{leb, eqb, eqb·suc-zero, lit<}
 use borrow.Author.Tests.{le-ltb, le-leb, lt-leb, ne-eqb}
 use Rattle.pciv_bytes.specs.Ranges.{keepIf, positions}
 use Rattle.pciv_bytes.specs.LittleEndian.{le, get}
-use Rattle.pciv_bytes.proofs.RangesLaws.{firstBelow-at, firstBelow-none}
+use Rattle.pciv_bytes.proofs.RangesLaws.{getD-inside, firstBelow-at, firstBelow-none}
 use Rattle.pciv_bytes.proofs.LittleEndianLaws.{length-le, get-at}
 use Rattle.pciv_format.specs.Refusals.{done}
 use Rattle.pciv_format.proofs.RefusalsLaws.{refuseFirst-none}
 use Rattle.pciv_bundle_records.specs.Records.{recordAt, recordLen, recordKind, recordPayload, recordCount}
 use Rattle.pciv_bundle_records.specs.Records.{slotCount, frameCount, isFrame, framesBefore, frames, badHeader}
 use Rattle.pciv_bundle_records.specs.Records.{badRecord, recordsOutcome, Record, recordOf, recordBytes, recordsBytes}
+use Rattle.pciv_bundle_records.specs.Records.{bundleRecords, bundleOf}
 
 abbrev pub noRecord : Record
 noRecord = recordOf 0 []
@@ -369,3 +371,40 @@ module _ (n c : ℕ) (rest : List Record) (fit : AllFit rest)
         eqb·suc-zero (length rest),
       )
       (refuseFirst-none 14 0 (badRecord b) (length rs) _ bad-none)
+
+-- ---- the bundle of frames
+
+frame-record : (fs : List (List ℕ)) (i : ℕ) → i < length fs
+    → getD (map (recordOf 1) fs) i noRecord ≡ recordOf 1 (getD fs i [])
+frame-record fs i h =
+    getD-inside (map (recordOf 1) fs) i noRecord (recordOf 1 []) (omega (arith, length-map fs (recordOf 1)))
+    ∙ List·getD-map (recordOf 1) fs i []
+
+module _ (n : ℕ) (fs : List (List ℕ))
+    (each : (f : ℕ) → f < length fs → 2 + length (getD fs f []) < 4294967296) where
+  frames-fit : AllFit (map (recordOf 1) fs)
+  frames-fit i h =
+      let inside : i < length fs = omega (arith, length-map fs (recordOf 1)) in
+      subst FitsRecord (sym (frame-record fs i inside)) (each i inside, lit< tt)
+
+  no-header : (i : ℕ) → i < length (map (recordOf 1) fs) → getD (map (recordOf 1) fs) i noRecord .kind ≡ 0 → ⊥
+  no-header i h e =
+      let inside : i < length fs = omega (arith, length-map fs (recordOf 1)) in
+      omega (arith, e, ap (λ (r : Record). r .kind) (frame-record fs i inside))
+
+  pub bundleOf-frames : frames (bundleOf n fs) ≡ fs
+  unfolding bundleOf bundleRecords framesIn
+  bundleOf-frames =
+      records-frames (headerOf n (length fs) ∷ map (recordOf 1) fs)
+      (allFit-cons (headerOf n (length fs)) (map (recordOf 1) fs) (headerOf-fits n (length fs)) frames-fit)
+      ∙ framesIn-of fs
+
+  pub bundleOf-sound : 1 ≤ length fs → length fs ≤ 8 → n < 4294967296
+      → recordsOutcome (bundleOf n fs) ≡ done (record { slots = n; frames = length fs })
+  unfolding bundleOf bundleRecords
+  bundleOf-sound =
+      records-sound n (length fs) (map (recordOf 1) fs) frames-fit no-header (ap length (framesIn-of fs))
+
+  pub bundleOf-slotCount : n < 4294967296 → slotCount (bundleOf n fs) ≡ n
+  unfolding bundleOf bundleRecords
+  bundleOf-slotCount = records-slotCount n (length fs) (map (recordOf 1) fs)
