@@ -9,7 +9,7 @@
 --   records-at, records-count  where record i starts; how many there are
 --   records-len, records-kind, records-payload    what is read of record i
 --   records-frames, records-before    the frames; how many of them stand before record i
---   headerOf n c               record 0 with n slots and c frames
+--   headerOf n c, headerOf-fits    record 0 with n slots and c frames; it fits
 --   records-slotCount, records-frameCount    what it says
 --   records-sound              a header, and behind it as many frames as it says and no other header: no refusal
 --   bundleOf-frames, -sound, -slotCount    the frames of the bundle of frames, its reader's 14, its slot count
@@ -290,7 +290,7 @@ module _ (n c : ℕ) (rs : List Record) where
   unfolding recordsBytes recordBytes le
   records-frameCount h = get-at 2 (recordsBytes (headerOf n c ∷ rs)) 10 c (recordsBytes rs) refl h
 
-headerOf-fits : (n c : ℕ) → FitsRecord (headerOf n c)
+pub headerOf-fits : (n c : ℕ) → FitsRecord (headerOf n c)
 unfolding le
 headerOf-fits n c = (lit< tt, lit< tt)
 

@@ -4,8 +4,10 @@
 --   records-fit                each fits its fields
 --   records-whole              the bytes are the records, one after another
 --   records-first, records-later    record 0 is the header with the two counts, and no other has kind 0
---   records-list               so they are the header and the records behind it
---   bytes-before, bytes-from   what stands before record r of the bytes of a list of records, and from it on
+--   frames-bytes               the frames are bytes
+--   SoundRest c rest           the records behind the header of a bundle of c frames
+--   records-list, frames-list, sound-list    the records of b are its header and such records; their frames
+--   rest-frames, rest-outcome, rest-slots    and of such records: the frames, the outcome, what record 0 says
 -- Axioms: none.
 use mathlib.Core.Path.{_≡_, refl, sym, ap, ap₂, _∙_}
 use Prim.Native.Nat.{ℕ, zero, suc, _+_, _-_, _≤_, _<_}
@@ -15,25 +17,26 @@ use native.Mathlib.Decide.{decLe}
 use native.Mathlib.Numerals.{add-one}
 use mathlib.Core.Bool.{Bool, false, cond, _&&_, _||_}
 use mathlib.Core.List.{List, [], _∷_, _++_, append-nil}
-use lib.ListN.{length, getD, take, drop, length-drop, take-append-drop}
-use lib.Seq.{take-add, drop-drop, take-at, take-length, length-take-le, drop-cons}
+use lib.ListN.{length, getD, take, drop, length-drop, List·getD-map}
+use lib.Seq.{take-add, drop-drop, take-at, take-length, length-take-le, drop-cons, getD-drop}
 use lib.Dec.{ltb, leb, eqb}
 use borrow.Author.Tests.{ltb-false, leb-true}
-use Rattle.pciv_bytes.specs.Ranges.{firstBelow, table}
+use Rattle.pciv_bytes.specs.Ranges.{firstBelow, table, positions}
 use Rattle.pciv_bytes.specs.LittleEndian.{le, get, Bytes}
-use Rattle.pciv_bytes.proofs.RangesLaws.{firstBelow-has, length-table, getD-table, table-append}
-use Rattle.pciv_bytes.proofs.LittleEndianLaws.{le-get, get-lt}
+use Rattle.pciv_bytes.proofs.RangesLaws.{getD-inside, firstBelow-has, length-table, getD-table, table-append}
+use Rattle.pciv_bytes.proofs.LittleEndianLaws.{le-get, get-lt, bytes-drop, bytes-take}
 use Rattle.pciv_format.specs.Refusals.{done}
 use Rattle.pciv_format.proofs.PartsLaws.{or-false}
 use Rattle.pciv_format.proofs.RefusalsLaws.{refuseFirst-done}
 use Rattle.pciv_bundle_records.specs.Records.{recordAt, recordLen, recordKind, recordPayload, recordCount}
-use Rattle.pciv_bundle_records.specs.Records.{slotCount, frameCount, isFrame, framesBefore, badHeader, badRecord}
-use Rattle.pciv_bundle_records.specs.Records.{recordsOutcome, Record, recordOf, recordBytes, recordsBytes, recordsOf}
+use Rattle.pciv_bundle_records.specs.Records.{slotCount, frameCount, isFrame, framesBefore, frames, badHeader}
+use Rattle.pciv_bundle_records.specs.Records.{badRecord, recordsOutcome, Record, recordOf, recordBytes, recordsBytes, recordsOf}
 use Rattle.pciv_bundle_records.specs.declared.BundleCounts.{BundleCounts}
 use Rattle.pciv_bundle_records.proofs.RecordsLaws.{recordAt-first, recordAt-next, recordAt-low, frames-all, framesTo-zero}
 use Rattle.pciv_bundle_records.proofs.RecordsLaws.{Header, first-right, badRecord-later, wrong-right, done-accepted}
-use Rattle.pciv_bundle_records.proofs.RecordBytesLaws.{noRecord, AllFit, headerOf, recordsBytes-append, records-at}
-use Rattle.pciv_bundle_records.proofs.RecordBytesLaws.{records-rest}
+use Rattle.pciv_bundle_records.proofs.RecordBytesLaws.{noRecord, AllFit, allFit-cons, allFit-rest, headerOf}
+use Rattle.pciv_bundle_records.proofs.RecordBytesLaws.{recordsBytes-append, framesIn, records-frames, records-sound}
+use Rattle.pciv_bundle_records.proofs.RecordBytesLaws.{headerOf-fits}
 
 abbrev pub recordIn : List ℕ → ℕ → Record
 recordIn b r = recordOf (recordKind b r) (recordPayload b r)
@@ -83,6 +86,14 @@ parts b at l h =
     ∙ take-add 2 (l - 2) (drop (at + 4) b)
     ∙ ap (λ (t : List ℕ). take 2 (drop (at + 4) b) ++ take (l - 2) t)
     (drop-drop 2 (at + 4) b ∙ ap (λ (n : ℕ). drop n b) e'))
+
+-- the records behind the header of a bundle of c frames: as many of kind 1, and none of kind 0
+pub record SoundRest (c : ℕ) (rest : List Record) : Type 0 where
+  pub fit : AllFit rest
+  pub later : (i : ℕ) → i < length rest → getD rest i noRecord .kind ≡ 0 → ⊥
+  pub many : length (framesIn rest) ≡ c
+  pub some : 1 ≤ c
+  pub few : c ≤ 8
 
 recordsBytes-one : (r : Record) → recordsBytes (r ∷ []) ≡ recordBytes r
 unfolding recordsBytes
@@ -183,6 +194,16 @@ module _ (b : List ℕ) (bytes : Bytes b) (c : BundleCounts) (accepted : records
       rw (header .len, le-get 4 b 6 bytes (omega arith), le-get 2 b 10 bytes (omega arith))
       (take-add 4 2 (drop 6 b) ∙ ap (λ (l : List ℕ). take 4 (drop 6 b) ++ take 2 l) (drop-drop 4 6 b))
 
+  -- a frame is a part of b
+  pub frames-bytes : (f : ℕ) → f < length (frames b) → Bytes (getD (frames b) f [])
+  unfolding frames recordPayload
+  frames-bytes f h =
+      let ps : List ℕ = positions (isFrame b) 0 (recordCount b) in
+      let r : ℕ = getD ps f 0 in
+      let e : getD (frames b) f [] ≡ recordPayload b r =
+      getD-inside (frames b) f [] (recordPayload b 0) h ∙ List·getD-map (recordPayload b) ps f 0 in
+      rw e (bytes-take (recordLen b r - 2) (drop (recordAt b r + 6) b) (bytes-drop (recordAt b r + 6) b bytes))
+
   pub records-first : recordIn b 0 ≡ headerOf (slotCount b) (frameCount b)
   unfolding recordKind recordAt
   records-first = ap₂ recordOf (header .kind) header-payload
@@ -196,15 +217,42 @@ module _ (b : List ℕ) (bytes : Bytes b) (c : BundleCounts) (accepted : records
       drop-cons (recordsOf b) 0 noRecord (omega (arith, length-recordsOf b, some))
       ∙ ap (λ (r : Record). r ∷ drop 1 (recordsOf b)) (getD-recordsOf b 0 some ∙ records-first)
 
--- ---- in two parts, between two records
+  pub frames-list : frames b ≡ framesIn (drop 1 (recordsOf b))
+  unfolding framesIn
+  frames-list =
+      ap frames records-whole ∙ records-frames (recordsOf b) records-fit ∙ ap framesIn records-list
 
-module _ (rs : List Record) (fit : AllFit rs) (r : ℕ) (h : r ≤ length rs) where
-  pub bytes-before : take (recordAt (recordsBytes rs) r) (recordsBytes rs) ≡ recordsBytes (take r rs)
-  bytes-before =
-      rw (records-at rs fit r h)
-      (ap (λ (l : List Record). take (length (recordsBytes (take r rs))) (recordsBytes l)) (sym (take-append-drop r rs))
-      ∙ ap (take (length (recordsBytes (take r rs)))) (recordsBytes-append (take r rs) (drop r rs))
-      ∙ take-at (recordsBytes (take r rs)) (recordsBytes (drop r rs)) _ refl)
+  -- record i behind the header
+  behind-header : (i : ℕ) → i < length (drop 1 (recordsOf b)) → (i + 1 < recordCount b)
+      × (getD (drop 1 (recordsOf b)) i noRecord ≡ recordIn b (i + 1))
+  behind-header i h =
+      let inside : i + 1 < recordCount b = omega (arith, length-drop 1 (recordsOf b), length-recordsOf b) in
+      let e : 1 + i ≡ i + 1 = omega arith in
+      (inside, getD-drop 1 (recordsOf b) i noRecord ∙ rw e (getD-recordsOf b (i + 1) inside))
 
-  pub bytes-from : drop (recordAt (recordsBytes rs) r) (recordsBytes rs) ≡ recordsBytes (drop r rs)
-  bytes-from = rw (records-at rs fit r h) (records-rest rs r)
+  pub sound-list : SoundRest (frameCount b) (drop 1 (recordsOf b))
+  sound-list =
+      let a = done-accepted b c accepted in
+      record {
+        fit = allFit-rest (headerOf (slotCount b) (frameCount b)) (drop 1 (recordsOf b)) (rw records-list at records-fit);
+        later = λ i h e.
+            (let r = behind-header i h in
+            records-later (i + 1) (omega arith) (r .0) (ap (λ (x : Record). x .kind) (sym (r .1)) ∙ e));
+        many = ap length (sym frames-list) ∙ a .counted;
+        some = a .some;
+        few = a .few;
+      }
+
+-- ---- of a header and records behind it
+
+module _ (n : ℕ) (c : ℕ) (rest : List Record) (sound : SoundRest c rest) where
+  rest-fit : AllFit (headerOf n c ∷ rest)
+  rest-fit = allFit-cons (headerOf n c) rest (headerOf-fits n c) (sound .fit)
+
+  pub rest-frames : frames (recordsBytes (headerOf n c ∷ rest)) ≡ framesIn rest
+  unfolding framesIn
+  rest-frames = records-frames (headerOf n c ∷ rest) rest-fit
+
+  pub rest-outcome : n < 4294967296
+      → recordsOutcome (recordsBytes (headerOf n c ∷ rest)) ≡ done (record { slots = n; frames = c })
+  rest-outcome = records-sound n c rest (sound .fit) (sound .later) (sound .many) (sound .some) (sound .few)
