@@ -1,2 +1,3 @@
 pub mod RecordBytesLaws
 pub mod RecordListLaws
+pub mod SkippedLaws

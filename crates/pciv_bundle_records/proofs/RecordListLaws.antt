@@ -6,8 +6,9 @@
 --   records-first, records-later    record 0 is the header with the two counts, and no other has kind 0
 --   frames-bytes               the frames are bytes
 --   SoundRest c rest           the records behind the header of a bundle of c frames
---   records-list, frames-list, sound-list    the records of b are its header and such records; their frames
---   rest-frames, rest-outcome, rest-slots    and of such records: the frames, the outcome, what record 0 says
+--   records-list, whole-list   the records of b are its header and the others, and so are the bytes
+--   frames-list, sound-list    the frames are those of the others, which are such records
+--   rest-fit, rest-frames, rest-outcome    of a header and such records: they fit, their frames, and their outcome
 -- Axioms: none.
 use mathlib.Core.Path.{_≡_, refl, sym, ap, ap₂, _∙_}
 use Prim.Native.Nat.{ℕ, zero, suc, _+_, _-_, _≤_, _<_}
@@ -217,6 +218,9 @@ module _ (b : List ℕ) (bytes : Bytes b) (c : BundleCounts) (accepted : records
       drop-cons (recordsOf b) 0 noRecord (omega (arith, length-recordsOf b, some))
       ∙ ap (λ (r : Record). r ∷ drop 1 (recordsOf b)) (getD-recordsOf b 0 some ∙ records-first)
 
+  pub whole-list : b ≡ recordsBytes (headerOf (slotCount b) (frameCount b) ∷ drop 1 (recordsOf b))
+  whole-list = records-whole ∙ ap recordsBytes records-list
+
   pub frames-list : frames b ≡ framesIn (drop 1 (recordsOf b))
   unfolding framesIn
   frames-list =
@@ -246,7 +250,7 @@ module _ (b : List ℕ) (bytes : Bytes b) (c : BundleCounts) (accepted : records
 -- ---- of a header and records behind it
 
 module _ (n : ℕ) (c : ℕ) (rest : List Record) (sound : SoundRest c rest) where
-  rest-fit : AllFit (headerOf n c ∷ rest)
+  pub rest-fit : AllFit (headerOf n c ∷ rest)
   rest-fit = allFit-cons (headerOf n c) rest (headerOf-fits n c) (sound .fit)
 
   pub rest-frames : frames (recordsBytes (headerOf n c ∷ rest)) ≡ framesIn rest

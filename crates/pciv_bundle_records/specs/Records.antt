@@ -17,6 +17,7 @@
 --   Record, recordBytes, recordsBytes rs    a record; its bytes; the bytes of records one after another
 --   bundleRecords n fs, bundleOf n fs       the records, and the bytes, of the bundle of the frames fs with n slots
 --   recordsOf b           the records of b, as a list
+--   withRecord b r x      b with a record x put in before its record r, or at its end
 --   PlacedFrame b p f     frame f, here from 0, stands in b from `starts` to `ends` of the places p; PlacedFrames, all do
 -- Laws are in proofs/. Axioms: none.
 use mathlib.Core.Path.{_≡_}
@@ -144,3 +145,7 @@ PlacedFrames b p = (f : ℕ) → f < length (frames b) → PlacedFrame b p f
 
 unfoldable pub recordsOf : List ℕ → List Record
 recordsOf b = table (λ (r : ℕ). recordOf (recordKind b r) (recordPayload b r)) 0 (recordCount b)
+
+-- where r is the number of records, it starts at the end
+abbrev pub withRecord : List ℕ → ℕ → Record → List ℕ
+withRecord b r x = take (recordAt b r) b ++ (recordBytes x ++ drop (recordAt b r) b)
