@@ -16,10 +16,10 @@ use native.Mathlib.Nat.{zero-add, le-refl}
 use native.Mathlib.Omega.{arith}
 use native.Mathlib.Decide.{decLe}
 use native.Mathlib.Numerals.{add-one}
-use mathlib.Core.Bool.{Bool, false, cond, _&&_, _||_}
+use mathlib.Core.Bool.{Bool, false, cond, _&&_}
 use mathlib.Core.List.{List, [], _∷_, _++_, append-nil}
 use lib.ListN.{length, getD, take, drop, length-drop, List·getD-map}
-use lib.Seq.{take-add, drop-drop, take-at, take-length, length-take-le, drop-cons, getD-drop}
+use lib.Seq.{take-add, drop-drop, take-length, length-take-le, drop-cons, getD-drop}
 use lib.Dec.{ltb, leb, eqb}
 use borrow.Author.Tests.{ltb-false, leb-true}
 use Rattle.pciv_bytes.specs.Ranges.{firstBelow, table, positions}
@@ -30,14 +30,16 @@ use Rattle.pciv_format.specs.Refusals.{done}
 use Rattle.pciv_format.proofs.PartsLaws.{or-false}
 use Rattle.pciv_format.proofs.RefusalsLaws.{refuseFirst-done}
 use Rattle.pciv_bundle_records.specs.Records.{recordAt, recordLen, recordKind, recordPayload, recordCount}
-use Rattle.pciv_bundle_records.specs.Records.{slotCount, frameCount, isFrame, framesBefore, frames, badHeader}
-use Rattle.pciv_bundle_records.specs.Records.{badRecord, recordsOutcome, Record, recordOf, recordBytes, recordsBytes, recordsOf}
+use Rattle.pciv_bundle_records.specs.Records.{slotCount, frameCount, isFrame, framesBefore, frames}
+use Rattle.pciv_bundle_records.specs.Records.{badHeader, badRecord, recordsOutcome}
+use Rattle.pciv_bundle_records.specs.Records.{Record, recordOf, recordBytes, recordsBytes, recordsOf}
 use Rattle.pciv_bundle_records.specs.declared.BundleCounts.{BundleCounts}
-use Rattle.pciv_bundle_records.proofs.RecordsLaws.{recordAt-first, recordAt-next, recordAt-low, frames-all, framesTo-zero}
-use Rattle.pciv_bundle_records.proofs.RecordsLaws.{Header, first-right, badRecord-later, wrong-right, done-accepted}
-use Rattle.pciv_bundle_records.proofs.RecordBytesLaws.{noRecord, AllFit, allFit-cons, allFit-rest, headerOf}
-use Rattle.pciv_bundle_records.proofs.RecordBytesLaws.{recordsBytes-append, framesIn, records-frames, records-sound}
-use Rattle.pciv_bundle_records.proofs.RecordBytesLaws.{headerOf-fits}
+use Rattle.pciv_bundle_records.proofs.RecordsLaws.{recordAt-next, recordAt-low, frames-all, framesTo-zero}
+use Rattle.pciv_bundle_records.proofs.RecordsLaws.{Header, first-right, badRecord-later, wrong-right}
+use Rattle.pciv_bundle_records.proofs.RecordsLaws.{done-accepted}
+use Rattle.pciv_bundle_records.proofs.RecordBytesLaws.{noRecord, AllFit, allFit-cons, allFit-rest}
+use Rattle.pciv_bundle_records.proofs.RecordBytesLaws.{recordsBytes-append, framesIn, records-frames}
+use Rattle.pciv_bundle_records.proofs.RecordBytesLaws.{headerOf, headerOf-fits, records-sound}
 
 abbrev pub recordIn : List ℕ → ℕ → Record
 recordIn b r = recordOf (recordKind b r) (recordPayload b r)

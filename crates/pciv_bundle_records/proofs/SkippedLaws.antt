@@ -1,28 +1,26 @@
 -- A record that is neither header nor frame, put in among the records of bytes that pass refusal 14.
---   each-with, framesIn-with    a property of each record, and the frames, of a list with a record put in
---   bytes-with                  the bytes of such a list
 --   skipped-frames, -outcome, -slots    frames, outcome and slot count stay
 -- Axioms: none.
 use mathlib.Core.Path.{_≡_, refl, sym, ap, ap₂, _∙_}
-use Prim.Native.Nat.{ℕ, zero, suc, _+_, _-_, _≤_, _<_}
+use Prim.Native.Nat.{ℕ, zero, suc, _-_, _≤_, _<_}
 use native.Mathlib.Omega.{arith}
-use mathlib.Core.Bool.{Bool, false}
 use mathlib.Core.List.{List, [], _∷_, _++_}
 use lib.ListN.{length, getD, take, drop, take-append-drop, length-drop}
 use lib.Seq.{take-at}
-use lib.Dec.{eqb}
 use borrow.Author.Tests.{ne-eqb}
 use Rattle.pciv_bytes.specs.LittleEndian.{Bytes}
 use Rattle.pciv_bytes.proofs.LittleEndianLaws.{get-lt}
 use Rattle.pciv_format.specs.Refusals.{done}
 use Rattle.pciv_bundle_records.specs.Records.{recordAt, recordCount, slotCount, frameCount, frames, countsIn}
-use Rattle.pciv_bundle_records.specs.Records.{recordsOutcome, Record, recordBytes, recordsBytes, recordsOf, withRecord}
+use Rattle.pciv_bundle_records.specs.Records.{recordsOutcome, Record, recordBytes, recordsBytes, recordsOf}
+use Rattle.pciv_bundle_records.specs.Records.{withRecord}
 use Rattle.pciv_bundle_records.specs.declared.BundleCounts.{BundleCounts}
 use Rattle.pciv_bundle_records.proofs.RecordsLaws.{done-counts}
-use Rattle.pciv_bundle_records.proofs.RecordBytesLaws.{noRecord, FitsRecord, AllFit, headerOf, recordsBytes-append}
+use Rattle.pciv_bundle_records.proofs.RecordBytesLaws.{noRecord, FitsRecord, AllFit, recordsBytes-append}
 use Rattle.pciv_bundle_records.proofs.RecordBytesLaws.{framesIn, framesIn-append, records-at, records-rest}
-use Rattle.pciv_bundle_records.proofs.RecordListLaws.{length-recordsOf, SoundRest, whole-list, frames-list, sound-list}
-use Rattle.pciv_bundle_records.proofs.RecordListLaws.{rest-fit, rest-frames, rest-outcome}
+use Rattle.pciv_bundle_records.proofs.RecordBytesLaws.{headerOf}
+use Rattle.pciv_bundle_records.proofs.RecordListLaws.{length-recordsOf, SoundRest, whole-list, frames-list}
+use Rattle.pciv_bundle_records.proofs.RecordListLaws.{sound-list, rest-fit, rest-frames, rest-outcome}
 
 -- ---- lists of records
 
@@ -30,6 +28,7 @@ use Rattle.pciv_bundle_records.proofs.RecordListLaws.{rest-fit, rest-fr
 abbrev with : List Record → ℕ → Record → List Record
 with rs r x = take r rs ++ x ∷ drop r rs
 
+-- a property of each record
 each-with : (P : Record → Type 0) (x : Record) → P x → (rs : List Record) (r : ℕ)
     → ((i : ℕ) → i < length rs → P (getD rs i noRecord))
     → (i : ℕ) → i < length (with rs r x) → P (getD (with rs r x) i noRecord)
@@ -41,6 +40,7 @@ each-with P x p (y ∷ rs) (suc r) each zero h = each 0 (omega arith)
 each-with P x p (y ∷ rs) (suc r) each (suc i) h =
     each-with P x p rs r (λ j l. each (suc j) (omega arith)) i (omega arith)
 
+-- what is no frame leaves the frames
 framesIn-other : (x : Record) (rs : List Record) → (x .kind ≡ 1 → ⊥) → framesIn (x ∷ rs) ≡ framesIn rs
 unfolding framesIn
 framesIn-other x rs other = rw (ne-eqb (x .kind) 1 other)
