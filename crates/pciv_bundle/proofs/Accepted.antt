@@ -1,12 +1,12 @@
 -- Which bundles are accepted (docs/FORMAT.md, "Bundles").
 --   FrameFile n f          f is the file of the list that it is read as, of n slots and within the limits
 --   file-frame             so is the file of every such list
---   AcceptedBundle b c     b consists of records, of which the first is the header with the counts c and no other one is a
---                          header, and as many as it says are frames, each a file with as many slots as it says
---   BundleRest c rest      the records behind such a header, with a field for each part
---   accepted-records       what is accepted passes refusal 14 with the same counts
+--   AcceptedBundle b c     b is its records one after another; record 0 is the header with the counts c, and no other
+--                          has its kind; c .frames of them are frames, each a file of c .slots slots
+--   BundleRest c rest      the same of a list of records behind the header
+--   accepted-records       what is accepted passes refusal 14, with the same counts
 --   bundle-accepted        accepted bytes are such a bundle
---   bundle-accepted-iff    and bytes are accepted exactly when they are such a header and such records behind it
+--   bundle-accepted-iff    bytes are accepted exactly when they are the header and such records behind it
 -- Axioms: none.
 use mathlib.Core.Path.{_≡_, sym, ap, subst, _∙_}
 use mathlib.Core.Logic.{_↔_}
@@ -77,7 +77,7 @@ files-done n fs each =
     rw (
       files-sound n 1 fs each,
       firstBelow-none (otherSlots n fs) (length fs)
-      (λ i h. eqb-not _ _ (sym (length-listOf (getD fs i [])) ∙ each i h .slots)),
+          (λ i h. eqb-not _ _ (sym (length-listOf (getD fs i [])) ∙ each i h .slots)),
       le-ltb (length fs) (length fs) (omega arith),
     )
 
@@ -141,7 +141,9 @@ module _ (b : List ℕ) (c : BundleCounts) (accepted : bundleOutcome b ≡ done 
     rest-accepted : BundleRest c (drop 1 (recordsOf b))
     rest-accepted =
         record {
-          sound = subst (λ k. SoundRest k (drop 1 (recordsOf b))) (sym frames-are) (sound-list b bytes c accepted-records);
+          sound =
+              subst (λ k. SoundRest k (drop 1 (recordsOf b))) (sym frames-are)
+              (sound-list b bytes c accepted-records);
           each = λ f h.
               subst (λ fs. FrameFile (c .slots) (getD fs f [])) (frames-list b bytes c accepted-records)
               (bundle-accepted .each f h);

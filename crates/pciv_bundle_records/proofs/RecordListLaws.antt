@@ -240,7 +240,9 @@ module _ (b : List ℕ) (bytes : Bytes b) (c : BundleCounts) (accepted : records
   sound-list =
       let a = done-accepted b c accepted in
       record {
-        fit = allFit-rest (headerOf (slotCount b) (frameCount b)) (drop 1 (recordsOf b)) (rw records-list at records-fit);
+        fit =
+            allFit-rest (headerOf (slotCount b) (frameCount b)) (drop 1 (recordsOf b))
+            (rw records-list at records-fit);
         later = λ i h e.
             (let r = behind-header i h in
             records-later (i + 1) (omega arith) (r .0) (ap (λ (x : Record). x .kind) (sym (r .1)) ∙ e));
