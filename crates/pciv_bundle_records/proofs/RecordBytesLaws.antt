@@ -4,15 +4,15 @@
 --   allFit-cons, -rest, -append    with a record in front; without the first; of two lists of records
 --   length-recordBytes, recordsBytes-append    a record's length with its prefix; the bytes of two lists of records
 --   records-rest               what stands from record i on
---   framesIn rs                the payloads of the records of kind 1
+--   framesIn rs, frameIf       the payloads of the records of kind 1; one of them in front, or not
 --   framesIn-append, -of       of two lists of records; of frames, each a record of kind 1
 --   records-at, records-count  where record i starts; how many there are
 --   records-len, records-kind, records-payload    what is read of record i
 --   records-frames, records-before    the frames; how many of them stand before record i
---   headerOf n c, headerOf-fits    record 0 with n slots and c frames; it fits
+--   headerOf n c, headerOf-fits    record 0 with n slots and c frames; its fields fit
 --   records-slotCount, records-frameCount    what it says
 --   records-sound              a header, and behind it as many frames as it says and no other header: no refusal
---   bundleOf-frames, -sound, -slotCount    the frames of the bundle of frames, its reader's 14, its slot count
+--   bundleOf-slotCount, -frames, -sound    of the bundle of frames: its slot count, its frames; no refusal
 -- Axioms: none.
 use mathlib.Core.Path.{_≡_, refl, sym, ap, ap₂, subst, _∙_}
 use Prim.Native.Nat.{ℕ, zero, suc, _+_, _*_, _-_, _≤_, _<_}
@@ -32,8 +32,8 @@ use Rattle.pciv_format.specs.Refusals.{done}
 use Rattle.pciv_format.proofs.RefusalsLaws.{refuseFirst-none}
 use Rattle.pciv_bundle_records.specs.Records.{recordAt, recordLen, recordKind, recordPayload, recordCount}
 use Rattle.pciv_bundle_records.specs.Records.{slotCount, frameCount, isFrame, framesBefore, frames, badHeader}
-use Rattle.pciv_bundle_records.specs.Records.{badRecord, recordsOutcome, Record, recordOf, recordBytes, recordsBytes}
-use Rattle.pciv_bundle_records.specs.Records.{bundleRecords, bundleOf}
+use Rattle.pciv_bundle_records.specs.Records.{badRecord, recordsOutcome, Record, recordOf, recordBytes}
+use Rattle.pciv_bundle_records.specs.Records.{recordsBytes, bundleRecords, bundleOf}
 
 abbrev pub noRecord : Record
 noRecord = recordOf 0 []
@@ -154,7 +154,7 @@ bytes-many (r ∷ rs) =
 
 -- ---- the frames among records
 
-abbrev frameIf : Bool → List ℕ → List (List ℕ) → List (List ℕ)
+abbrev pub frameIf : Bool → List ℕ → List (List ℕ) → List (List ℕ)
 frameIf true f fs = f ∷ fs
 frameIf false f fs = fs
 
@@ -185,7 +185,7 @@ framesIn-more rs i h e =
     let split = ap (λ (l : List Record). length (framesIn l)) (take-append-drop i rs) in
     let apart = ap length (framesIn-append (take i rs) (drop i rs)) in
     let here : length (framesIn (drop i rs)) ≡ suc (length (framesIn (drop (suc i) rs))) =
-        rw (drop-cons rs i noRecord h, e) in
+    rw (drop-cons rs i noRecord h, e) in
     omega (arith, split, apart, here, length-append (framesIn (take i rs)) (framesIn (drop i rs)))
 
 -- ---- what is read
@@ -236,8 +236,8 @@ module _ (rs : List Record) (fit : AllFit rs) where
       let b : List ℕ = recordsBytes rs in
       let many = bytes-many rs in
       let all : recordAt b (length rs) ≡ length b =
-          records-at (length rs) (omega arith)
-          ∙ ap (λ (l : List Record). length (recordsBytes l)) (take-length rs) in
+      records-at (length rs) (omega arith)
+      ∙ ap (λ (l : List Record). length (recordsBytes l)) (take-length rs) in
       elim (decLe (length b) (length rs)) [
         | yes d ↦ firstBelow-none (λ (r : ℕ). leb (length b) (recordAt b r)) (length b) (λ j h. absurd (omega arith))
             ∙ omega arith
@@ -380,6 +380,10 @@ frame-record fs i h =
     getD-inside (map (recordOf 1) fs) i noRecord (recordOf 1 []) (omega (arith, length-map fs (recordOf 1)))
     ∙ List·getD-map (recordOf 1) fs i []
 
+pub bundleOf-slotCount : (n : ℕ) (fs : List (List ℕ)) → n < 4294967296 → slotCount (bundleOf n fs) ≡ n
+unfolding bundleOf bundleRecords
+bundleOf-slotCount n fs = records-slotCount n (length fs) (map (recordOf 1) fs)
+
 module _ (n : ℕ) (fs : List (List ℕ))
     (each : (f : ℕ) → f < length fs → 2 + length (getD fs f []) < 4294967296) where
   frames-fit : AllFit (map (recordOf 1) fs)
@@ -404,7 +408,3 @@ module _ (n : ℕ) (fs : List (List ℕ))
   unfolding bundleOf bundleRecords
   bundleOf-sound =
       records-sound n (length fs) (map (recordOf 1) fs) frames-fit no-header (ap length (framesIn-of fs))
-
-  pub bundleOf-slotCount : n < 4294967296 → slotCount (bundleOf n fs) ≡ n
-  unfolding bundleOf bundleRecords
-  bundleOf-slotCount = records-slotCount n (length fs) (map (recordOf 1) fs)
