@@ -2,7 +2,7 @@
 --   SameAnswers a b    reader, row and nearest answer the same for the bytes a and b
 --   bundle-skips       a record of kind 2 or more, put in between two records of an accepted bundle or at its end,
 --                      changes no answer
---   alone, note, skipped    computed: the bundle of one frame, and what a record put in does to it
+--   put-in             computed: a record put into the bundle of one frame, where it is skipped and where it is refused
 -- Axioms: none.
 use mathlib.Core.Path.{_≡_, refl}
 use Prim.Native.Nat.{ℕ, _≤_}
@@ -20,9 +20,10 @@ use Rattle.pciv_bundle_records.specs.Records.{recordAt, recordLen, recordKind, 
 use Rattle.pciv_bundle_records.specs.Records.{frames, badHeader, badRecord, recordsOutcome, Record, recordOf}
 use Rattle.pciv_bundle_records.specs.Records.{recordBytes, recordsBytes, bundleRecords, bundleOf, withRecord}
 use Rattle.pciv_bundle_records.specs.declared.BundleCounts.{BundleCounts}
-use Rattle.pciv_bundle_records.proofs.RecordBytesLaws.{FitsRecord}
+use Rattle.pciv_bundle_records.proofs.RecordBytesLaws.{FitsRecord, headerOf}
 use Rattle.pciv_bundle_records.proofs.SkippedLaws.{skipped-frames, skipped-outcome, skipped-slots}
 use Rattle.pciv_bundle_frames.specs.Frames.{soundFrames, framesOutcome, rowOf}
+use Rattle.pciv_bundle_nearest.specs.Nearest.{nearestOf, distancesAt, nearestList}
 use Rattle.pciv_bundle.specs.Bundle.{bundleOutcome, rowOutcome, nearestOutcome, nearestBuffer}
 use Rattle.pciv_bundle.proofs.Accepted.{accepted-records}
 
@@ -57,20 +58,21 @@ module _ (b : List ℕ) (bytes : Bytes b) (c : BundleCounts) (accepted : bundleO
 
 -- ---- computed
 
--- map A in a bundle
+-- map A in a bundle, and a record to be put in
 abbrev alone : List ℕ
 alone = bundleOf 4 (fileOf A ∷ [])
 
 abbrev note : ℕ → Record
 note kind = recordOf kind (1 ∷ 0 ∷ 255 ∷ [])
 
--- behind the header, at the end, and with the largest kind and no payload; before the header, as another header and as
--- one frame more it is refused
-skipped :
-    (bundleOutcome (withRecord alone 1 (note 7)) ≡ done (record { slots = 4; frames = 1 }))
-    × (rowOutcome (withRecord alone 1 (note 7)) 3 ≡ done (300 ∷ 0 ∷ 0 ∷ 0 ∷ 0 ∷ 0 ∷ 0 ∷ 0 ∷ []))
-    × (bundleOutcome (withRecord alone 2 (note 7)) ≡ done (record { slots = 4; frames = 1 }))
-    × (bundleOutcome (withRecord alone 2 (recordOf 65535 [])) ≡ done (record { slots = 4; frames = 1 }))
+-- of kind 7: where it stands then, and the answers; before the header, as a second header and as a frame too many it is
+-- refused
+pub put-in :
+    (withRecord alone 1 (note 7) ≡ recordsBytes (headerOf 4 1 ∷ note 7 ∷ recordOf 1 (fileOf A) ∷ []))
+    × (withRecord alone 2 (note 7) ≡ recordsBytes (headerOf 4 1 ∷ recordOf 1 (fileOf A) ∷ note 7 ∷ []))
+    × (bundleOutcome (withRecord alone 1 (note 7)) ≡ done (record { slots = 4; frames = 1 }))
+    × (rowOutcome (withRecord alone 2 (note 7)) 3 ≡ done (300 ∷ 0 ∷ 0 ∷ 0 ∷ 0 ∷ 0 ∷ 0 ∷ 0 ∷ []))
+    × (nearestBuffer (withRecord alone 1 (note 7)) (7 ∷ 7 ∷ 7 ∷ 7 ∷ 7 ∷ []) ≡ 0 ∷ 254 ∷ 255 ∷ 300 ∷ 7 ∷ [])
     × (bundleOutcome (withRecord alone 0 (note 7)) ≡ refuse 14 0 0)
     × (bundleOutcome (withRecord alone 1 (note 0)) ≡ refuse 14 0 1)
     × (bundleOutcome (withRecord alone 2 (note 1)) ≡ refuse 14 0 2)
@@ -79,5 +81,6 @@ unfolding
     overflowCount overflowEntry indexPart indexLen indexStep table positions joined bundleOutcome recordsOutcome
     badRecord badHeader recordAt recordLen recordKind recordPayload recordCount framesBefore frames soundFrames
     framesOutcome checkWith checkHeader checkParts badCounts badIndexEntry badEntry wrongEntry badSlot entryOf
-    firstBelow firstFrom get number fileLen countsOf rowOutcome rowOf listOf valueOf
-skipped = (refl, refl, refl, refl, refl, refl, refl)
+    firstBelow firstFrom get number fileLen countsOf rowOutcome rowOf listOf valueOf nearestOf distancesAt nearestList
+    nearestOutcome nearestBuffer
+put-in = (refl, refl, refl, refl, refl, refl, refl, refl)
