@@ -1,2 +1,4 @@
 pub mod Bundles
 pub mod BundleCases
+pub mod Accepted
+pub mod Skips

@@ -16,6 +16,8 @@
 --   bundleAnswer          an outcome as a value of the answer's type
 --   Record, recordBytes, recordsBytes rs    a record; its bytes; the bytes of records one after another
 --   bundleRecords n fs, bundleOf n fs       the records, and the bytes, of the bundle of the frames fs with n slots
+--   recordsOf b           the records of b, as a list
+--   withRecord b r x      b with a record x put in before its record r, or at its end
 --   PlacedFrame b p f     frame f, here from 0, stands in b from `starts` to `ends` of the places p; PlacedFrames, all do
 -- Laws are in proofs/. Axioms: none.
 use mathlib.Core.Path.{_≡_}
@@ -24,7 +26,7 @@ use mathlib.Core.Bool.{Bool, not, cond, _&&_, _||_}
 use mathlib.Core.List.{List, [], _∷_, _++_, map}
 use lib.ListN.{length, getD, take, drop}
 use lib.Dec.{ltb, leb, eqb}
-use Rattle.pciv_bytes.specs.Ranges.{firstBelow, positions}
+use Rattle.pciv_bytes.specs.Ranges.{firstBelow, table, positions}
 use Rattle.pciv_bytes.specs.LittleEndian.{le, get}
 use Rattle.pciv_format.specs.Refusals.{Outcome, done, refused, refuse, refuseIf, refuseFirst}
 use Rattle.pciv_bundle_records.specs.declared.BundleCounts.{BundleCounts}
@@ -138,3 +140,12 @@ pub record PlacedFrame (b : List ℕ) (p : Places) (f : ℕ) : Type 0 where
 
 abbrev pub PlacedFrames : List ℕ → Places → Type 0
 PlacedFrames b p = (f : ℕ) → f < length (frames b) → PlacedFrame b p f
+
+-- ---- the records of bytes
+
+unfoldable pub recordsOf : List ℕ → List Record
+recordsOf b = table (λ (r : ℕ). recordOf (recordKind b r) (recordPayload b r)) 0 (recordCount b)
+
+-- where r is the number of records, it starts at the end
+abbrev pub withRecord : List ℕ → ℕ → Record → List ℕ
+withRecord b r x = take (recordAt b r) b ++ (recordBytes x ++ drop (recordAt b r) b)
