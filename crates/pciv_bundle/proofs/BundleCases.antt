@@ -65,21 +65,29 @@ Reads =
     × (nearestOutcome AB 3 ≡ refuse 12 0 0)
     × (nearestBuffer AB (replicate 5 7) ≡ 1 ∷ 1 ∷ 1 ∷ 300 ∷ 7 ∷ [])
 
--- no bytes; cut short in a frame; one, two and three bytes left over; a length below 2
+-- no bytes; cut short in record 0, behind it, in the next length, between the frames, in a frame; one, two and three bytes
+-- left over; a length below 2
 abbrev Cut : Type 0
 Cut =
     (Fault [] 0)
+    × (Fault (take 11 AB) 0)
+    × (Fault (take 12 AB) 1)
+    × (Fault (take 13 AB) 1)
+    × (Fault (take 86 AB) 2)
     × (Fault (take 120 AB) 2)
     × (Fault (AB ++ replicate 1 9) 3)
     × (Fault (AB ++ replicate 2 9) 3)
     × (Fault (AB ++ replicate 3 9) 3)
+    × (Fault (AB ++ le 4 0) 3)
     × (Fault (AB ++ (le 4 1 ++ (2 ∷ []))) 3)
 
--- a first record of kind 1, of length 9, with no frames, with nine; kind 0 later, which comes before a missing frame;
+-- a first record of kind 1, of kind 2, of length 7, of length 9, with no frames, with nine; kind 0 later, which comes before a missing frame;
 -- a frame too many; a frame missing
 abbrev Wrong : Type 0
 Wrong =
     (Fault (recordsBytes (recordOf 1 (le 4 4 ++ le 2 2) ∷ frame A ∷ frame B ∷ [])) 0)
+    × (Fault (recordsBytes (recordOf 2 [] ∷ headerOf 4 2 ∷ frame A ∷ frame B ∷ [])) 0)
+    × (Fault (recordsBytes (recordOf 0 (le 4 4 ++ (2 ∷ [])) ∷ frame A ∷ frame B ∷ [])) 0)
     × (Fault (recordsBytes (recordOf 0 (le 4 4 ++ (le 2 2 ++ (0 ∷ []))) ∷ frame A ∷ frame B ∷ [])) 0)
     × (Fault (recordsBytes (headerOf 4 0 ∷ [])) 0)
     × (Fault (recordsBytes (headerOf 4 9 ∷ frame A ∷ frame B ∷ [])) 0)
@@ -88,12 +96,16 @@ Wrong =
     × (Fault (recordsBytes (headerOf 4 1 ∷ frame A ∷ frame B ∷ [])) 2)
     × (Fault (recordsBytes (headerOf 4 3 ∷ frame A ∷ frame B ∷ [])) 3)
 
--- frame 2 with a wrong entry; with a wrong mark, which comes before a wrong slot count; with another slot count
+-- frame 2 with a wrong entry; with a wrong mark, which comes before a wrong slot count; with another slot count; both with
+-- another one; a slot count that no map has; a frame without payload
 abbrev Damaged : Type 0
 Damaged =
     (bundleOutcome (bundleOf 4 (fileOf A ∷ set (fileOf B) 44 9 ∷ [])) ≡ refuse 6 2 0)
     × (bundleOutcome (bundleOf 5 (fileOf A ∷ set (fileOf B) 0 9 ∷ [])) ≡ refuse 2 2 0)
     × (bundleOutcome (bundleOf 4 (fileOf A ∷ fileOf (1 ∷ []) ∷ [])) ≡ refuse 10 0 2)
+    × (bundleOutcome (bundleOf 5 (fileOf A ∷ fileOf B ∷ [])) ≡ refuse 10 0 1)
+    × (bundleOutcome (bundleOf 1048577 (fileOf A ∷ [])) ≡ refuse 10 0 1)
+    × (bundleOutcome (bundleOf 4 (fileOf A ∷ [] ∷ [])) ≡ refuse 1 2 0)
 
 -- other kinds between the frames and behind them
 abbrev Skips : Type 0
@@ -132,9 +144,9 @@ unfolding
     bundleOutcome rowOutcome nearestOutcome nearestBuffer bundleWriteOutcome bundleWriteBuffer
 further = (
   (refl, refl, refl, refl, refl, refl, refl, refl, refl, refl, refl, refl, refl),
+  (refl, refl, refl, refl, refl, refl, refl, refl, refl, refl, refl),
+  (refl, refl, refl, refl, refl, refl, refl, refl, refl, refl),
   (refl, refl, refl, refl, refl, refl),
-  (refl, refl, refl, refl, refl, refl, refl, refl),
-  (refl, refl, refl),
   (refl, refl, refl),
   (refl, refl, refl),
   (refl, refl, refl, refl, refl, refl, refl, refl),

@@ -1,7 +1,7 @@
 -- Records of a kind that has no meaning are skipped (docs/FORMAT.md, "Bundles").
 --   SameAnswers a b    reader, row and nearest answer the same for the bytes a and b
---   bundle-skips       a record of kind 2 or more, put in between two records of an accepted bundle or at its end,
---                      changes no answer
+--   bundle-skips       a record of kind 2 or more, put in between two records of a bundle or at its end, changes no answer;
+--                      the bundle may be accepted, or refused because of its frames
 --   put-in             computed: a record put into the bundle of one frame, where it is skipped and where it is refused
 -- Axioms: none.
 use mathlib.Core.Path.{_≡_, refl}
@@ -25,7 +25,6 @@ use Rattle.pciv_bundle_records.proofs.SkippedLaws.{skipped-frames, skipped-outc
 use Rattle.pciv_bundle_frames.specs.Frames.{soundFrames, framesOutcome, rowOf}
 use Rattle.pciv_bundle_nearest.specs.Nearest.{nearestOf, distancesAt, nearestList}
 use Rattle.pciv_bundle.specs.Bundle.{bundleOutcome, rowOutcome, nearestOutcome, nearestBuffer}
-use Rattle.pciv_bundle.proofs.Accepted.{accepted-records}
 
 pub record SameAnswers (a b : List ℕ) : Type 0 where
   pub counts : bundleOutcome a ≡ bundleOutcome b
@@ -34,20 +33,20 @@ pub record SameAnswers (a b : List ℕ) : Type 0 where
   pub nearest : (capacity : ℕ) → nearestOutcome a capacity ≡ nearestOutcome b capacity
   pub list : (out : List ℕ) → nearestBuffer a out ≡ nearestBuffer b out
 
-module _ (b : List ℕ) (bytes : Bytes b) (c : BundleCounts) (accepted : bundleOutcome b ≡ done c)
+module _ (b : List ℕ) (bytes : Bytes b) (c : BundleCounts) (right : recordsOutcome b ≡ done c)
     (r : ℕ) (low : 1 ≤ r) (high : r ≤ recordCount b) (x : Record) (fits : FitsRecord x) (other : 2 ≤ x .kind) where
   frames-same : frames (withRecord b r x) ≡ frames b
-  frames-same = skipped-frames b bytes c (accepted-records b c accepted) r low high x fits other
+  frames-same = skipped-frames b bytes c right r low high x fits other
 
   counts-same : bundleOutcome (withRecord b r x) ≡ bundleOutcome b
   unfolding bundleOutcome
   counts-same =
-      rw (skipped-outcome b bytes c (accepted-records b c accepted) r low high x fits other, frames-same)
+      rw (skipped-outcome b bytes c right r low high x fits other, frames-same)
 
   pub bundle-skips : SameAnswers (withRecord b r x) b
   unfolding rowOutcome nearestOutcome nearestBuffer
   bundle-skips =
-      let slots = skipped-slots b bytes c (accepted-records b c accepted) r low high x fits other in
+      let slots = skipped-slots b bytes c right r low high x fits other in
       record {
         counts = counts-same;
         frames = frames-same;

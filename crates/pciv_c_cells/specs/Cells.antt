@@ -2,7 +2,7 @@
 --   codeOf o              the call's own answer: 0 when done, else the refusal's number
 --   noCells, cellsOf r    the cells of pciv_refusal where there is no refusal, and for a refusal r
 --   refusalCells o        the same for an outcome o
---   cellAfter o old       a number's cell: the result when done, else as it was
+--   cellAfter o old       the cell or cells of a result, as of a number or a row: the result when done, else as it was
 --   summaryCells o old    the cells of pciv_summary: its six numbers when done, else as they were
 --   distanceCell o old, originCell k o old
 --                         a lookup's cells: the distance, and the number that tells its origin in a file with k overflow
