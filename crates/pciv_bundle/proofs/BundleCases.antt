@@ -17,6 +17,7 @@ use Rattle.pciv_format.specs.Refusals.{done, refuse}
 use Rattle.pciv_format.specs.Parts.{wrongEntry, badEntry, entryOf, badSlot, valueOf}
 use Rattle.pciv_format.specs.Check.{badIndexEntry, badCounts, checkHeader, checkParts, checkWith}
 use Rattle.pciv_format.specs.Read.{listOf}
+use Rattle.pciv_format.proofs.Cases.{A, B}
 use Rattle.pciv_bundle_records.specs.Records.{recordAt, recordLen, recordKind, recordPayload, recordCount}
 use Rattle.pciv_bundle_records.specs.Records.{framesBefore, frames, badHeader, badRecord, recordsOutcome, Record}
 use Rattle.pciv_bundle_records.specs.Records.{recordOf, recordBytes, recordsBytes, bundleRecords, bundleOf}
@@ -26,12 +27,6 @@ use Rattle.pciv_bundle_nearest.specs.Nearest.{nearestOf, distancesAt, nearestLi
 use Rattle.pciv_bundle.specs.Bundle.{bundleOutcome, rowOutcome, nearestOutcome, nearestBuffer}
 use Rattle.pciv_bundle.specs.Bundle.{bundleWriteOutcome, bundleWriteBuffer}
 use Rattle.pciv_bundle.proofs.Bundles.{Bundled}
-
-abbrev A : List ℕ
-A = 0 ∷ 254 ∷ 255 ∷ 300 ∷ []
-
-abbrev B : List ℕ
-B = 1 ∷ 1 ∷ 1 ∷ 4294967295 ∷ []
 
 abbrev AB : List ℕ
 AB = bundleOf 4 (fileOf A ∷ fileOf B ∷ [])
