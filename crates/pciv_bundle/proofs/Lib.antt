@@ -1,0 +1,2 @@
+pub mod BundleBytesLaws
+pub mod LentLaws
