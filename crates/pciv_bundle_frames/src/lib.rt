@@ -2,13 +2,12 @@
 // one slot (docs/FORMAT.md, "Bundles"). Definitions are in specs/Frames.antt.
 ghost use mathlib.Core.Path.{_≡_};
 ghost use Prim.Native.Nat.{_+_, _≤_, _<_};
-ghost use mathlib.Core.Bool.{cond, _&&_};
 ghost use mathlib.Core.List.{map};
 ghost use lib.ListN.{length, take};
-ghost use lib.Dec.{ltb, eqb};
+ghost use lib.Dec.{ltb};
 ghost use Rattle.pciv_format.specs.Refusals.{done, refuse, refuseIf, numberAnswer};
 ghost use Rattle.pciv_bundle_records.specs.Records.{frames, PlacedFrames};
-ghost use Rattle.pciv_bundle_frames.specs.Frames.{framesOutcome, CheckedFrames, rowOf};
+ghost use Rattle.pciv_bundle_frames.specs.Frames.{framesOutcome, nextOther, nextFrame, CheckedFrames, rowOf};
 use pciv_bundle_records::Places;
 use pciv_bundle_records::frame_at;
 use pciv_bytes::little_endian::get64;
@@ -19,11 +18,11 @@ use pciv_format::SIZE_MISMATCH;
 use pciv_layout::refusals::refuse_number;
 use pciv_map_lookup::locate;
 
-// The least of the first f + 1 frames that has not n slots, or f + 1, where `other` is that of the first f and frame f
-// has `have` slots.
+// The least of the frames up to f that has not n slots, or f + 1, where `other` is that of those below f and frame f has
+// `have` slots.
 fn next_other(other: usize, f: usize, have: usize, n: usize) -> usize
     requires { ⌜ f < 8 ⌝ }
-    ensures { λ r. ⌜ r ≡ cond (eqb other f && eqb have n) (f + 1) other ⌝ }
+    ensures { λ r. ⌜ r ≡ nextOther n f other have ⌝ }
 {
     if other != f {
         return other;
@@ -32,6 +31,18 @@ fn next_other(other: usize, f: usize, have: usize, n: usize) -> usize
         return other;
     }
     f + 1
+}
+
+// The check of frame f, then the least of the frames up to it that has not n slots, where `other` is that of those below.
+fn check_next(frame: &[u8], f: usize, other: usize, n: usize) -> NumberAnswer
+    requires { ⌜ f < 8 ⌝ }
+    ensures { λ r. ⌜ r ≡ numberAnswer (nextFrame n f other (now (frame .entry))) ⌝ }
+{
+    let checked = check_counts(frame, f + 1);
+    match checked {
+        CountsAnswer::Refused(r) => NumberAnswer::Refused(r),
+        CountsAnswer::Counted(s) => NumberAnswer::Number(next_other(other, f, s.n, n)),
+    }
 }
 
 // Refusal 10 where one of `count` frames, the least of which is `other`, has not n slots, else n.
@@ -54,16 +65,15 @@ pub fn check_frames(bundle: &[u8], places: Places, count: usize, n: usize) -> Nu
     let mut other: usize = 0;
     let mut f: usize = 0;
     while f < count {
-        let this = f;
-        let frame = frame_at(bundle, places, this);
-        let checked = check_counts(frame, this + 1);
+        let frame = frame_at(bundle, places, f);
+        let checked = check_next(frame, f, other, n);
         f += 1;
         match checked {
-            CountsAnswer::Refused(r) => {
+            NumberAnswer::Refused(r) => {
                 return NumberAnswer::Refused(r);
             }
-            CountsAnswer::Counted(s) => {
-                other = next_other(other, this, s.n, n);
+            NumberAnswer::Number(least) => {
+                other = least;
             }
         }
     }
@@ -78,16 +88,15 @@ pub fn check_lent(frames: &[&[u8]; 8], count: usize, n: usize) -> NumberAnswer
     let mut other: usize = 0;
     let mut f: usize = 0;
     while f < count {
-        let this = f;
-        let frame = frames[this];
-        let checked = check_counts(frame, this + 1);
+        let lent = frames[f];
+        let checked = check_next(lent, f, other, n);
         f += 1;
         match checked {
-            CountsAnswer::Refused(r) => {
+            NumberAnswer::Refused(r) => {
                 return NumberAnswer::Refused(r);
             }
-            CountsAnswer::Counted(s) => {
-                other = next_other(other, this, s.n, n);
+            NumberAnswer::Number(least) => {
+                other = least;
             }
         }
     }

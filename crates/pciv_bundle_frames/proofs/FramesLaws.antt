@@ -1,0 +1,161 @@
+-- Laws of the frames' outcome: frame by frame, and what it says of each where it is done.
+--   Passed n fs f other      the frames below f are sound, and `other` is the least of them that has not n slots, or f
+--   passed-none, -more       before the first frame, and past a sound one
+--   frames-refused           at a frame that is refused, so is the outcome
+--   frames-end               past the last frame: refusal 10, or n
+--   frames-value, -checked, -length    where it is done: it is n, and each frame is a whole file with n slots
+--   frames-short, framesOutcome-any    where the first frame has no whole header, the outcome is refusal 1 for every n
+-- Axioms: none.
+use mathlib.Core.Path.{_≡_, refl, sym, ap, _∙_}
+use Prim.Native.Nat.{ℕ, zero, suc, _+_, _≤_, _<_}
+use native.Mathlib.Nat.{add-zero}
+use native.Mathlib.Numerals.{add-one}
+use native.Mathlib.Omega.{arith}
+use native.Mathlib.Decide.{decLe}
+use mathlib.Core.Bool.{Bool, true, false, not, cond, _&&_}
+use mathlib.Core.List.{List, [], _∷_}
+use lib.ListN.{length, getD, drop, drop-of-length-le}
+use lib.Seq.{drop-cons}
+use lib.Dec.{ltb, eqb}
+use borrow.Author.Tests.{lt-ltb, ltb-false, eqb-true, eqb-false, eq-eqb, ne-eqb}
+use Rattle.pciv_bytes.specs.Ranges.{firstBelow}
+use Rattle.pciv_bytes.proofs.RangesLaws.{firstBelow-none, firstBelow-at, firstBelow-le, firstBelow-clear, firstBelow-has, firstBelow-all}
+use Rattle.pciv_format.specs.Layout.{fileLen, countsOf}
+use Rattle.pciv_format.specs.Refusals.{Outcome, done, refused, refuse, refuseIf, andThen}
+use Rattle.pciv_format.specs.Check.{nField, kField, countsFile, checkHeader, checkWith, otherLength, CheckedMap}
+use Rattle.pciv_format.specs.declared.Counts.{Counts}
+use Rattle.pciv_format.specs.declared.Refusal.{Refusal}
+use Rattle.pciv_format.proofs.PartsLaws.{not-eqb}
+use Rattle.pciv_format.proofs.RefusalsLaws.{refuseIf-done, andThen-done}
+use Rattle.pciv_format.proofs.CheckLaws.{Accepted, done-countsFile, accepted-length}
+use Rattle.pciv_bundle_frames.specs.Frames.{soundFrames, otherSlots, firstOther, framesOutcome, nextOther, nextFrame}
+use Rattle.pciv_bundle_frames.specs.Frames.{CheckedFrames}
+
+-- ---- one frame after another
+
+pub record Passed (n : ℕ) (fs : List (List ℕ)) (f other : ℕ) : Type 0 where
+  pub inside : f ≤ length fs
+  pub rest : soundFrames 1 fs ≡ soundFrames (f + 1) (drop f fs)
+  pub least : other ≡ firstBelow (otherSlots n fs) f
+
+pub passed-none : (n : ℕ) (fs : List (List ℕ)) → Passed n fs 0 0
+passed-none n fs =
+    record { inside = omega arith; rest = refl; least = sym (firstBelow-none (otherSlots n fs) 0 (λ j h. absurd (omega arith))) }
+
+-- the least number below f + 1 with p, from that below f
+least-more : (p : ℕ → Bool) (f : ℕ) (t : Bool) → p f ≡ not t
+    → cond (eqb (firstBelow p f) f && t) (f + 1) (firstBelow p f) ≡ firstBelow p (f + 1)
+least-more p f t e = go (eqb (firstBelow p f) f) t refl e
+  where
+    go : (b t : Bool) → eqb (firstBelow p f) f ≡ b → p f ≡ not t
+        → cond (b && t) (f + 1) (firstBelow p f) ≡ firstBelow p (f + 1)
+    go true true all e =
+        let z : firstBelow p f ≡ f = eqb-true (firstBelow p f) f all in
+        sym (firstBelow-none p (f + 1) (λ j h. elim (decLe f j) [
+          | yes d ↦ (let q : j ≡ f = omega arith in rw (q, e))
+          | no d ↦ firstBelow-all p f j (omega arith) (omega arith)
+        ]))
+    go true false all e =
+        let z : firstBelow p f ≡ f = eqb-true (firstBelow p f) f all in
+        z ∙ sym (firstBelow-at p (f + 1) f (omega arith) (λ j h. firstBelow-all p f j (omega arith) h) e)
+    go false t some e =
+        let below : firstBelow p f < f = elim (decLe f (firstBelow p f)) [
+          | yes d ↦ absurd (eqb-false (firstBelow p f) f some (omega (arith, firstBelow-le p f)))
+          | no d ↦ omega arith
+        ] in
+        sym (firstBelow-at p (f + 1) (firstBelow p f) (omega arith) (firstBelow-clear p f) (firstBelow-has p f below))
+
+-- the counts of a sound frame have its slots
+slots-are : (mp : ℕ) (b : List ℕ) (s : Counts) → countsFile mp b ≡ done s → s .n ≡ nField b
+unfolding countsOf
+slots-are mp b s e = ap (λ (z : Counts). z .n) (done-countsFile mp b s e .counts)
+
+andThen-refused : {A B : Type 0} (o : Outcome A) (f : A → B) (r : Refusal) → andThen o (λ a. done (f a)) ≡ refused r
+    → o ≡ refused r
+andThen-refused (done a) f r e = cc
+andThen-refused (refused x) f r e = cc
+
+module _ {n : ℕ} {fs : List (List ℕ)} {f other : ℕ} (e : Passed n fs f other) where
+  next-least : (s : Counts) → countsFile (f + 1) (getD fs f []) ≡ done s
+      → nextOther n f other (s .n) ≡ firstBelow (otherSlots n fs) (f + 1)
+  next-least s q =
+      rw (e .least, slots-are (f + 1) (getD fs f []) s q)
+      (least-more (otherSlots n fs) f (eqb (nField (getD fs f [])) n) refl)
+
+  module _ (more : f < length fs) where
+    step : soundFrames 1 fs ≡ andThen (countsFile (f + 1) (getD fs f [])) (λ s. soundFrames (f + 1 + 1) (drop (f + 1) fs))
+    unfolding soundFrames
+    step = e .rest ∙ rw (drop-cons fs f [], add-one (f + 1), add-one f)
+
+    pub passed-more : (least : ℕ) → nextFrame n f other (getD fs f []) ≡ done least → Passed n fs (f + 1) least
+    passed-more least q =
+        let h = andThen-done (countsFile (f + 1) (getD fs f [])) (λ s. done (nextOther n f other (s .n))) least q in
+        let next : nextOther n f other (h .0 .n) ≡ least = cc (h .2) in
+        record { inside = omega arith; rest = step ∙ rw (h .1); least = sym next ∙ next-least (h .0) (h .1) }
+
+    pub frames-refused : (r : Refusal) → nextFrame n f other (getD fs f []) ≡ refused r → framesOutcome n fs ≡ refused r
+    unfolding framesOutcome
+    frames-refused r q = rw (step, andThen-refused (countsFile (f + 1) (getD fs f [])) (λ s. nextOther n f other (s .n)) r q)
+
+  pub frames-end : length fs ≤ f → framesOutcome n fs ≡ refuseIf (ltb other (length fs)) (refuse 10 0 (other + 1)) (done n)
+  unfolding framesOutcome soundFrames
+  frames-end h =
+      let all : f ≡ length fs = omega (arith, e .inside) in
+      rw (e .rest, drop-of-length-le fs h, ← all, e .least)
+
+-- ---- where it is done
+
+sound-each : (fs : List (List ℕ)) (f m : ℕ) → soundFrames f fs ≡ done m → (j : ℕ) → j < length fs
+    → (s : Counts) × (countsFile (f + j) (getD fs j []) ≡ done s)
+unfolding soundFrames
+sound-each [] f m e j h = absurd (omega arith)
+sound-each (b ∷ fs) f m e zero h = let d = andThen-done (countsFile f b) _ m e in (d .0, rw (add-zero f) (d .1))
+sound-each (b ∷ fs) f m e (suc j) h =
+    let d = andThen-done (countsFile f b) _ m e in
+    let r = sound-each fs (suc f) m (d .2) j (omega arith) in
+    let same : f + suc j ≡ suc f + j = omega arith in
+    (r .0, rw same (r .1))
+
+module _ (n : ℕ) (fs : List (List ℕ)) (m : ℕ) (e : framesOutcome n fs ≡ done m) where
+  passed : (s : ℕ) × (soundFrames 1 fs ≡ done s) × (ltb (firstOther n fs) (length fs) ≡ false) × (done n ≡ done m)
+  unfolding framesOutcome
+  passed =
+      let d = andThen-done (soundFrames 1 fs) _ m e in
+      let g = refuseIf-done (ltb (firstOther n fs) (length fs)) _ _ m (d .2) in
+      (d .0, d .1, g .0, g .1)
+
+  pub frames-value : m ≡ n
+  frames-value = cc (passed .3)
+
+  -- a frame, at the counts in its header, and these are n
+  accepted : (f : ℕ) → f < length fs
+      → (let b = getD fs f [] in (s : Counts) × Accepted otherLength b (nField b) (kField b) s)
+  accepted f h =
+      let each = sound-each fs 1 (passed .0) (passed .1) f h in
+      (each .0, done-countsFile (1 + f) (getD fs f []) (each .0) (each .1))
+
+  slots : (f : ℕ) → f < length fs → nField (getD fs f []) ≡ n
+  slots f h =
+      not-eqb _ _ (firstBelow-all (otherSlots n fs) (length fs) f (ltb-false _ _ (passed .2)) h)
+
+  pub frames-checked : CheckedFrames fs n
+  frames-checked f h = rw (slots f h) at (accepted f h .1 .checked)
+
+  pub frames-length : (f : ℕ) → f < length fs → length (getD fs f []) ≡ fileLen n (kField (getD fs f []))
+  frames-length f h = let a = accepted f h in rw (slots f h) at (accepted-length _ _ _ (a .0) (a .1))
+
+-- ---- the first frame has no whole header
+
+check-short : (b : List ℕ) → length b < 40 → countsFile 1 b ≡ refuse 1 1 0
+unfolding checkWith checkHeader
+check-short b short = rw (lt-ltb (length b) 40 short)
+
+pub frames-short : (n : ℕ) (fs : List (List ℕ)) → 0 < length fs → length (getD fs 0 []) < 40
+    → framesOutcome n fs ≡ refuse 1 1 0
+unfolding framesOutcome soundFrames
+frames-short n [] some short = absurd (omega arith)
+frames-short n (b ∷ fs) some short = rw (check-short b short)
+
+pub framesOutcome-any : (n m : ℕ) (fs : List (List ℕ)) → 0 < length fs → length (getD fs 0 []) < 40
+    → framesOutcome n fs ≡ framesOutcome m fs
+framesOutcome-any n m fs some short = frames-short n fs some short ∙ sym (frames-short m fs some short)
