@@ -1,2 +1,3 @@
 pub mod BundleBytesLaws
 pub mod LentLaws
+pub mod BundleCaseLaws
