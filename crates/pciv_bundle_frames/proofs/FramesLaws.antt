@@ -1,6 +1,6 @@
 -- Laws of the frames' outcome: frame by frame, and what it says of each where it is done.
 --   Passed n fs f other      the frames below f are sound, and `other` is the least of them that has not n slots, or f
---   passed-none, -more       before the first frame, and past a sound one
+--   passed-none, -more, -le  before the first frame, and past a sound one; `other` is among them, or behind the last
 --   frames-refused           at a frame that is refused, so is the outcome
 --   frames-end               past the last frame: refusal 10, or n
 --   frames-value, -checked, -length    where it is done: it is n, and each frame is a whole file with n slots
@@ -97,11 +97,15 @@ module _ {n : ℕ} {fs : List (List ℕ)} {f other : ℕ} (e : Passed n fs f oth
     unfolding framesOutcome
     frames-refused r q = rw (step, andThen-refused (countsFile (f + 1) (getD fs f [])) (λ s. nextOther n f other (s .n)) r q)
 
-  pub frames-end : length fs ≤ f → framesOutcome n fs ≡ refuseIf (ltb other (length fs)) (refuse 10 0 (other + 1)) (done n)
+  pub frames-end : (count : ℕ) → length fs ≡ count → count ≤ f
+      → framesOutcome n fs ≡ refuseIf (ltb other count) (refuse 10 0 (other + 1)) (done n)
   unfolding framesOutcome soundFrames
-  frames-end h =
+  frames-end count many h =
       let all : f ≡ length fs = omega (arith, e .inside) in
-      rw (e .rest, drop-of-length-le fs h, ← all, e .least)
+      rw (e .rest, drop-of-length-le fs {i = f} (omega arith), ← many, ← all, e .least)
+
+  pub passed-le : other ≤ length fs
+  passed-le = omega (arith, e .least, e .inside, firstBelow-le (otherSlots n fs) f)
 
 -- ---- where it is done
 

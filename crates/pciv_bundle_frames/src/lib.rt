@@ -85,10 +85,11 @@ pub fn check_lent(frames: &[&[u8]; 8], count: usize, n: usize) -> NumberAnswer
     requires { ⌜ count ≤ 8 ⌝ }
     ensures { λ r. ⌜ r ≡ numberAnswer (framesOutcome n (take count (map now (now (frames .entry))))) ⌝ }
 {
+    let all: &[&[u8]] = frames;
     let mut other: usize = 0;
     let mut f: usize = 0;
     while f < count {
-        let lent = frames[f];
+        let lent = all[f];
         let checked = check_next(lent, f, other, n);
         f += 1;
         match checked {

@@ -6,6 +6,7 @@
 --   splitting-header          what record 0 says
 --   splitting-refused         the next record is at fault
 --   splitting-other, -frame   past a record that is no frame, and past a frame
+--   split-refused             what a refusal says
 --   splitting-missing, -done, -placed    at the end: frames are missing, or all are there, in their places
 -- Axioms: none.
 use mathlib.Core.Path.{_≡_, refl, sym, ap, _∙_, subst}
@@ -15,7 +16,7 @@ use native.Mathlib.Decide.{decLe}
 use native.Mathlib.Numerals.{add-one}
 use mathlib.Core.Bool.{Bool, true, false}
 use mathlib.Core.List.{List, [], _∷_, _++_}
-use lib.ListN.{length, getD, set, take, drop, length-append, List·getD-append}
+use lib.ListN.{length, getD, set, take, drop, length-set, List·getD-append}
 use lib.Seq.{getD-set-same, getD-set-other, getD-at}
 use lib.Dec.{eqb}
 use borrow.Author.Tests.{eq-eqb, ne-eqb}
@@ -23,8 +24,9 @@ use Rattle.pciv_bytes.specs.LittleEndian.{get}
 use Rattle.pciv_format.specs.Refusals.{done, refuse}
 use Rattle.pciv_bundle_records.specs.Records.{behindRecord, recordAt, recordLen, recordKind, recordPayload}
 use Rattle.pciv_bundle_records.specs.Records.{frameCount, isFrame, framesBefore, frames, badHeader, badRecord}
-use Rattle.pciv_bundle_records.specs.Records.{wrongRecord, countsIn, recordsOutcome, PlacedFrame, PlacedFrames}
-use Rattle.pciv_bundle_records.specs.declared.Places.{Places}
+use Rattle.pciv_bundle_records.specs.Records.{wrongRecord, countsIn, recordsOutcome, bundleAnswer, PlacedFrames}
+use Rattle.pciv_bundle_records.specs.declared.BundleCounts.{BundleCounts}
+use Rattle.pciv_bundle_records.specs.declared.Split.{Split}
 use Rattle.pciv_bundle_records.proofs.RecordsLaws.{recordAt-next, recordAt-first, recordCount-end}
 use Rattle.pciv_bundle_records.proofs.RecordsLaws.{framesTo, length-framesTo, frames-all, framesTo-frame, framesTo-other}
 use Rattle.pciv_bundle_records.proofs.RecordsLaws.{framesBefore-frame, framesBefore-other, Header, header-right}
@@ -38,6 +40,8 @@ pub record Placed (b starts ends : List ℕ) (fs : List (List ℕ)) (f : ℕ) : 
   pub bytes : take (getD ends f 0 - getD starts f 0) (drop (getD starts f 0) b) ≡ getD fs f []
 
 pub record Splitting (b starts ends : List ℕ) (found number at : ℕ) : Type 0 where
+  pub starts-long : length starts ≡ 8
+  pub ends-long : length ends ≡ 8
   pub past : 1 ≤ number
   pub here : at ≡ recordAt b number
   pub inside : at ≤ length b
@@ -46,10 +50,13 @@ pub record Splitting (b starts ends : List ℕ) (found number at : ℕ) : Type 0
   pub placed : (f : ℕ) → f < found → Placed b starts ends (framesTo b number) f
 
 -- behind record 0
-pub splitting-start : (b starts ends : List ℕ) → 12 ≤ length b → badHeader b ≡ false → Splitting b starts ends 0 1 12
-splitting-start b starts ends long right =
+pub splitting-start : (b starts ends : List ℕ) → length starts ≡ 8 → length ends ≡ 8 → 12 ≤ length b
+    → badHeader b ≡ false → Splitting b starts ends 0 1 12
+splitting-start b starts ends starts-long ends-long long right =
     let h = header-right b right in
     record {
+      starts-long = starts-long;
+      ends-long = ends-long;
       past = omega arith;
       here = sym (header-end b h);
       inside = long;
@@ -100,6 +107,8 @@ module _ {b starts ends : List ℕ} {found number at : ℕ} (s : Splitting b sta
         let q : isFrame b number ≡ false = next-frame ∙ ne-eqb (get 2 b (at + 4)) 1 other in
         rw (add-one number)
         (record {
+          starts-long = s .starts-long;
+          ends-long = s .ends-long;
           past = omega arith;
           here = next-at;
           inside = omega (arith, next-says .inside);
@@ -109,14 +118,14 @@ module _ {b starts ends : List ℕ} {found number at : ℕ} (s : Splitting b sta
         })
 
     -- past a frame
-    module _ (long : found < length starts) (long' : found < length ends) where
+    module _ (room : found < 8) where
       frame-placed : isFrame b number ≡ true → (f : ℕ) → f < found + 1
           → Placed b (set starts found (at + 6)) (set ends found next) (framesTo b (suc number)) f
       frame-placed q f h =
           elim (decLe found f) [
             | yes d ↦ (let e : f ≡ found = omega arith in
-                let e₁ = getD-set-same starts found (at + 6) 0 long in
-                let e₂ = getD-set-same ends found next 0 long' in
+                let e₁ = getD-set-same starts found (at + 6) 0 (omega (arith, s .starts-long)) in
+                let e₂ = getD-set-same ends found next 0 (omega (arith, s .ends-long)) in
                 rw e
                 (record {
                   rising = omega (arith, e₁, e₂, next-says .long);
@@ -144,6 +153,8 @@ module _ {b starts ends : List ℕ} {found number at : ℕ} (s : Splitting b sta
           let q : isFrame b number ≡ true = next-frame ∙ eq-eqb (get 2 b (at + 4)) 1 kind in
           rw (add-one number)
           (record {
+            starts-long = length-set starts found (at + 6) ∙ s .starts-long;
+            ends-long = length-set ends found next ∙ s .ends-long;
             past = omega arith;
             here = next-at;
             inside = omega (arith, next-says .inside);
@@ -168,3 +179,11 @@ module _ {b starts ends : List ℕ} {found number at : ℕ} (s : Splitting b sta
         let e = frames-all b number (recordCount-end b number at-end) in
         let p = s .placed f (omega (arith, s .counted, length-framesTo b number, ap length e)) in
         record { rising = p .rising; inside = p .inside; bytes = rw e (p .bytes) }
+
+-- what a refusal says: its answer, and no places
+pub split-refused : (b : List ℕ) (s : Split) (place : ℕ) → recordsOutcome b ≡ refuse 14 0 place
+    → s .answer ≡ bundleAnswer (refuse 14 0 place)
+    → (s .answer ≡ bundleAnswer (recordsOutcome b))
+    × ((c : BundleCounts) → recordsOutcome b ≡ done c → PlacedFrames b (s .places))
+split-refused b s place e answer =
+    (answer ∙ ap bundleAnswer (sym e), λ c accepted. (let z : _≡_ {A = ℕ} 0 1 = cc in absurd (omega arith)))

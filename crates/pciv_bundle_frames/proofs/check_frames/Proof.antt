@@ -1,0 +1,105 @@
+-- Proves pciv_bundle_frames::check_frames. Invariant: the frames below f are sound, and `other` is the least of them with
+-- another number of slots, or f (`Passed`, FramesLaws.antt). Falls: count - f.
+use mathlib.Core.Path.{_≡_, sym, ap, _∙_}
+use Prim.Native.Nat.{ℕ, _<_, _-_}
+use native.Mathlib.Omega.{arith}
+use mathlib.Core.List.{List, []}
+use lib.ListN.{length, getD}
+use Rattle.pciv_format.specs.Refusals.{numberAnswer}
+use Rattle.pciv_format.proofs.RefusalsLaws.{numberAnswer-number, numberAnswer-refused}
+use Rattle.pciv_bundle_records.specs.Records.{frames}
+use Rattle.pciv_bundle_frames.specs.Frames.{nextFrame}
+use Rattle.pciv_bundle_frames.proofs.FramesLaws.{Passed, passed-none, passed-more, passed-le}
+use Rattle.pciv_bundle_frames.proofs.FramesLaws.{frames-refused, frames-end}
+use borrow.Author.Needs.{needs}
+use Rattle.pciv_bundle_frames.proofs.check_frames.Statement.{statement}
+use Rattle.pciv_bundle_frames.proofs.check_frames.Tie as tie
+
+abbrev Inv-loop : tie.InvT-loop
+Inv-loop bundle places count n other₀ f₀ other f = Passed n (frames bundle) f other
+
+abbrev μ-loop : tie.MeasureT-loop
+μ-loop bundle places count n other₀ f₀ other f = count - f
+
+-- frame f is there
+there : (c : tie.In-loop Inv-loop μ-loop)
+    → (let s = c .before .before .before in c .before .loop .f < length (frames (s .args .bundle .now)))
+there c = let s = c .before .before .before in omega (arith, c .loop-test .taken, s .pre .0 .1)
+
+-- what the check of frame f finds
+found : (c : tie.After-check-next Inv-loop μ-loop)
+    → (let l = c .before .before .before in
+    let a = l .before .before .args in
+    c .check-next .result
+    ≡ numberAnswer (nextFrame (a .n) (l .loop .f) (l .loop .other) (getD (frames (a .bundle .now)) (l .loop .f) [])))
+found c =
+    let l = c .before .before .before in
+    let a = l .before .before .args in
+    c .check-next .ensures
+    ∙ ap (λ (b : List ℕ). numberAnswer (nextFrame (a .n) (l .loop .f) (l .loop .other) b)) (c .before .frame-at .ensures)
+
+loop-holds : tie.Need-loop-holds Inv-loop μ-loop
+loop-holds c = passed-none _ _
+
+frame-at-requires : tie.Need-frame-at-requires Inv-loop μ-loop
+frame-at-requires c κs = (omega (arith, c .before .before .before .pre .0 .0), c .before .before .before .pre .1 _ (there c))
+
+check-next-requires : tie.Need-check-next-requires Inv-loop μ-loop
+check-next-requires c κs = omega (arith, c .before .before .before .before .pre .0 .0)
+
+add-f : tie.Need-add-f Inv-loop μ-loop
+add-f c = omega arith
+
+enum-known-checked : tie.Need-enum-known-checked Inv-loop μ-loop
+enum-known-checked c = search needs
+
+returns : tie.Need-returns Inv-loop μ-loop
+returns c =
+    let k = c .before .before .before in
+    let l = k .before .before .before in
+    ap numberAnswer
+    (sym (frames-refused (l .loop .inv) (there (k .before .before)) (c .before .checked .given .0 .0)
+    (numberAnswer-refused _ _ (sym (c .before .checked .given .1) ∙ found k))))
+
+enum-known-checked-2 : tie.Need-enum-known-checked-2 Inv-loop μ-loop
+enum-known-checked-2 c = search needs
+
+loop-less : tie.Need-loop-less Inv-loop μ-loop
+loop-less c = omega arith
+
+loop-again : tie.Need-loop-again Inv-loop μ-loop
+loop-again c =
+    let k = c .before .before .before in
+    let l = k .before .before .before in
+    passed-more (l .loop .inv) (there (k .before .before)) (c .before .checked2 .given .0 .0)
+    (numberAnswer-number _ _ (sym (c .before .checked2 .given .1) ∙ found k))
+
+same-slots-requires : tie.Need-same-slots-requires Inv-loop μ-loop
+same-slots-requires c κs =
+    let s = c .before .before .before in
+    omega (arith, passed-le (c .before .loop .inv), s .pre .0 .0, s .pre .0 .1)
+
+returns-2 : tie.Need-returns-2 Inv-loop μ-loop
+returns-2 c =
+    let l = c .before .before in
+    let s = l .before .before in
+    c .same-slots .ensures
+    ∙ ap numberAnswer (sym (frames-end (l .loop .inv) (s .args .count) (sym (s .pre .0 .1)) (c .before .loop-test .left)))
+
+pub check-frames-spec : {M : Type 1} → statement M
+check-frames-spec =
+    tie.close
+    (tie.spec
+    Inv-loop
+    μ-loop
+    loop-holds
+    frame-at-requires
+    check-next-requires
+    add-f
+    enum-known-checked
+    returns
+    enum-known-checked-2
+    loop-less
+    loop-again
+    same-slots-requires
+    returns-2)
