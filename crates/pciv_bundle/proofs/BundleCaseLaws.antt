@@ -1,7 +1,9 @@
 -- What each routine on bundles answers, case by case.
+--   counted-frames                     sound records have up to eight frames, as many as they say
 --   bundle-records, bundle-frames, bundle-done    a bundle's records are refused, its frames are, or it is accepted
 --   row-refused, nearest-refused       the bundle is refused, and so is the call
---   bundle-count, bundle-checked       an accepted bundle has one to eight frames, each a checked map with as many slots
+--   records-accepted                   an accepted bundle has sound records
+--   bundle-checked                     each of its frames is a checked map with its slots
 --   row-outside, row-inside            refusal 9, or the distances at a slot
 --   nearest-short, nearest-done, nearest-buffer    refusal 12, or how many distances, and what is written
 --   write-none, write-many             writing: refusal 14
@@ -43,6 +45,11 @@ module _ (b : List ℕ) where
   bundle-records r e = rw e
 
   module _ (c : BundleCounts) (e : recordsOutcome b ≡ done c) where
+    pub counted-frames : (c .frames ≤ 8) × (c .frames ≡ length (frames b))
+    counted-frames =
+        let a = done-accepted b c e in
+        rw (done-counts b c e) (a .few, sym (a .counted))
+
     pub bundle-frames : (r : Refusal) → framesOutcome (c .slots) (frames b) ≡ refused r → bundleOutcome b ≡ refused r
     unfolding bundleOutcome
     bundle-frames r g = rw (e, g)
@@ -74,10 +81,8 @@ module _ (b : List ℕ) (c : BundleCounts) (e : bundleOutcome b ≡ done c) wher
       let same : d .0 ≡ c = cc in
       (g .0, d .1 ∙ last, ap (λ (x : BundleCounts). framesOutcome (x .slots) (frames b)) (sym same) ∙ g .1)
 
-  pub bundle-count : (c .frames ≤ 8) × (c .frames ≡ length (frames b))
-  bundle-count =
-      let a = done-accepted b c (parts .1) in
-      rw (done-counts b c (parts .1)) (a .few, sym (a .counted))
+  pub records-accepted : recordsOutcome b ≡ done c
+  records-accepted = parts .1
 
   pub bundle-checked : CheckedFrames (frames b) (c .slots)
   bundle-checked = frames-checked (c .slots) (frames b) _ (parts .2)
@@ -108,7 +113,7 @@ module _ (b : List ℕ) (c : BundleCounts) (e : bundleOutcome b ≡ done c) wher
       → sets out 0 (nearestList (frames b) (c .slots)) ≡ nearestBuffer b out
   unfolding nearestBuffer
   nearest-buffer out h =
-      let slots : slotCount b ≡ c .slots = ap (λ (x : BundleCounts). x .slots) (sym (done-counts b c (parts .1))) in
+      let slots : slotCount b ≡ c .slots = ap (λ (x : BundleCounts). x .slots) (sym (done-counts b c records-accepted)) in
       rw (nearest-done (length out) h, slots)
       (sets-front (nearestList (frames b) (c .slots)) out (rw length-nearest h))
 
