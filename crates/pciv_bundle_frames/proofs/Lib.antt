@@ -1,1 +1,2 @@
 pub mod FramesLaws
+pub mod RowLaws

@@ -85,6 +85,7 @@ pub fn check_lent(frames: &[&[u8]; 8], count: usize, n: usize) -> NumberAnswer
     requires { ⌜ count ≤ 8 ⌝ }
     ensures { λ r. ⌜ r ≡ numberAnswer (framesOutcome n (take count (map now (now (frames .entry))))) ⌝ }
 {
+    // as a slice, since that tells how many there are
     let all: &[&[u8]] = frames;
     let mut other: usize = 0;
     let mut f: usize = 0;

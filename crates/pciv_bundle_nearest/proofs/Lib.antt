@@ -1,0 +1,3 @@
+pub mod NearestLaws
+pub mod ChangedLaws
+pub mod PassesLaws

@@ -18,18 +18,19 @@
 -- Axioms: none.
 use mathlib.Core.Path.{_≡_, refl, sym, ap, _∙_}
 use Prim.Native.Nat.{ℕ, zero, suc, _+_, _*_, _≤_, _<_}
-use native.Mathlib.Nat.{zero-add, add-zero}
+use native.Mathlib.Nat.{zero-add}
 use native.Mathlib.Omega.{arith}
 use native.Mathlib.Decide.{decLe}
 use native.Mathlib.Numerals.{add-one}
 use mathlib.Core.Bool.{Bool, true, false, not, cond, _||_, _&&_}
 use mathlib.Core.List.{List, [], _∷_, _++_, map, map-append, append-nil}
-use lib.ListN.{length, getD, length-append, length-map}
+use lib.ListN.{length, length-append, length-map}
 use lib.Dec.{ltb, leb, eqb}
-use borrow.Author.Tests.{lt-ltb, le-ltb, le-leb, lt-leb, eq-eqb, ne-eqb, ltb-false, leb-false, leb-true, eqb-true, eqb-false, not-false}
-use Rattle.pciv_bytes.specs.Ranges.{firstBelow, positions, keepIf}
+use borrow.Author.Tests.{lt-ltb, le-ltb, le-leb, lt-leb, eq-eqb, ne-eqb}
+use borrow.Author.Tests.{ltb-false, leb-false, leb-true, eqb-true, eqb-false, not-false}
+use Rattle.pciv_bytes.specs.Ranges.{positions, keepIf}
 use Rattle.pciv_bytes.specs.LittleEndian.{get}
-use Rattle.pciv_bytes.proofs.RangesLaws.{true-false, firstBelow-at, firstBelow-none, firstBelow-has, firstBelow-le}
+use Rattle.pciv_bytes.proofs.RangesLaws.{true-false, firstBelow-at, firstBelow-none, firstBelow-has}
 use Rattle.pciv_bytes.proofs.PositionsLaws.{positions-append, rises}
 use Rattle.pciv_format.specs.Refusals.{Outcome, done, refused, refuse, refuseIf}
 use Rattle.pciv_format.specs.declared.Refusal.{Refusal}
@@ -307,8 +308,8 @@ module _ (b : List ℕ) where
     unfolding recordsOutcome
     records-refused inside bad =
         let past : r < recordCount b = recordCount-past b r inside in
-        refuseFirst-some 14 0 (badRecord b) (recordCount b) r _ (sym (firstBelow-at (badRecord b) (recordCount b) r past clear bad))
-        past
+        refuseFirst-some 14 0 (badRecord b) (recordCount b) r _
+        (sym (firstBelow-at (badRecord b) (recordCount b) r past clear bad)) past
 
     module _ (end : recordAt b r ≡ length b) (some : 1 ≤ r) where
       none-bad : recordsOutcome b ≡ refuseIf (ltb (framesBefore b r) (frameCount b)) (refuse 14 0 r) (done (countsIn b))

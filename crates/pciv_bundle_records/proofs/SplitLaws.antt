@@ -1,21 +1,21 @@
 -- Laws of the walk over the records of a bundle.
 --   Placed b starts ends fs f    frame f of fs stands in b from `starts` to `ends`
---   Splitting b starts ends found number at    the walk: record `number` would start at `at`, `found` frames stand before it, and
---                             each has its place
+--   Splitting b starts ends found number at    the walk: record `number` would start at `at`, no record before it is at
+--                             fault, `found` of them are frames, and each has its place
 --   splitting-start           behind record 0
 --   splitting-header          what record 0 says
 --   splitting-refused         the next record is at fault
 --   splitting-other, -frame   past a record that is no frame, and past a frame
---   split-refused             what a refusal says
 --   splitting-missing, -done, -placed    at the end: frames are missing, or all are there, in their places
+--   split-refused             what a refusal says
 -- Axioms: none.
-use mathlib.Core.Path.{_≡_, refl, sym, ap, _∙_, subst}
+use mathlib.Core.Path.{_≡_, sym, ap, _∙_}
 use Prim.Native.Nat.{ℕ, suc, _+_, _-_, _≤_, _<_}
 use native.Mathlib.Omega.{arith}
 use native.Mathlib.Decide.{decLe}
 use native.Mathlib.Numerals.{add-one}
-use mathlib.Core.Bool.{Bool, true, false}
-use mathlib.Core.List.{List, [], _∷_, _++_}
+use mathlib.Core.Bool.{true, false}
+use mathlib.Core.List.{List, [], _∷_}
 use lib.ListN.{length, getD, set, take, drop, length-set, List·getD-append}
 use lib.Seq.{getD-set-same, getD-set-other, getD-at}
 use lib.Dec.{eqb}
@@ -23,14 +23,15 @@ use borrow.Author.Tests.{eq-eqb, ne-eqb}
 use Rattle.pciv_bytes.specs.LittleEndian.{get}
 use Rattle.pciv_format.specs.Refusals.{done, refuse}
 use Rattle.pciv_bundle_records.specs.Records.{behindRecord, recordAt, recordLen, recordKind, recordPayload}
-use Rattle.pciv_bundle_records.specs.Records.{frameCount, isFrame, framesBefore, frames, badHeader, badRecord}
+use Rattle.pciv_bundle_records.specs.Records.{frameCount, isFrame, framesBefore, badHeader, badRecord}
 use Rattle.pciv_bundle_records.specs.Records.{wrongRecord, countsIn, recordsOutcome, bundleAnswer, PlacedFrames}
 use Rattle.pciv_bundle_records.specs.declared.BundleCounts.{BundleCounts}
 use Rattle.pciv_bundle_records.specs.declared.Split.{Split}
-use Rattle.pciv_bundle_records.proofs.RecordsLaws.{recordAt-next, recordAt-first, recordCount-end}
+use Rattle.pciv_bundle_records.proofs.RecordsLaws.{recordAt-next, recordCount-end}
 use Rattle.pciv_bundle_records.proofs.RecordsLaws.{framesTo, length-framesTo, frames-all, framesTo-frame, framesTo-other}
 use Rattle.pciv_bundle_records.proofs.RecordsLaws.{framesBefore-frame, framesBefore-other, Header, header-right}
-use Rattle.pciv_bundle_records.proofs.RecordsLaws.{header-end, header-frames, Later, wrong-right, badRecord-first, first-right, badRecord-later}
+use Rattle.pciv_bundle_records.proofs.RecordsLaws.{header-end, header-frames, Later, wrong-right}
+use Rattle.pciv_bundle_records.proofs.RecordsLaws.{badRecord-first, first-right, badRecord-later}
 use Rattle.pciv_bundle_records.proofs.RecordsLaws.{records-refused, records-missing, records-done}
 
 -- frame f of fs stands in b from `starts` to `ends`
@@ -66,6 +67,7 @@ splitting-start b starts ends starts-long ends-long long right =
     }
 
 module _ {b starts ends : List ℕ} {found number at : ℕ} (s : Splitting b starts ends found number at) where
+  -- what record 0 says
   pub splitting-header : Header b
   splitting-header = first-right b (s .clear 0 (s .past))
 
@@ -132,7 +134,8 @@ module _ {b starts ends : List ℕ} {found number at : ℕ} (s : Splitting b sta
                   inside = omega (arith, e₂, next-says .inside);
                   bytes = rw (e₁, e₂, framesTo-frame b number q)
                       (next-payload
-                      ∙ sym (getD-at (framesTo b number) (recordPayload b number) [] [] found (length-framesTo b number ∙ sym (s .counted))));
+                      ∙ sym (getD-at (framesTo b number) (recordPayload b number) [] [] found
+                      (length-framesTo b number ∙ sym (s .counted))));
                 }))
             | no d ↦ (let p = s .placed f (omega arith) in
                 let e₁ = getD-set-other starts found f (at + 6) 0 (λ e. omega arith) in

@@ -13,8 +13,6 @@ use Rattle.pciv_bundle_records.proofs.RecordsLaws.{bad-kind, bad-len, b
 use borrow.Author.Needs.{needs}
 use Rattle.pciv_bundle_records.proofs.bad_header.Statement.{statement}
 use Rattle.pciv_bundle_records.proofs.bad_header.Tie as tie
-use Rattle.pciv_bundle_records.proofs.bad_header.Reads as reads
-use Rattle.pciv_bundle_records.proofs.bad_header.Lts as lts
 
 abbrev bundle : tie.After-get162 → List ℕ
 bundle g = g .before .before .before .before .before .args .bundle .now

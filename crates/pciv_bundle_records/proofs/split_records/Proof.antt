@@ -1,7 +1,7 @@
 -- Proves pciv_bundle_records::split_records. Invariant: `Splitting`: record `number` would start at `at`, no record before it is
 -- at fault, `found` of them are frames, and each has its place. Falls: the bytes from `at` on.
 use mathlib.Core.Path.{_≡_, refl, sym, ap, ap₂, _∙_}
-use mathlib.Core.Bool.{false, true}
+use mathlib.Core.Bool.{false}
 use mathlib.Core.List.{List}
 use Prim.Native.Nat.{ℕ, _+_, _-_, _≤_, _<_}
 use native.Mathlib.Omega.{arith}
@@ -19,13 +19,6 @@ use Rattle.pciv_bundle_records.proofs.SplitLaws.{splitting-placed, spli
 use borrow.Author.Needs.{needs}
 use Rattle.pciv_bundle_records.proofs.split_records.Statement.{statement}
 use Rattle.pciv_bundle_records.proofs.split_records.Tie as tie
-use Rattle.pciv_bundle_records.proofs.split_records.Reads as reads
-use Rattle.pciv_bundle_records.proofs.split_records.Lts as lts
-use Rattle.pciv_bundle_records.proofs.bad_header.Reads as bad-header-reads
-use Rattle.pciv_bundle_records.proofs.refuse_split.Reads as refuse-split-reads
-use Rattle.pciv_bundle_records.proofs.wrong_record.Reads as wrong-record-reads
-use Rattle.pciv_bytes.proofs.little_endian.get16.Reads as get16-reads
-use Rattle.pciv_bytes.proofs.little_endian.get32.Reads as get32-reads
 
 abbrev Inv-loop : tie.InvT-loop
 Inv-loop bundle slots count starts₀ ends₀ found₀ number₀ at₀ starts ends found number at =
@@ -60,6 +53,7 @@ told w =
     let l = w .before .before in
     w .wrong-record .ensures ∙ ap (wrongRecord (bundle (passed l)) (l .loop .at) (l .loop .found)) (l .before .get16 .ensures)
 
+-- it is not at fault
 right : (q : tie.Else2 Inv-loop μ-loop)
     → (let l = at-loop q in
     let b = bundle (passed l) in
@@ -95,6 +89,7 @@ bad-header-requires c κs = search needs
 refuse-split-requires : tie.Need-refuse-split-requires Inv-loop μ-loop
 refuse-split-requires c κs = search needs
 
+-- record 0 is at fault
 returns : tie.Need-returns Inv-loop μ-loop
 returns c =
     let h = c .before .before in
@@ -125,6 +120,7 @@ wrong-record-requires c κs = search needs
 refuse-split-requires-2 : tie.Need-refuse-split-requires-2 Inv-loop μ-loop
 refuse-split-requires-2 c κs = search needs
 
+-- a later record is
 returns-2 : tie.Need-returns-2 Inv-loop μ-loop
 returns-2 c =
     let w = c .before .before in
@@ -137,7 +133,7 @@ add-at : tie.Need-add-at Inv-loop μ-loop
 add-at c = search needs
 
 get32-requires-2 : tie.Need-get32-requires-2 Inv-loop μ-loop
-get32-requires-2 c κs = let q = c in omega (arith, says q .inside)
+get32-requires-2 c κs = omega (arith, says c .inside)
 
 cast-at : tie.Need-cast-at Inv-loop μ-loop
 cast-at c = search needs
@@ -184,11 +180,13 @@ loop-less-2 c = search needs
 loop-again-2 : tie.Need-loop-again-2 Inv-loop μ-loop
 loop-again-2 c =
     let q = c .before .before .before in
-    splitting-other (at-loop q .loop .inv) (right q) _ (next (c .before .before)) (λ e. c .if3 .left (c .before .get162 .ensures ∙ e))
+    splitting-other (at-loop q .loop .inv) (right q) _ (next (c .before .before))
+    (λ e. c .if3 .left (c .before .get162 .ensures ∙ e))
 
 refuse-split-requires-3 : tie.Need-refuse-split-requires-3 Inv-loop μ-loop
 refuse-split-requires-3 c κs = search needs
 
+-- frames are missing
 returns-3 : tie.Need-returns-3 Inv-loop μ-loop
 returns-3 c =
     let l = c .before .before .before in

@@ -6,12 +6,11 @@ use native.Mathlib.Omega.{arith}
 use lib.ListN.{length}
 use Rattle.pciv_bytes.specs.LittleEndian.{get}
 use Rattle.pciv_bundle_records.specs.Records.{behindRecord}
-use Rattle.pciv_bundle_records.proofs.RecordsLaws.{wrong-prefix, wrong-cut, wrong-short, wrong-kind, wrong-other, wrong-frame}
+use Rattle.pciv_bundle_records.proofs.RecordsLaws.{wrong-prefix, wrong-cut, wrong-short}
+use Rattle.pciv_bundle_records.proofs.RecordsLaws.{wrong-kind, wrong-other, wrong-frame}
 use borrow.Author.Needs.{needs}
 use Rattle.pciv_bundle_records.proofs.wrong_record.Statement.{statement}
 use Rattle.pciv_bundle_records.proofs.wrong_record.Tie as tie
-use Rattle.pciv_bundle_records.proofs.wrong_record.Reads as reads
-use Rattle.pciv_bundle_records.proofs.wrong_record.Lts as lts
 
 abbrev start : tie.Else4 → tie.Start
 start p = p .before .before .before .before .before .before .before
@@ -27,7 +26,7 @@ long : (p : tie.Else4) → 2 ≤ get 4 (bundle p) (start p .args .at)
 long p = omega (arith, p .before .before .before .before .get32 .ensures, p .before .if3 .left)
 
 later : (p : tie.Else4) → get 2 (bundle p) (start p .args .at + 4) ≡ 0 → ⊥
-later p e = p .if4 .left (p .before .before .before .get16 .ensures ∙ e)
+later p e = omega (arith, p .before .before .before .get16 .ensures, p .if4 .left)
 
 sub-left : tie.Need-sub-left
 sub-left c = search needs
@@ -57,7 +56,7 @@ returns-3 : tie.Need-returns-3
 returns-3 c = sym (wrong-short _ _ _ _ (omega (arith, c .before .before .before .get32 .ensures)))
 
 returns-4 : tie.Need-returns-4
-returns-4 c = sym (wrong-kind _ _ _ _ (sym (c .before .before .before .get16 .ensures) ∙ c .if4 .taken))
+returns-4 c = sym (wrong-kind _ _ _ _ (omega (arith, c .before .before .before .get16 .ensures, c .if4 .taken)))
 
 returns-5 : tie.Need-returns-5
 returns-5 c =

@@ -1,0 +1,109 @@
+-- Proves pciv_bundle_frames::row_of. Invariant: the distances of the frames below f stand in the row, and zeros behind
+-- them (`Filled`, RowLaws.antt). Falls: count - f.
+use mathlib.Core.Path.{_≡_, refl, sym, ap, _∙_}
+use Prim.Native.Nat.{ℕ, _≤_, _<_, _-_}
+use native.Mathlib.Omega.{arith}
+use mathlib.Core.List.{List, []}
+use lib.ListN.{length, getD}
+use denote.Ref as R
+use Rattle.pciv_format.specs.Layout.{at}
+use Rattle.pciv_format.specs.Read.{listOf}
+use Rattle.pciv_format.specs.Check.{kField, CheckedMap}
+use Rattle.pciv_format.specs.declared.Located.{Located}
+use Rattle.pciv_format.proofs.CheckLaws.{checked-length}
+use Rattle.pciv_bundle_records.specs.Records.{frames}
+use Rattle.pciv_bundle_frames.proofs.RowLaws.{row-frame, Filled, filled-none, filled-more, filled-end}
+use borrow.Author.Needs.{needs}
+use Rattle.pciv_bundle_frames.proofs.row_of.Statement.{statement}
+use Rattle.pciv_bundle_frames.proofs.row_of.Tie as tie
+
+abbrev Inv-loop : tie.InvT-loop
+Inv-loop bundle places count n slot row₀ f₀ row f = (f ≤ count) × Filled (frames bundle) slot f row
+
+abbrev μ-loop : tie.MeasureT-loop
+μ-loop bundle places count n slot row₀ f₀ row f = count - f
+
+loop-holds : tie.Need-loop-holds Inv-loop μ-loop
+loop-holds c = (omega arith, filled-none _ _)
+
+-- frame f is there
+there : (c : tie.In-loop Inv-loop μ-loop)
+    → (let s = c .before .before .before in c .before .loop .f < length (frames (s .args .bundle .now)))
+there c = let s = c .before .before .before in omega (arith, c .loop-test .taken, s .pre .0 .1)
+
+-- the frame at hand is frame f, and it is checked
+this : (c : tie.After-frame-at Inv-loop μ-loop)
+    → (let l = c .before .before in
+    R.now (c .frame-at .result) ≡ getD (frames (l .before .before .args .bundle .now)) (l .loop .f) [])
+this c = c .frame-at .ensures
+
+checked : (c : tie.After-frame-at Inv-loop μ-loop)
+    → (let b = R.now (c .frame-at .result) in CheckedMap b (c .before .before .before .before .args .n) (kField b))
+checked c =
+    let l = c .before .before in rw (this c) (l .before .before .pre .1 .1 (l .loop .f) (there (c .before)))
+
+-- its distance at the slot
+distance : (c : tie.After-locate Inv-loop μ-loop)
+    → (let l = c .before .before .before .before in
+    let a = l .before .before .args in
+    c .locate .result .distance ≡ at (listOf (getD (frames (a .bundle .now)) (l .loop .f) [])) (a .slot))
+distance c =
+    let g = c .before .before in
+    let l = g .before .before in
+    let s = l .before .before in
+    let a = s .args in
+    ap (λ (z : Located). z .distance) (c .locate .ensures)
+    ∙ rw (c .before .get64 .ensures, this g)
+    (sym (row-frame (frames (a .bundle .now)) (a .slot) (l .loop .f) (a .n) (s .pre .1 .1) (there (g .before)) (s .pre .0 .2)))
+
+frame-at-requires : tie.Need-frame-at-requires Inv-loop μ-loop
+frame-at-requires c κs =
+    let s = c .before .before .before in (omega (arith, c .loop-test .taken, s .pre .0 .0), s .pre .1 .0 _ (there c))
+
+get64-requires : tie.Need-get64-requires Inv-loop μ-loop
+get64-requires c κs = omega (arith, checked-length _ _ _ (checked c))
+
+locate-requires : tie.Need-locate-requires Inv-loop μ-loop
+locate-requires c κs = (rw (c .get64 .ensures) (checked (c .before)), c .before .before .before .before .before .pre .0 .2)
+
+mul-row : tie.Need-mul-row Inv-loop μ-loop
+mul-row c =
+    let l = c .before .before .before in omega (arith, l .loop-test .taken, l .before .before .before .pre .0 .0)
+
+array-write-row : tie.Need-array-write-row Inv-loop μ-loop
+array-write-row c =
+    let l = c .before .before .before in omega (arith, l .loop-test .taken, l .before .before .before .pre .0 .0)
+
+add-f : tie.Need-add-f Inv-loop μ-loop
+add-f c =
+    let l = c .before .before .before in omega (arith, l .loop-test .taken, l .before .before .before .pre .0 .0)
+
+loop-less : tie.Need-loop-less Inv-loop μ-loop
+loop-less c = omega arith
+
+loop-again : tie.Need-loop-again Inv-loop μ-loop
+loop-again c =
+    let l = c .before .before .before in
+    (omega (arith, l .loop-test .taken), filled-more (l .before .loop .inv .1) (array-write-row c) _ (distance c))
+
+returns : tie.Need-returns Inv-loop μ-loop
+returns c =
+    let s = c .before .before .before in
+    filled-end (c .before .loop .inv .1) (omega (arith, c .loop-test .left, s .pre .0 .1))
+
+pub row-of-spec : {M : Type 1} → statement M
+row-of-spec =
+    tie.close
+    (tie.spec
+    Inv-loop
+    μ-loop
+    loop-holds
+    frame-at-requires
+    get64-requires
+    locate-requires
+    mul-row
+    array-write-row
+    add-f
+    loop-less
+    loop-again
+    returns)
