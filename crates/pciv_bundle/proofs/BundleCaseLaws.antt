@@ -3,7 +3,7 @@
 --   bundle-records, bundle-frames, bundle-done    a bundle's records are refused, its frames are, or it is accepted
 --   row-refused, nearest-refused       the bundle is refused, and so is the call
 --   records-accepted                   an accepted bundle has sound records
---   bundle-checked                     each of its frames is a checked map with its slots
+--   accepted-frames, bundle-checked    it has as many frames as it says, and each is a checked map with its slots
 --   row-outside, row-inside            refusal 9, or the distances at a slot
 --   nearest-short, nearest-done, nearest-buffer    refusal 12, or how many distances, and what is written
 --   write-none, write-many             writing: refusal 14
@@ -83,6 +83,9 @@ module _ (b : List ℕ) (c : BundleCounts) (e : bundleOutcome b ≡ done c) wher
 
   pub records-accepted : recordsOutcome b ≡ done c
   records-accepted = parts .1
+
+  pub accepted-frames : (c .frames ≤ 8) × (c .frames ≡ length (frames b))
+  accepted-frames = counted-frames b c records-accepted
 
   pub bundle-checked : CheckedFrames (frames b) (c .slots)
   bundle-checked = frames-checked (c .slots) (frames b) _ (parts .2)
