@@ -12,7 +12,7 @@
 --   write-n, write-frames              frames that are accepted: n, and the length of each, fits in 4 bytes
 --   write-short, write-done, write-buffer    refusal 12, or how many bytes, and what is written
 -- Axioms: none.
-use mathlib.Core.Path.{_≡_, refl, sym, ap, _∙_}
+use mathlib.Core.Path.{_≡_, sym, ap, _∙_}
 use Prim.Native.Nat.{ℕ, _+_, _≤_, _<_, _^_}
 use native.Mathlib.Omega.{arith}
 use native.Mathlib.Decide.{decLe}
@@ -154,8 +154,7 @@ module _ (fs : List (List ℕ)) (count : ℕ) where
       small f h =
           let same : n ≡ usedSlots fs = frames-value _ _ n e in
           let k : ℕ = kField (getD (take count fs) f []) in
-          let m = frames-checked _ _ n e f h .header in
-          (
+          let m = frames-checked _ _ n e f h .header in (
             omega (arith, m .small, same),
             omega (
               arith,

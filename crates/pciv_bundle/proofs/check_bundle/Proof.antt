@@ -10,10 +10,6 @@ use Rattle.pciv_bundle.proofs.BundleCaseLaws.{counted-frames}
 use borrow.Author.Needs.{needs}
 use Rattle.pciv_bundle.proofs.check_bundle.Statement.{statement}
 use Rattle.pciv_bundle.proofs.check_bundle.Tie as tie
-use Rattle.pciv_bundle.proofs.check_bundle.Reads as reads
-use Rattle.pciv_bundle.proofs.check_bundle.Lts as lts
-use Rattle.pciv_bundle_frames.proofs.check_frames.Reads as check-frames-reads
-use Rattle.pciv_bundle_records.proofs.split_records.Reads as split-records-reads
 
 -- what the walk over the records has shown
 records-refused : (c : tie.After-enum-told)

@@ -7,8 +7,6 @@ use Rattle.pciv_bundle.proofs.BundleBytesLaws.{Counted, counted-start, 
 use Rattle.pciv_bundle.proofs.LentLaws.{used, lentAt, length-used, used-at}
 use Rattle.pciv_bundle.proofs.write.bundle_len.Statement.{statement}
 use Rattle.pciv_bundle.proofs.write.bundle_len.Tie as tie
-use Rattle.pciv_bundle.proofs.write.bundle_len.Reads as reads
-use Rattle.pciv_bundle.proofs.write.bundle_len.Lts as lts
 
 abbrev Inv-loop : tie.InvT-loop
 Inv-loop frames count len₀ f₀ len f = Counted (used frames count) f len
@@ -16,15 +14,12 @@ Inv-loop frames count len₀ f₀ len f = Counted (used frames count) f len
 abbrev μ-loop : tie.MeasureT-loop
 μ-loop frames count len₀ f₀ len f = count - f
 
--- src/write.rt:40:5
 loop-holds : tie.Need-loop-holds Inv-loop μ-loop
 loop-holds c = counted-start _
 
--- src/write.rt:41:21
 mul-frame : tie.Need-mul-frame Inv-loop μ-loop
 mul-frame c = omega arith
 
--- src/write.rt:41:21
 shared-slice-copy-out-frame : tie.Need-shared-slice-copy-out-frame Inv-loop μ-loop
 shared-slice-copy-out-frame c = omega arith
 
@@ -42,27 +37,21 @@ next c =
     counted-more _ _ _ (l .loop .inv) (s .pre .2) (rw (length-used _ _ (s .pre .1)) more) _
     (used-at (a .frames .now) (a .count) (l .loop .f) more)
 
--- src/write.rt:42:16
 add-len : tie.Need-add-len Inv-loop μ-loop
 add-len c = omega (arith, next c .small, next c .inside)
 
--- src/write.rt:42:9
 add-len-2 : tie.Need-add-len-2 Inv-loop μ-loop
 add-len-2 c = omega (arith, next c .small, next c .inside)
 
--- src/write.rt:43:9
 add-f : tie.Need-add-f Inv-loop μ-loop
 add-f c = omega arith
 
--- src/write.rt:40:5
 loop-less : tie.Need-loop-less Inv-loop μ-loop
 loop-less c = omega arith
 
--- src/write.rt:40:5
 loop-again : tie.Need-loop-again Inv-loop μ-loop
 loop-again c = next c
 
--- src/write.rt:34:1
 returns : tie.Need-returns Inv-loop μ-loop
 returns c =
     let s = c .before .before in

@@ -1,5 +1,5 @@
 -- Proves pciv_bundle::write::put_bundle. Invariant: the first f frames are written, up to `at`. Falls: count - f.
-use mathlib.Core.Path.{_≡_, sym, ap, _∙_}
+use mathlib.Core.Path.{_≡_, ap, _∙_}
 use Prim.Native.Nat.{ℕ, _+_, _-_, _≤_, _<_}
 use native.Mathlib.Omega.{arith}
 use mathlib.Core.List.{List, []}
@@ -11,10 +11,6 @@ use Rattle.pciv_bundle.proofs.BundleBytesLaws.{Putting, putting-start, 
 use Rattle.pciv_bundle.proofs.LentLaws.{used, lentAt, length-used, used-at}
 use Rattle.pciv_bundle.proofs.write.put_bundle.Statement.{statement}
 use Rattle.pciv_bundle.proofs.write.put_bundle.Tie as tie
-use Rattle.pciv_bundle.proofs.write.put_bundle.Reads as reads
-use Rattle.pciv_bundle.proofs.write.put_bundle.Lts as lts
-use Rattle.pciv_bundle.proofs.write.put_frame.Reads as put-frame-reads
-use Rattle.pciv_bundle.proofs.write.put_header.Reads as put-header-reads
 
 abbrev Inv-loop : tie.InvT-loop
 Inv-loop frames count n out₀ at₀ f₀ out at f = Putting (used frames count) out₀ out at f
@@ -28,21 +24,17 @@ fs s = used (s .args .frames .now) (s .args .count)
 abbrev entry : tie.At-loop Inv-loop μ-loop → tie.Start Inv-loop μ-loop
 entry l = l .before .before .before .before .before .before
 
--- src/write.rt:77:5
 put-header-requires : tie.Need-put-header-requires Inv-loop μ-loop
 put-header-requires c κs =
     let s = c .before .before in
     (omega (arith, s .pre .1 .1, length-bundleOf (s .args .n) (fs s)), s .pre .1 .0)
 
--- src/write.rt:80:5
 loop-holds : tie.Need-loop-holds Inv-loop μ-loop
 loop-holds c = putting-start _ _
 
--- src/write.rt:81:21
 mul-frame : tie.Need-mul-frame Inv-loop μ-loop
 mul-frame c = omega arith
 
--- src/write.rt:81:21
 shared-slice-copy-out-frame : tie.Need-shared-slice-copy-out-frame Inv-loop μ-loop
 shared-slice-copy-out-frame c = omega arith
 
@@ -63,7 +55,6 @@ module _ (c : tie.In-loop Inv-loop μ-loop) where
       Counted (fs (entry l)) (l .loop .f + 1) (l .loop .at + (6 + length (lentAt (entry l .args .frames .now) (l .loop .f)))))
   counted = counted-more _ _ _ (c .before .loop .inv .counted) (entry (c .before) .pre .0 .2) more _ here
 
--- src/write.rt:82:9
 put-frame-requires : tie.Need-put-frame-requires Inv-loop μ-loop
 put-frame-requires c κs =
     let x = c .before .before in
@@ -74,34 +65,27 @@ put-frame-requires c κs =
       omega (arith, s .pre .0 .2 (x .before .loop .f) (more x), ap length (here x)),
     )
 
--- src/write.rt:83:15
 add-at : tie.Need-add-at Inv-loop μ-loop
 add-at c = omega (arith, counted (c .before .before .before .before .before) .small, counted (c .before .before .before .before .before) .inside)
 
--- src/write.rt:83:9
 add-at-2 : tie.Need-add-at-2 Inv-loop μ-loop
 add-at-2 c = omega (arith, counted (c .before .before .before .before .before) .small, counted (c .before .before .before .before .before) .inside)
 
--- src/write.rt:84:9
 add-f : tie.Need-add-f Inv-loop μ-loop
 add-f c = omega arith
 
--- src/write.rt:80:5
 loop-less : tie.Need-loop-less Inv-loop μ-loop
 loop-less c = omega arith
 
--- src/write.rt:80:5
 loop-again : tie.Need-loop-again Inv-loop μ-loop
 loop-again c =
     let x = c .before .before .before .before .before in
     putting-more _ _ _ _ _ (x .before .loop .inv) (more x) _ (here x) (entry (x .before) .pre .0 .2) _
     (c .before .before .put-frame .ensures)
 
--- src/write.rt:70:1
 same-length : tie.Need-same-length Inv-loop μ-loop
 same-length c = same (c .before)
 
--- src/write.rt:70:1
 returns : tie.Need-returns Inv-loop μ-loop
 returns c =
     let l = c .before in

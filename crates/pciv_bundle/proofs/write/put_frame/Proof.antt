@@ -3,45 +3,31 @@ use Rattle.pciv_bundle.proofs.BundleBytesLaws.{sets-record}
 use borrow.Author.Needs.{needs}
 use Rattle.pciv_bundle.proofs.write.put_frame.Statement.{statement}
 use Rattle.pciv_bundle.proofs.write.put_frame.Tie as tie
-use Rattle.pciv_bundle.proofs.write.put_frame.Reads as reads
-use Rattle.pciv_bundle.proofs.write.put_frame.Lts as lts
-use Rattle.pciv_bytes.proofs.copies.copy_bytes.Reads as copy-bytes-reads
-use Rattle.pciv_bytes.proofs.little_endian.put16.Reads as put16-reads
-use Rattle.pciv_bytes.proofs.little_endian.put32.Reads as put32-reads
 
--- src/write.rt:64:21
 add-put32 : tie.Need-add-put32
 add-put32 c = search needs
 
--- src/write.rt:64:20
 cast-put32 : tie.Need-cast-put32
 cast-put32 c = search needs
 
--- src/write.rt:64:5
 put32-requires : tie.Need-put32-requires
 put32-requires c κs = search needs
 
--- src/write.rt:65:16
 add-put16 : tie.Need-add-put16
 add-put16 c = search needs
 
--- src/write.rt:65:5
 put16-requires : tie.Need-put16-requires
 put16-requires c κs = search needs
 
--- src/write.rt:66:28
 add-copy-bytes : tie.Need-add-copy-bytes
 add-copy-bytes c = search needs
 
--- src/write.rt:66:5
 copy-bytes-requires : tie.Need-copy-bytes-requires
 copy-bytes-requires c κs = search needs
 
--- src/write.rt:60:1
 same-length : tie.Need-same-length
 same-length c = search needs
 
--- src/write.rt:60:1
 returns : tie.Need-returns
 returns c =
     let third = c .before .before in

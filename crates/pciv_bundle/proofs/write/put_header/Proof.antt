@@ -3,44 +3,31 @@ use Rattle.pciv_bundle.proofs.BundleBytesLaws.{sets-header}
 use borrow.Author.Needs.{needs}
 use Rattle.pciv_bundle.proofs.write.put_header.Statement.{statement}
 use Rattle.pciv_bundle.proofs.write.put_header.Tie as tie
-use Rattle.pciv_bundle.proofs.write.put_header.Reads as reads
-use Rattle.pciv_bundle.proofs.write.put_header.Lts as lts
-use Rattle.pciv_bytes.proofs.little_endian.put16.Reads as put16-reads
-use Rattle.pciv_bytes.proofs.little_endian.put32.Reads as put32-reads
 
--- src/write.rt:53:20
 sub-put32 : tie.Need-sub-put32
 sub-put32 c = search needs
 
--- src/write.rt:53:19
 cast-put32 : tie.Need-cast-put32
 cast-put32 c = search needs
 
--- src/write.rt:53:5
 put32-requires : tie.Need-put32-requires
 put32-requires c κs = search needs
 
--- src/write.rt:54:5
 put16-requires : tie.Need-put16-requires
 put16-requires c κs = search needs
 
--- src/write.rt:55:19
 cast-put32-2 : tie.Need-cast-put32-2
 cast-put32-2 c = search needs
 
--- src/write.rt:55:5
 put32-requires-2 : tie.Need-put32-requires-2
 put32-requires-2 c κs = search needs
 
--- src/write.rt:56:5
 put16-requires-2 : tie.Need-put16-requires-2
 put16-requires-2 c κs = search needs
 
--- src/write.rt:49:1
 same-length : tie.Need-same-length
 same-length c = search needs
 
--- src/write.rt:49:1
 returns : tie.Need-returns
 returns c =
     let fourth = c .before .before in

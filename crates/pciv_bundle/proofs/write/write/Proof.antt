@@ -1,28 +1,20 @@
 -- Proves pciv_bundle::write::write: one law for each answer. The eight frames are known to be eight as a slice.
-use mathlib.Core.Path.{_≡_, refl, sym, ap, _∙_}
+use mathlib.Core.Path.{_≡_, sym, ap, _∙_}
 use Prim.Native.Nat.{ℕ, _≤_}
 use native.Mathlib.Omega.{arith}
-use mathlib.Core.List.{List, []}
+use mathlib.Core.List.{List}
 use lib.ListN.{length, take}
-use Rattle.pciv_format.specs.Check.{nField}
 use Rattle.pciv_format.specs.Refusals.{done, refused, numberAnswer}
 use Rattle.pciv_format.proofs.RefusalsLaws.{numberAnswer-number, numberAnswer-refused}
 use Rattle.pciv_bundle_records.specs.Records.{bundleOf}
 use Rattle.pciv_bundle_frames.specs.Frames.{framesOutcome}
 use Rattle.pciv_bundle.specs.Bundle.{usedSlots, bundleWriteBuffer}
-use Rattle.pciv_bundle.proofs.LentLaws.{lists, lentAt, length-lists, lists-at}
+use Rattle.pciv_bundle.proofs.LentLaws.{lists, length-lists, lists-at}
 use Rattle.pciv_bundle.proofs.BundleCaseLaws.{write-none, write-many, write-slots, write-refused}
 use Rattle.pciv_bundle.proofs.BundleCaseLaws.{write-n, write-frames, write-short, write-done, write-buffer}
 use borrow.Author.Needs.{needs}
 use Rattle.pciv_bundle.proofs.write.write.Statement.{statement}
 use Rattle.pciv_bundle.proofs.write.write.Tie as tie
-use Rattle.pciv_bundle.proofs.write.write.Reads as reads
-use Rattle.pciv_bundle.proofs.write.write.Lts as lts
-use Rattle.pciv_bundle.proofs.write.bundle_len.Reads as bundle-len-reads
-use Rattle.pciv_bundle.proofs.write.put_bundle.Reads as put-bundle-reads
-use Rattle.pciv_bundle.proofs.write.slots_of.Reads as slots-of-reads
-use Rattle.pciv_bundle_frames.proofs.check_lent.Reads as check-lent-reads
-use Rattle.pciv_layout.proofs.refusals.refuse_number.Reads as refuse-number-reads
 
 -- the frames, as lists of bytes
 abbrev fs : tie.Start → List (List ℕ)
@@ -162,7 +154,7 @@ returns-5 c =
     let yes = write-done (fs s) (s .args .count) (some x) (few x) n (is-done k) (length (s .args .out .now)) space in (
       ap numberAnswer (ap done (l .bundle-len .ensures n) ∙ sym yes),
       p .put-bundle .ensures
-      ∙ write-buffer (fs s) (s .args .count) (some x) (few x) n (is-done k) (s .args .out .now) space,
+          ∙ write-buffer (fs s) (s .args .count) (some x) (few x) n (is-done k) (s .args .out .now) space,
     )
 
 pub write-spec : {M : Type 1} → statement M
