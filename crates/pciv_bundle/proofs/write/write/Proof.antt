@@ -71,14 +71,19 @@ there c = omega (arith, few c, c .before .before .lent .given .0)
 inside : (c : tie.Else2) → entry c .args .count ≤ length (fs (entry c))
 inside c = rw length-lists (there c)
 
--- what their check has found, against the n of the first
+-- what their check has found, against the n that was read of the first, and so against its n
+checked-used : (c : tie.After-check-lent)
+    → (let e = entry (c .before .before .before) in
+    c .check-lent .result ≡ numberAnswer (framesOutcome (c .before .slots-of .result) (take (e .args .count) (fs e))))
+checked-used c = c .check-lent .ensures
+
 checked-slots : (c : tie.After-check-lent)
     → (let e = entry (c .before .before .before) in
     c .check-lent .result ≡ numberAnswer (framesOutcome (usedSlots (fs e)) (take (e .args .count) (fs e))))
 checked-slots c =
     let x = c .before .before .before in
     let e = entry x in
-    c .check-lent .ensures
+    checked-used c
     ∙ ap numberAnswer
     (write-slots (fs e) (e .args .count) (some x) (few x) _ (inside x) (rw lists-at (c .before .slots-of .ensures)))
 
