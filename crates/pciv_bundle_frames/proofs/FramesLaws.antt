@@ -17,19 +17,20 @@ use mathlib.Core.List.{List, [], _∷_}
 use lib.ListN.{length, getD, drop, drop-of-length-le}
 use lib.Seq.{drop-cons}
 use lib.Dec.{ltb, eqb}
-use borrow.Author.Tests.{lt-ltb, ltb-false, eqb-true, eqb-false, eq-eqb, ne-eqb}
+use borrow.Author.Tests.{lt-ltb, ltb-false, eqb-true, eqb-false}
 use Rattle.pciv_bytes.specs.Ranges.{firstBelow}
-use Rattle.pciv_bytes.proofs.RangesLaws.{firstBelow-none, firstBelow-at, firstBelow-le, firstBelow-clear, firstBelow-has, firstBelow-all}
+use Rattle.pciv_bytes.proofs.RangesLaws.{firstBelow-none, firstBelow-at, firstBelow-le, firstBelow-clear}
+use Rattle.pciv_bytes.proofs.RangesLaws.{firstBelow-has, firstBelow-all}
 use Rattle.pciv_format.specs.Layout.{fileLen, countsOf}
 use Rattle.pciv_format.specs.Refusals.{Outcome, done, refused, refuse, refuseIf, andThen}
-use Rattle.pciv_format.specs.Check.{nField, kField, countsFile, checkHeader, checkWith, otherLength, CheckedMap}
+use Rattle.pciv_format.specs.Check.{nField, kField, countsFile, checkHeader, checkWith, otherLength}
 use Rattle.pciv_format.specs.declared.Counts.{Counts}
 use Rattle.pciv_format.specs.declared.Refusal.{Refusal}
 use Rattle.pciv_format.proofs.PartsLaws.{not-eqb}
 use Rattle.pciv_format.proofs.RefusalsLaws.{refuseIf-done, andThen-done}
 use Rattle.pciv_format.proofs.CheckLaws.{Accepted, done-countsFile, accepted-length}
-use Rattle.pciv_bundle_frames.specs.Frames.{soundFrames, otherSlots, firstOther, framesOutcome, nextOther, nextFrame}
-use Rattle.pciv_bundle_frames.specs.Frames.{CheckedFrames}
+use Rattle.pciv_bundle_frames.specs.Frames.{soundFrames, otherSlots, firstOther, framesOutcome}
+use Rattle.pciv_bundle_frames.specs.Frames.{nextOther, nextFrame, CheckedFrames}
 
 -- ---- one frame after another
 
@@ -40,7 +41,11 @@ pub record Passed (n : ℕ) (fs : List (List ℕ)) (f other : ℕ) : Type 0 wher
 
 pub passed-none : (n : ℕ) (fs : List (List ℕ)) → Passed n fs 0 0
 passed-none n fs =
-    record { inside = omega arith; rest = refl; least = sym (firstBelow-none (otherSlots n fs) 0 (λ j h. absurd (omega arith))) }
+    record {
+      inside = omega arith;
+      rest = refl;
+      least = sym (firstBelow-none (otherSlots n fs) 0 (λ j h. absurd (omega arith)));
+    }
 
 -- the least number below f + 1 with p, from that below f
 least-more : (p : ℕ → Bool) (f : ℕ) (t : Bool) → p f ≡ not t
@@ -51,7 +56,8 @@ least-more p f t e = go (eqb (firstBelow p f) f) t refl e
         → cond (b && t) (f + 1) (firstBelow p f) ≡ firstBelow p (f + 1)
     go true true all e =
         let z : firstBelow p f ≡ f = eqb-true (firstBelow p f) f all in
-        sym (firstBelow-none p (f + 1) (λ j h. elim (decLe f j) [
+        sym (firstBelow-none p (f + 1) (λ j h.
+        elim (decLe f j) [
           | yes d ↦ (let q : j ≡ f = omega arith in rw (q, e))
           | no d ↦ firstBelow-all p f j (omega arith) (omega arith)
         ]))
@@ -59,7 +65,8 @@ least-more p f t e = go (eqb (firstBelow p f) f) t refl e
         let z : firstBelow p f ≡ f = eqb-true (firstBelow p f) f all in
         z ∙ sym (firstBelow-at p (f + 1) f (omega arith) (λ j h. firstBelow-all p f j (omega arith) h) e)
     go false t some e =
-        let below : firstBelow p f < f = elim (decLe f (firstBelow p f)) [
+        let below : firstBelow p f < f =
+        elim (decLe f (firstBelow p f)) [
           | yes d ↦ absurd (eqb-false (firstBelow p f) f some (omega (arith, firstBelow-le p f)))
           | no d ↦ omega arith
         ] in
@@ -83,7 +90,8 @@ module _ {n : ℕ} {fs : List (List ℕ)} {f other : ℕ} (e : Passed n fs f oth
       (least-more (otherSlots n fs) f (eqb (nField (getD fs f [])) n) refl)
 
   module _ (more : f < length fs) where
-    step : soundFrames 1 fs ≡ andThen (countsFile (f + 1) (getD fs f [])) (λ s. soundFrames (f + 1 + 1) (drop (f + 1) fs))
+    step : soundFrames 1 fs
+        ≡ andThen (countsFile (f + 1) (getD fs f [])) (λ s. soundFrames (f + 1 + 1) (drop (f + 1) fs))
     unfolding soundFrames
     step = e .rest ∙ rw (drop-cons fs f [], add-one (f + 1), add-one f)
 
@@ -93,9 +101,11 @@ module _ {n : ℕ} {fs : List (List ℕ)} {f other : ℕ} (e : Passed n fs f oth
         let next : nextOther n f other (h .0 .n) ≡ least = cc (h .2) in
         record { inside = omega arith; rest = step ∙ rw (h .1); least = sym next ∙ next-least (h .0) (h .1) }
 
-    pub frames-refused : (r : Refusal) → nextFrame n f other (getD fs f []) ≡ refused r → framesOutcome n fs ≡ refused r
+    pub frames-refused : (r : Refusal) → nextFrame n f other (getD fs f []) ≡ refused r
+        → framesOutcome n fs ≡ refused r
     unfolding framesOutcome
-    frames-refused r q = rw (step, andThen-refused (countsFile (f + 1) (getD fs f [])) (λ s. nextOther n f other (s .n)) r q)
+    frames-refused r q =
+        rw (step, andThen-refused (countsFile (f + 1) (getD fs f [])) (λ s. nextOther n f other (s .n)) r q)
 
   pub frames-end : (count : ℕ) → length fs ≡ count → count ≤ f
       → framesOutcome n fs ≡ refuseIf (ltb other count) (refuse 10 0 (other + 1)) (done n)
@@ -131,7 +141,7 @@ module _ (n : ℕ) (fs : List (List ℕ)) (m : ℕ) (e : framesOutcome n fs ≡ 
   pub frames-value : m ≡ n
   frames-value = cc (passed .3)
 
-  -- a frame, at the counts in its header, and these are n
+  -- a frame at the counts in its header, of which n is the number of slots
   accepted : (f : ℕ) → f < length fs
       → (let b = getD fs f [] in (s : Counts) × Accepted otherLength b (nField b) (kField b) s)
   accepted f h =
@@ -139,8 +149,7 @@ module _ (n : ℕ) (fs : List (List ℕ)) (m : ℕ) (e : framesOutcome n fs ≡ 
       (each .0, done-countsFile (1 + f) (getD fs f []) (each .0) (each .1))
 
   slots : (f : ℕ) → f < length fs → nField (getD fs f []) ≡ n
-  slots f h =
-      not-eqb _ _ (firstBelow-all (otherSlots n fs) (length fs) f (ltb-false _ _ (passed .2)) h)
+  slots f h = not-eqb _ _ (firstBelow-all (otherSlots n fs) (length fs) f (ltb-false _ _ (passed .2)) h)
 
   pub frames-checked : CheckedFrames fs n
   frames-checked f h = rw (slots f h) at (accepted f h .1 .checked)

@@ -1,2 +1,3 @@
 pub mod FramesLaws
+pub mod LentLaws
 pub mod RowLaws

@@ -63,11 +63,10 @@ pub fn check_frames(bundle: &[u8], places: Places, count: usize, n: usize) -> Nu
     ensures { λ r. ⌜ r ≡ numberAnswer (framesOutcome n (frames (now (bundle .entry)))) ⌝ }
 {
     let mut other: usize = 0;
-    let mut f: usize = 0;
-    while f < count {
-        let frame = frame_at(bundle, places, f);
-        let checked = check_next(frame, f, other, n);
-        f += 1;
+    let mut next: usize = 0;
+    while next < count {
+        let checked = check_next(frame_at(bundle, places, next), next, other, n);
+        next += 1;
         match checked {
             NumberAnswer::Refused(r) => {
                 return NumberAnswer::Refused(r);
@@ -88,11 +87,10 @@ pub fn check_lent(frames: &[&[u8]; 8], count: usize, n: usize) -> NumberAnswer
     // as a slice, since that tells how many there are
     let all: &[&[u8]] = frames;
     let mut other: usize = 0;
-    let mut f: usize = 0;
-    while f < count {
-        let lent = all[f];
-        let checked = check_next(lent, f, other, n);
-        f += 1;
+    let mut passed: usize = 0;
+    while passed < count {
+        let checked = check_next(all[passed], passed, other, n);
+        passed += 1;
         match checked {
             NumberAnswer::Refused(r) => {
                 return NumberAnswer::Refused(r);

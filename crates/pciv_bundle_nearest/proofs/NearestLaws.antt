@@ -1,18 +1,22 @@
 -- Laws of the nearest of several distances.
---   nearer-right, -both, -assoc    with a second distance 0, with none that is 0, of three distances
+--   nearer-left, -right, -both, -cases    of two distances: the first is 0, the second is, neither; what is known of it
+--   nearer-assoc     of three distances
 --   nearest-hole     it is 0 exactly where all of them are 0
 --   nearest-least    else it is one of them, and none of them is smaller but 0
 --   hole-case, least-case    both at small lists, computed
+--   length-nearestList, at-nearestList    that of every slot, as a list
 -- Axioms: none.
 use mathlib.Core.Path.{_≡_, refl, sym, ap, _∙_}
 use Prim.Native.Nat.{ℕ, zero, suc, _≤_, _<_, min}
+use native.Mathlib.Nat.{zero-add}
 use native.Mathlib.Omega.{arith}
 use native.Mathlib.Decide.{decLe}
 use mathlib.Core.List.{List, [], _∷_}
 use lib.ListN.{length}
 use borrow.Author.Tests.{eq-eqb, ne-eqb}
+use Rattle.pciv_bytes.proofs.RangesLaws.{length-table, getD-table}
 use Rattle.pciv_format.specs.Layout.{at}
-use Rattle.pciv_bundle_nearest.specs.Nearest.{nearer, nearestOf}
+use Rattle.pciv_bundle_nearest.specs.Nearest.{nearer, nearestOf, nearestAt, nearestList}
 
 -- ---- of two, and of three
 
@@ -54,6 +58,9 @@ nearer-assoc x y z =
 
 -- ---- of a list
 
+not-zero : (x : ℕ) → (x ≡ 0 → ⊥) → 0 < x
+not-zero x some = omega arith
+
 nearer-zero : (x y : ℕ) → nearer x y ≡ 0 → (x ≡ 0) × (y ≡ 0)
 nearer-zero x y z =
     nearer-cases x y (λ h e. (h, omega arith)) (λ h e. (omega arith, h)) (λ h₁ h₂ e. absurd (omega arith))
@@ -70,6 +77,7 @@ all-hole [] all = refl
 all-hole (x ∷ xs) all =
     nearer-left x (nearestOf xs) (all 0 (omega arith)) ∙ all-hole xs (λ f h. all (suc f) (omega arith))
 
+-- 0 exactly where every frame has 0
 pub nearest-hole : (xs : List ℕ)
     → (nearestOf xs ≡ 0 → (f : ℕ) → f < length xs → at xs f ≡ 0)
     × (((f : ℕ) → f < length xs → at xs f ≡ 0) → nearestOf xs ≡ 0)
@@ -79,7 +87,8 @@ one-of : (xs : List ℕ) → 0 < nearestOf xs → (f : ℕ) × (f < length xs) �
 unfolding nearestOf
 one-of [] h = absurd (omega arith)
 one-of (x ∷ xs) h =
-    nearer-cases x (nearestOf xs) (λ z e. (let r = one-of xs (omega arith) in (suc (r .0), omega (arith, r .1), r .2 ∙ sym e)))
+    nearer-cases x (nearestOf xs)
+    (λ z e. (let r = one-of xs (omega arith) in (suc (r .0), omega (arith, r .1), r .2 ∙ sym e)))
     (λ z e. (0, omega arith, sym e))
     (λ h₁ h₂ e.
     elim (decLe x (nearestOf xs)) [
@@ -97,10 +106,14 @@ none-nearer (x ∷ xs) (suc f) h =
     nearer-cases x (nearestOf xs) (λ z e. omega arith) (λ z e. absurd (omega (arith, hole-all xs z f)))
     (λ h₁ h₂ e. omega arith)
 
-pub nearest-least : (xs : List ℕ) → 0 < nearestOf xs
+-- else the distance of one frame, and no frame has a smaller one but 0
+pub nearest-least : (xs : List ℕ) → (nearestOf xs ≡ 0 → ⊥)
     → ((f : ℕ) × (f < length xs) × (at xs f ≡ nearestOf xs))
     × ((f : ℕ) → f < length xs → (at xs f ≡ 0 → ⊥) → nearestOf xs ≤ at xs f)
-nearest-least xs h = (one-of xs h, λ f inside some. none-nearer xs f (omega (arith, some)))
+nearest-least xs some = (
+  one-of xs (not-zero (nearestOf xs) some),
+  λ f h other. none-nearer xs f (not-zero (at xs f) other),
+)
 
 -- ---- computed
 
@@ -111,3 +124,13 @@ hole-case = (refl, refl, refl)
 pub least-case : (nearestOf (300 ∷ 0 ∷ 254 ∷ 255 ∷ []) ≡ 254) × (nearestOf (0 ∷ 4294967295 ∷ 300 ∷ []) ≡ 300)
 unfolding nearestOf
 least-case = (refl, refl)
+
+-- ---- of every slot
+
+pub length-nearestList : (fs : List (List ℕ)) (n : ℕ) → length (nearestList fs n) ≡ n
+unfolding nearestList
+length-nearestList fs n = length-table (nearestAt fs) 0 n
+
+pub at-nearestList : (fs : List (List ℕ)) (n i : ℕ) → i < n → at (nearestList fs n) i ≡ nearestAt fs i
+unfolding nearestList
+at-nearestList fs n i h = getD-table (nearestAt fs) 0 0 n i h ∙ ap (nearestAt fs) (zero-add i)

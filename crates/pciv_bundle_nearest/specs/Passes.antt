@@ -8,7 +8,7 @@
 --   loweredTo P i x      the smaller of x and the distance that slot i has in overflow, if it is there
 --   entryStep n i x b    the same for frame b of n slots
 --   Changed g n old new  the first n elements of a list are changed by g, the others stay
--- Laws are in proofs/ChangedLaws.antt and PassesLaws.antt. Axioms: none.
+-- Laws are in proofs/BlockLaws.antt, LoweredLaws.antt, ChangedLaws.antt and PassesLaws.antt. Axioms: none.
 use mathlib.Core.Path.{_≡_}
 use Prim.Native.Nat.{ℕ, _+_, _-_, _≤_, _<_, min}
 use mathlib.Core.Bool.{cond}

@@ -1,5 +1,5 @@
-// The primary bytes of all frames, block by block: the nearest of the bytes at each slot. A byte is taken less 1, so that
-// 0 becomes 255, the largest, and loses against every other byte. Definitions are in specs/Passes.antt.
+// The primary bytes of all frames, block by block: the nearest of the bytes at each slot. A byte is taken less 1, so
+// that 0 becomes 255, the largest, and loses against every other byte. Definitions are in specs/Passes.antt.
 ghost use mathlib.Core.Path.{_≡_};
 ghost use Prim.Native.Nat.{ℕ, _+_, _≤_};
 ghost use lib.ListN.{length};
@@ -75,7 +75,8 @@ fn nearest_block(
     len: usize,
     out: &mut [u32],
 )
-    requires { ⌜ (count ≤ 8) × (count ≡ length (frames (now bundle))) × (len ≤ 4096) × (start + len ≤ n) × (n ≤ length (now out)) ⌝ }
+    requires { ⌜ (count ≤ 8) × (count ≡ length (frames (now bundle))) × (len ≤ 4096) × (start + len ≤ n)
+        × (n ≤ length (now out)) ⌝ }
     requires { ⌜ PlacedFrames (now bundle) places × CheckedFrames (frames (now bundle)) n ⌝ }
     ensures { λ _. ⌜ now (out .exit)
         ≡ sets (now (out .entry)) start (table (nearestByte (frames (now (bundle .entry)))) start len) ⌝ }

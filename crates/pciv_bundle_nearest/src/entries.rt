@@ -1,5 +1,5 @@
-// The overflow entries of all frames: each distance goes to its slot where it is the smaller. A slot whose nearest distance
-// is inline has a smaller one already. Definitions are in specs/Passes.antt.
+// The overflow entries of all frames: each distance goes to its slot where it is the smaller. A slot whose nearest
+// distance is inline has a smaller one already. Definitions are in specs/Passes.antt.
 ghost use mathlib.Core.Path.{_≡_};
 ghost use Prim.Native.Nat.{ℕ, _≤_, min};
 ghost use mathlib.Core.List.{foldl};

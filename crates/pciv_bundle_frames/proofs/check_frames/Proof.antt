@@ -1,5 +1,5 @@
--- Proves pciv_bundle_frames::check_frames. Invariant: the frames below f are sound, and `other` is the least of them with
--- another number of slots, or f (`Passed`, FramesLaws.antt). Falls: count - f.
+-- Proves pciv_bundle_frames::check_frames. Invariant: the frames below next are sound, and `other` is the least of them with
+-- another number of slots, or next (`Passed`, FramesLaws.antt). Falls: count - next.
 use mathlib.Core.Path.{_≡_, sym, ap, _∙_}
 use Prim.Native.Nat.{ℕ, _<_, _-_}
 use native.Mathlib.Omega.{arith}
@@ -16,39 +16,42 @@ use Rattle.pciv_bundle_frames.proofs.check_frames.Statement.{statement}
 use Rattle.pciv_bundle_frames.proofs.check_frames.Tie as tie
 
 abbrev Inv-loop : tie.InvT-loop
-Inv-loop bundle places count n other₀ f₀ other f = Passed n (frames bundle) f other
+Inv-loop bundle places count n other₀ next₀ other next = Passed n (frames bundle) next other
 
 abbrev μ-loop : tie.MeasureT-loop
-μ-loop bundle places count n other₀ f₀ other f = count - f
+μ-loop bundle places count n other₀ next₀ other next = count - next
 
--- frame f is there
+-- the next frame is there
 there : (c : tie.In-loop Inv-loop μ-loop)
-    → (let s = c .before .before .before in c .before .loop .f < length (frames (s .args .bundle .now)))
+    → (let s = c .before .before .before in c .before .loop .next < length (frames (s .args .bundle .now)))
 there c = let s = c .before .before .before in omega (arith, c .loop-test .taken, s .pre .0 .1)
 
--- what the check of frame f finds
+-- what its check finds
 found : (c : tie.After-check-next Inv-loop μ-loop)
     → (let l = c .before .before .before in
     let a = l .before .before .args in
     c .check-next .result
-    ≡ numberAnswer (nextFrame (a .n) (l .loop .f) (l .loop .other) (getD (frames (a .bundle .now)) (l .loop .f) [])))
+    ≡ numberAnswer
+    (nextFrame (a .n) (l .loop .next) (l .loop .other) (getD (frames (a .bundle .now)) (l .loop .next) [])))
 found c =
     let l = c .before .before .before in
     let a = l .before .before .args in
     c .check-next .ensures
-    ∙ ap (λ (b : List ℕ). numberAnswer (nextFrame (a .n) (l .loop .f) (l .loop .other) b)) (c .before .frame-at .ensures)
+    ∙ ap (λ (b : List ℕ). numberAnswer (nextFrame (a .n) (l .loop .next) (l .loop .other) b))
+    (c .before .frame-at .ensures)
 
 loop-holds : tie.Need-loop-holds Inv-loop μ-loop
 loop-holds c = passed-none _ _
 
 frame-at-requires : tie.Need-frame-at-requires Inv-loop μ-loop
-frame-at-requires c κs = (omega (arith, c .before .before .before .pre .0 .0), c .before .before .before .pre .1 _ (there c))
+frame-at-requires c κs =
+    let s = c .before .before .before in (omega (arith, s .pre .0 .0), s .pre .1 _ (there c))
 
 check-next-requires : tie.Need-check-next-requires Inv-loop μ-loop
 check-next-requires c κs = omega (arith, c .before .before .before .before .pre .0 .0)
 
-add-f : tie.Need-add-f Inv-loop μ-loop
-add-f c = omega arith
+add-next : tie.Need-add-next Inv-loop μ-loop
+add-next c = omega arith
 
 enum-known-checked : tie.Need-enum-known-checked Inv-loop μ-loop
 enum-known-checked c = search needs
@@ -84,7 +87,8 @@ returns-2 c =
     let l = c .before .before in
     let s = l .before .before in
     c .same-slots .ensures
-    ∙ ap numberAnswer (sym (frames-end (l .loop .inv) (s .args .count) (sym (s .pre .0 .1)) (c .before .loop-test .left)))
+    ∙ ap numberAnswer
+    (sym (frames-end (l .loop .inv) (s .args .count) (sym (s .pre .0 .1)) (c .before .loop-test .left)))
 
 pub check-frames-spec : {M : Type 1} → statement M
 check-frames-spec =
@@ -95,7 +99,7 @@ check-frames-spec =
     loop-holds
     frame-at-requires
     check-next-requires
-    add-f
+    add-next
     enum-known-checked
     returns
     enum-known-checked-2

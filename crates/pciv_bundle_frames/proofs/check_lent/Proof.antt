@@ -1,81 +1,66 @@
--- Proves pciv_bundle_frames::check_lent. Invariant and what falls: as of check_frames, over the first `count` lent frames.
-use mathlib.Core.Path.{_≡_, refl, sym, ap, _∙_}
-use Prim.Native.Nat.{ℕ, _≤_, _<_, _-_}
+-- Proves pciv_bundle_frames::check_lent. Invariant and what falls are those of check_frames, over the first `count` of the
+-- lent frames and with `passed` for next.
+use mathlib.Core.Path.{_≡_, sym, ap, _∙_}
+use Prim.Native.Nat.{ℕ, _<_, _-_}
 use native.Mathlib.Omega.{arith}
-use mathlib.Core.List.{List, [], map}
-use lib.ListN.{length, getD, take, length-map, List·getD-map}
-use lib.Seq.{length-take-le, getD-take}
-use denote.Ref as R
+use mathlib.Core.List.{List, []}
+use lib.ListN.{length, getD}
 use Rattle.pciv_format.specs.Refusals.{numberAnswer}
 use Rattle.pciv_format.proofs.RefusalsLaws.{numberAnswer-number, numberAnswer-refused}
 use Rattle.pciv_bundle_frames.specs.Frames.{nextFrame}
+use Rattle.pciv_bundle_frames.proofs.LentLaws.{used, used-length, used-at}
 use Rattle.pciv_bundle_frames.proofs.FramesLaws.{Passed, passed-none, passed-more, passed-le}
 use Rattle.pciv_bundle_frames.proofs.FramesLaws.{frames-refused, frames-end}
 use borrow.Author.Needs.{needs}
 use Rattle.pciv_bundle_frames.proofs.check_lent.Statement.{statement}
 use Rattle.pciv_bundle_frames.proofs.check_lent.Tie as tie
 
--- the frames that are used, as lists of bytes
-abbrev used : List (R.RefT (List ℕ)) → ℕ → List (List ℕ)
-used frames count = take count (map (R.now {X = List ℕ}) frames)
-
 abbrev Inv-loop : tie.InvT-loop
-Inv-loop frames count n all other₀ f₀ other f = Passed n (used frames count) f other
+Inv-loop frames count n all other₀ passed₀ other passed = Passed n (used frames count) passed other
 
 abbrev μ-loop : tie.MeasureT-loop
-μ-loop frames count n all other₀ f₀ other f = count - f
+μ-loop frames count n all other₀ passed₀ other passed = count - passed
 
 -- all of them are there: a slice made of the array has eight
 many : (c : tie.After-all Inv-loop μ-loop)
     → (let a = c .before .args in length (used (a .frames .now) (a .count)) ≡ a .count)
-many c =
-    let a = c .before .args in
-    length-take-le (a .count) (map (R.now {X = List ℕ}) (a .frames .now))
-    (omega (arith, c .before .pre, c .all .given .0, length-map (a .frames .now) (R.now {X = List ℕ})))
+many c = used-length (c .before .args .frames .now) (c .before .args .count) (c .all .given .0) (c .before .pre)
 
--- frame f is there
+-- the next frame is there
 there : (c : tie.In-loop Inv-loop μ-loop)
-    → (let a = c .before .before .before .args in c .before .loop .f < length (used (a .frames .now) (a .count)))
+    → (let a = c .before .before .before .args in c .before .loop .passed < length (used (a .frames .now) (a .count)))
 there c = omega (arith, c .loop-test .taken, many (c .before .before))
 
--- a frame of them, from how it is lent
-at-hand : (frames : List (R.RefT (List ℕ))) (count f : ℕ) (d : R.RefT (List ℕ)) → f < count → R.now d ≡ []
-    → R.now (getD frames f d) ≡ getD (used frames count) f []
-at-hand frames count f d h e =
-    sym (List·getD-map (R.now {X = List ℕ}) frames f d)
-    ∙ ap (getD (map (R.now {X = List ℕ}) frames) f) e
-    ∙ sym (getD-take count (map (R.now {X = List ℕ}) frames) f [] h)
-
--- what the check of frame f finds
+-- what its check finds
 found : (c : tie.After-check-next Inv-loop μ-loop)
     → (let l = c .before .before .before in
     let a = l .before .before .args in
     c .check-next .result
     ≡ numberAnswer
-    (nextFrame (a .n) (l .loop .f) (l .loop .other) (getD (used (a .frames .now) (a .count)) (l .loop .f) [])))
+    (nextFrame (a .n) (l .loop .passed) (l .loop .other)
+    (getD (used (a .frames .now) (a .count)) (l .loop .passed) [])))
 found c =
     let l = c .before .before .before in
     let a = l .before .before .args in
-    let none : R.RefT (List ℕ) = record { ptr = (0, 0); name = 0; now = [] } in
     c .check-next .ensures
-    ∙ ap (λ (b : List ℕ). numberAnswer (nextFrame (a .n) (l .loop .f) (l .loop .other) b))
-    (at-hand (a .frames .now) (a .count) (l .loop .f) none (c .before .before .loop-test .taken) refl)
+    ∙ ap (λ (b : List ℕ). numberAnswer (nextFrame (a .n) (l .loop .passed) (l .loop .other) b))
+    (used-at (a .frames .now) (a .count) (l .loop .passed) (c .before .before .loop-test .taken))
 
 loop-holds : tie.Need-loop-holds Inv-loop μ-loop
 loop-holds c = passed-none _ _
 
-mul-lent : tie.Need-mul-lent Inv-loop μ-loop
-mul-lent c = omega (arith, c .loop-test .taken, c .before .before .before .pre)
+mul-check-next : tie.Need-mul-check-next Inv-loop μ-loop
+mul-check-next c = omega (arith, c .loop-test .taken, c .before .before .before .pre)
 
-shared-slice-copy-out-lent : tie.Need-shared-slice-copy-out-lent Inv-loop μ-loop
-shared-slice-copy-out-lent c =
+shared-slice-copy-out-check-next : tie.Need-shared-slice-copy-out-check-next Inv-loop μ-loop
+shared-slice-copy-out-check-next c =
     let s = c .before .before in omega (arith, c .loop-test .taken, s .before .pre, s .all .given .0)
 
 check-next-requires : tie.Need-check-next-requires Inv-loop μ-loop
 check-next-requires c κs = omega (arith, c .before .loop-test .taken, c .before .before .before .before .pre)
 
-add-f : tie.Need-add-f Inv-loop μ-loop
-add-f c = omega arith
+add-passed : tie.Need-add-passed Inv-loop μ-loop
+add-passed c = omega arith
 
 enum-known-checked : tie.Need-enum-known-checked Inv-loop μ-loop
 enum-known-checked c = search needs
@@ -120,10 +105,10 @@ check-lent-spec =
     Inv-loop
     μ-loop
     loop-holds
-    mul-lent
-    shared-slice-copy-out-lent
+    mul-check-next
+    shared-slice-copy-out-check-next
     check-next-requires
-    add-f
+    add-passed
     enum-known-checked
     returns
     enum-known-checked-2

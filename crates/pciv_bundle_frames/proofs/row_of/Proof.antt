@@ -1,9 +1,9 @@
 -- Proves pciv_bundle_frames::row_of. Invariant: the distances of the frames below f stand in the row, and zeros behind
 -- them (`Filled`, RowLaws.antt). Falls: count - f.
-use mathlib.Core.Path.{_≡_, refl, sym, ap, _∙_}
-use Prim.Native.Nat.{ℕ, _≤_, _<_, _-_}
+use mathlib.Core.Path.{_≡_, sym, ap, _∙_}
+use Prim.Native.Nat.{_≤_, _<_, _-_}
 use native.Mathlib.Omega.{arith}
-use mathlib.Core.List.{List, []}
+use mathlib.Core.List.{[]}
 use lib.ListN.{length, getD}
 use denote.Ref as R
 use Rattle.pciv_format.specs.Layout.{at}
@@ -13,7 +13,6 @@ use Rattle.pciv_format.specs.declared.Located.{Located}
 use Rattle.pciv_format.proofs.CheckLaws.{checked-length}
 use Rattle.pciv_bundle_records.specs.Records.{frames}
 use Rattle.pciv_bundle_frames.proofs.RowLaws.{row-frame, Filled, filled-none, filled-more, filled-end}
-use borrow.Author.Needs.{needs}
 use Rattle.pciv_bundle_frames.proofs.row_of.Statement.{statement}
 use Rattle.pciv_bundle_frames.proofs.row_of.Tie as tie
 
@@ -30,6 +29,9 @@ loop-holds c = (omega arith, filled-none _ _)
 there : (c : tie.In-loop Inv-loop μ-loop)
     → (let s = c .before .before .before in c .before .loop .f < length (frames (s .args .bundle .now)))
 there c = let s = c .before .before .before in omega (arith, c .loop-test .taken, s .pre .0 .1)
+
+below : (c : tie.In-loop Inv-loop μ-loop) → c .before .loop .f < 8
+below c = omega (arith, c .loop-test .taken, c .before .before .before .pre .0 .0)
 
 -- the frame at hand is frame f, and it is checked
 this : (c : tie.After-frame-at Inv-loop μ-loop)
@@ -54,29 +56,27 @@ distance c =
     let a = s .args in
     ap (λ (z : Located). z .distance) (c .locate .ensures)
     ∙ rw (c .before .get64 .ensures, this g)
-    (sym (row-frame (frames (a .bundle .now)) (a .slot) (l .loop .f) (a .n) (s .pre .1 .1) (there (g .before)) (s .pre .0 .2)))
+    (sym (row-frame (frames (a .bundle .now)) (a .slot) (l .loop .f) (a .n) (s .pre .1 .1)
+    (there (g .before)) (s .pre .0 .2)))
 
 frame-at-requires : tie.Need-frame-at-requires Inv-loop μ-loop
-frame-at-requires c κs =
-    let s = c .before .before .before in (omega (arith, c .loop-test .taken, s .pre .0 .0), s .pre .1 .0 _ (there c))
+frame-at-requires c κs = (below c, c .before .before .before .pre .1 .0 _ (there c))
 
 get64-requires : tie.Need-get64-requires Inv-loop μ-loop
 get64-requires c κs = omega (arith, checked-length _ _ _ (checked c))
 
 locate-requires : tie.Need-locate-requires Inv-loop μ-loop
-locate-requires c κs = (rw (c .get64 .ensures) (checked (c .before)), c .before .before .before .before .before .pre .0 .2)
+locate-requires c κs =
+    let s = c .before .before .before .before .before in (rw (c .get64 .ensures) (checked (c .before)), s .pre .0 .2)
 
 mul-row : tie.Need-mul-row Inv-loop μ-loop
-mul-row c =
-    let l = c .before .before .before in omega (arith, l .loop-test .taken, l .before .before .before .pre .0 .0)
+mul-row c = omega (arith, below (c .before .before .before))
 
 array-write-row : tie.Need-array-write-row Inv-loop μ-loop
-array-write-row c =
-    let l = c .before .before .before in omega (arith, l .loop-test .taken, l .before .before .before .pre .0 .0)
+array-write-row c = below (c .before .before .before)
 
 add-f : tie.Need-add-f Inv-loop μ-loop
-add-f c =
-    let l = c .before .before .before in omega (arith, l .loop-test .taken, l .before .before .before .pre .0 .0)
+add-f c = omega (arith, below (c .before .before .before))
 
 loop-less : tie.Need-loop-less Inv-loop μ-loop
 loop-less c = omega arith

@@ -1,5 +1,4 @@
 -- Proves pciv_bundle_frames::same_slots, by its test.
-use mathlib.Core.Path.{refl, sym, ap, _∙_}
 use borrow.Author.Tests.{lt-ltb, le-ltb}
 use borrow.Author.Needs.{needs}
 use Rattle.pciv_bundle_frames.proofs.same_slots.Statement.{statement}
@@ -12,7 +11,9 @@ refuse-number-requires : tie.Need-refuse-number-requires
 refuse-number-requires c κs = search needs
 
 returns : tie.Need-returns
-returns c = rw (lt-ltb (c .before .before .args .other) (c .before .before .args .count) (c .before .if1 .taken)) (c .refuse-number .ensures)
+returns c =
+    let a = c .before .before .args in
+    rw (lt-ltb (a .other) (a .count) (c .before .if1 .taken)) (c .refuse-number .ensures)
 
 returns-2 : tie.Need-returns-2
 returns-2 c = rw (le-ltb (c .before .args .other) (c .before .args .count) (c .if1 .left))

@@ -1,14 +1,9 @@
 -- Proves pciv_bundle_nearest::nearest_into.
 use borrow.Author.Needs.{needs}
-use Rattle.pciv_bytes.specs.LittleEndian.{Bytes}
 use Rattle.pciv_bundle_records.specs.Records.{frames}
 use Rattle.pciv_bundle_nearest.proofs.PassesLaws.{frames-bytes, nearest-passes}
 use Rattle.pciv_bundle_nearest.proofs.nearest_into.Statement.{statement}
 use Rattle.pciv_bundle_nearest.proofs.nearest_into.Tie as tie
-use Rattle.pciv_bundle_nearest.proofs.nearest_into.Reads as reads
-use Rattle.pciv_bundle_nearest.proofs.nearest_into.Lts as lts
-use Rattle.pciv_bundle_nearest.proofs.blocks.nearest_bytes.Reads as nearest-bytes-reads
-use Rattle.pciv_bundle_nearest.proofs.entries.lower_all.Reads as lower-all-reads
 
 nearest-bytes-requires : tie.Need-nearest-bytes-requires
 nearest-bytes-requires c κs = search needs

@@ -1,5 +1,4 @@
 -- Proves pciv_bundle_nearest::blocks::lower_block. Invariant: the first i bytes are lowered. Falls: length bytes - i.
-use mathlib.Core.Path.{sym, _∙_}
 use Prim.Native.Nat.{ℕ, _-_, _≤_}
 use native.Mathlib.Omega.{arith}
 use lib.ListN.{length}
@@ -9,9 +8,6 @@ use Rattle.pciv_bundle_nearest.specs.Passes.{loweredByte, Changed}
 use Rattle.pciv_bundle_nearest.proofs.ChangedLaws.{changed-start, changed-more, changed-to}
 use Rattle.pciv_bundle_nearest.proofs.blocks.lower_block.Statement.{statement}
 use Rattle.pciv_bundle_nearest.proofs.blocks.lower_block.Tie as tie
-use Rattle.pciv_bundle_nearest.proofs.blocks.lower_block.Reads as reads
-use Rattle.pciv_bundle_nearest.proofs.blocks.lower_block.Lts as lts
-use Rattle.pciv_bundle_nearest.proofs.blocks.lowered.Reads as lowered-reads
 
 abbrev Inv-loop : tie.InvT-loop
 Inv-loop least₀ bytes i₀ least i =

@@ -4,12 +4,9 @@ use Prim.Native.Nat.{min}
 use native.Mathlib.Omega.{arith}
 use borrow.Author.Needs.{needs}
 use Rattle.pciv_bundle_nearest.specs.Passes.{loweredByte}
-use Rattle.pciv_bundle_nearest.proofs.PassesLaws.{loweredByte-less}
+use Rattle.pciv_bundle_nearest.proofs.BlockLaws.{loweredByte-less}
 use Rattle.pciv_bundle_nearest.proofs.blocks.lowered.Statement.{statement}
 use Rattle.pciv_bundle_nearest.proofs.blocks.lowered.Tie as tie
-use Rattle.pciv_bundle_nearest.proofs.blocks.lowered.Reads as reads
-use Rattle.pciv_bundle_nearest.proofs.blocks.lowered.Lts as lts
-use Rattle.std.proofs.num.wrapping_sub_u8.Reads as wrapping-sub-u8-reads
 
 wrapping-sub-u8-requires : tie.Need-wrapping-sub-u8-requires
 wrapping-sub-u8-requires c κs = search needs

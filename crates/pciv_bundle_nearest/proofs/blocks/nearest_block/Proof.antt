@@ -1,26 +1,21 @@
--- Proves pciv_bundle_nearest::blocks::nearest_block. Invariant: lowering the block by every frame from the start on equals
--- lowering it by the frames from f on. Falls: count - f.
-use mathlib.Core.Path.{_≡_, sym, subst, ap, _∙_}
+-- Proves pciv_bundle_nearest::blocks::nearest_block. Invariant: lowering the block by every frame from the start on
+-- equals lowering it by the frames from f on. Falls: count - f.
+use mathlib.Core.Path.{_≡_, ap, _∙_}
 use Prim.Native.Nat.{ℕ, _+_, _-_, _≤_}
 use native.Mathlib.Nat.{add-sub-cancel-left}
 use native.Mathlib.Omega.{arith}
-use mathlib.Core.List.{List, []}
-use lib.ListN.{length, getD, length-replicate, getD-replicate}
+use lib.ListN.{length, length-replicate, getD-replicate}
 use lib.Seq.{sets}
 use borrow.Author.Needs.{needs}
 use Rattle.pciv_format.specs.Check.{kField, CheckedMap}
 use Rattle.pciv_format.proofs.MapLaws.{primary-inside}
 use Rattle.pciv_bundle_records.specs.Records.{frames}
-use Rattle.pciv_bundle_nearest.specs.Passes.{byteStep, Changed}
+use Rattle.pciv_bundle_nearest.specs.Passes.{byteStep}
 use Rattle.pciv_bundle_nearest.proofs.ChangedLaws.{Turns, turns-start, turns-more, turns-end}
-use Rattle.pciv_bundle_nearest.proofs.PassesLaws.{part-length, frame-checked, bytes-turn, raised-block}
+use Rattle.pciv_bundle_nearest.proofs.BlockLaws.{part-length, bytes-turn, raised-block}
+use Rattle.pciv_bundle_nearest.proofs.PassesLaws.{frame-checked}
 use Rattle.pciv_bundle_nearest.proofs.blocks.nearest_block.Statement.{statement}
 use Rattle.pciv_bundle_nearest.proofs.blocks.nearest_block.Tie as tie
-use Rattle.pciv_bundle_nearest.proofs.blocks.nearest_block.Reads as reads
-use Rattle.pciv_bundle_nearest.proofs.blocks.nearest_block.Lts as lts
-use Rattle.pciv_bundle_nearest.proofs.blocks.lower_block.Reads as lower-block-reads
-use Rattle.pciv_bundle_nearest.proofs.blocks.raise_block.Reads as raise-block-reads
-use Rattle.pciv_bundle_records.proofs.frame_at.Reads as frame-at-reads
 
 abbrev Inv-loop : tie.InvT-loop
 Inv-loop bundle places count n start len out least₀ f₀ least f =
@@ -42,8 +37,8 @@ checked : (c : tie.After-frame-at Inv-loop μ-loop) → (let b = c .frame-at .re
     CheckedMap b (c .before .before .before .before .before .args .n) (kField b))
 checked c =
     let s = c .before .before .before .before .before in
-    frame-checked (frames (s .args .bundle .now)) (s .args .n) (s .pre .1 .1) (c .before .before .loop .f) (omega arith) _
-    (c .frame-at .ensures)
+    frame-checked (frames (s .args .bundle .now)) (s .args .n) (s .pre .1 .1) (c .before .before .loop .f) (omega arith)
+    _ (c .frame-at .ensures)
 
 inside : (c : tie.After-frame-at Inv-loop μ-loop) → (let a = c .before .before .before .before .before .args in
     40 + a .start + a .len ≤ length (c .frame-at .result .now))
@@ -69,7 +64,7 @@ lower-block-requires c κs =
     let d = c .before .before in
     let s = d .before .before .before .before .before in
     let a = s .args in (
-      rw (add-sub-cancel-left (40 + a .start) (a .len), part-length (d .frame-at .result .now) (a .start) (a .len) (inside d))
+      rw (add-sub-cancel-left (40 + a .start) (a .len), part-length _ (a .start) (a .len) (inside d))
           (omega (arith, s .pre .0)),
       d .before .before .loop .inv .1,
     )

@@ -1,22 +1,14 @@
--- Proves pciv_bundle_nearest::blocks::nearest_bytes. Invariant: writing the distances of all slots is writing those from slot
--- `at` on. Falls: n - at.
-use mathlib.Core.Path.{_≡_, refl, sym, ap, _∙_}
-use Prim.Native.Nat.{ℕ, _+_, _-_, _≤_}
+-- Proves pciv_bundle_nearest::blocks::nearest_bytes. Invariant: writing the distances of all slots is writing those
+-- from slot `at` on. Falls: n - at.
+use Prim.Native.Nat.{_-_, _≤_}
 use native.Mathlib.Omega.{arith}
-use lib.ListN.{length}
-use lib.Seq.{sets}
 use borrow.Author.Needs.{needs}
-use Rattle.pciv_bytes.specs.Ranges.{table}
 use Rattle.pciv_bytes.proofs.WriteLaws.{Left, left-start, left-end}
 use Rattle.pciv_bundle_records.specs.Records.{frames}
 use Rattle.pciv_bundle_nearest.specs.Passes.{nearestByte}
-use Rattle.pciv_bundle_nearest.proofs.PassesLaws.{left-part}
+use Rattle.pciv_bundle_nearest.proofs.BlockLaws.{left-part}
 use Rattle.pciv_bundle_nearest.proofs.blocks.nearest_bytes.Statement.{statement}
 use Rattle.pciv_bundle_nearest.proofs.blocks.nearest_bytes.Tie as tie
-use Rattle.pciv_bundle_nearest.proofs.blocks.nearest_bytes.Reads as reads
-use Rattle.pciv_bundle_nearest.proofs.blocks.nearest_bytes.Lts as lts
-use Rattle.pciv_bundle_nearest.proofs.blocks.nearest_block.Reads as nearest-block-reads
-use Rattle.pciv_bytes.proofs.numbers.smaller.Reads as smaller-reads
 
 abbrev Inv-loop : tie.InvT-loop
 Inv-loop bundle places count n out₀ at₀ out at = (at ≤ n) × Left (nearestByte (frames bundle)) n out₀ out at
@@ -40,8 +32,7 @@ nearest-block-requires : tie.Need-nearest-block-requires Inv-loop μ-loop
 nearest-block-requires c κs =
     let l = c .before .before .before in
     let s = l .before .before .before in
-    let len = c .before .smaller .ensures in
-    (
+    let len = c .before .smaller .ensures in (
       (
         s .pre .0 .0,
         s .pre .0 .1,

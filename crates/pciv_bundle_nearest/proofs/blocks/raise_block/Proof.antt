@@ -1,5 +1,5 @@
--- Proves pciv_bundle_nearest::blocks::raise_block. Invariant: writing all distances from `start` on is writing the rest of
--- them from start + i on. Falls: len - i.
+-- Proves pciv_bundle_nearest::blocks::raise_block. Invariant: writing all distances from `start` on is writing the rest
+-- of them from start + i on. Falls: len - i.
 use mathlib.Core.Path.{_≡_, refl, sym, _∙_}
 use Prim.Native.Nat.{ℕ, _+_, _-_, _≤_}
 use native.Mathlib.Omega.{arith}
@@ -13,9 +13,6 @@ use Rattle.pciv_format.specs.Layout.{at}
 use Rattle.pciv_bundle_nearest.specs.Passes.{raisedByte}
 use Rattle.pciv_bundle_nearest.proofs.blocks.raise_block.Statement.{statement}
 use Rattle.pciv_bundle_nearest.proofs.blocks.raise_block.Tie as tie
-use Rattle.pciv_bundle_nearest.proofs.blocks.raise_block.Reads as reads
-use Rattle.pciv_bundle_nearest.proofs.blocks.raise_block.Lts as lts
-use Rattle.pciv_bundle_nearest.proofs.blocks.raised.Reads as raised-reads
 
 abbrev raisedAt : List ℕ → ℕ → ℕ
 raisedAt least i = raisedByte (at least i)

@@ -2,12 +2,9 @@
 use mathlib.Core.Path.{sym, _∙_}
 use native.Mathlib.Omega.{arith}
 use borrow.Author.Needs.{needs}
-use Rattle.pciv_bundle_nearest.proofs.PassesLaws.{raisedByte-full, raisedByte-more}
+use Rattle.pciv_bundle_nearest.proofs.BlockLaws.{raisedByte-full, raisedByte-more}
 use Rattle.pciv_bundle_nearest.proofs.blocks.raised.Statement.{statement}
 use Rattle.pciv_bundle_nearest.proofs.blocks.raised.Tie as tie
-use Rattle.pciv_bundle_nearest.proofs.blocks.raised.Reads as reads
-use Rattle.pciv_bundle_nearest.proofs.blocks.raised.Lts as lts
-use Rattle.std.proofs.num.wrapping_add_u8.Reads as wrapping-add-u8-reads
 
 returns : tie.Need-returns
 returns c = sym (raisedByte-full (c .before .args .least) (c .if1 .taken))

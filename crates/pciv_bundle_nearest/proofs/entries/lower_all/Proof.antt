@@ -1,24 +1,18 @@
--- Proves pciv_bundle_nearest::entries::lower_all. Invariant: lowering the distances by every frame from the start on equals
--- lowering them by the frames from f on. Falls: count - f.
-use mathlib.Core.Path.{_≡_, sym, subst, ap, _∙_}
-use Prim.Native.Nat.{ℕ, _+_, _-_, _≤_}
+-- Proves pciv_bundle_nearest::entries::lower_all. Invariant: lowering the distances by every frame from the start on
+-- equals lowering them by the frames from f on. Falls: count - f.
+use mathlib.Core.Path.{sym, subst}
+use Prim.Native.Nat.{_-_, _≤_}
 use native.Mathlib.Omega.{arith}
-use mathlib.Core.List.{List, []}
-use lib.ListN.{length, getD}
 use borrow.Author.Needs.{needs}
-use Rattle.pciv_format.specs.Check.{kField, fileParts, CheckedMap}
+use Rattle.pciv_format.specs.Check.{kField, CheckedMap}
 use Rattle.pciv_format.proofs.MapLaws.{primary-inside}
 use Rattle.pciv_bundle_records.specs.Records.{frames}
-use Rattle.pciv_bundle_nearest.specs.Passes.{entryStep, loweredTo, Changed}
+use Rattle.pciv_bundle_nearest.specs.Passes.{entryStep}
 use Rattle.pciv_bundle_nearest.proofs.ChangedLaws.{Turns, turns-start, turns-more, turns-end}
-use Rattle.pciv_bundle_nearest.proofs.PassesLaws.{frame-checked, entries-turn}
+use Rattle.pciv_bundle_nearest.proofs.LoweredLaws.{entries-turn}
+use Rattle.pciv_bundle_nearest.proofs.PassesLaws.{frame-checked}
 use Rattle.pciv_bundle_nearest.proofs.entries.lower_all.Statement.{statement}
 use Rattle.pciv_bundle_nearest.proofs.entries.lower_all.Tie as tie
-use Rattle.pciv_bundle_nearest.proofs.entries.lower_all.Reads as reads
-use Rattle.pciv_bundle_nearest.proofs.entries.lower_all.Lts as lts
-use Rattle.pciv_bundle_nearest.proofs.entries.lower_entries.Reads as lower-entries-reads
-use Rattle.pciv_bundle_records.proofs.frame_at.Reads as frame-at-reads
-use Rattle.pciv_bytes.proofs.little_endian.get64.Reads as get64-reads
 
 abbrev Inv-loop : tie.InvT-loop
 Inv-loop bundle places count n out₀ f₀ out f = (f ≤ count) × Turns (entryStep n) (frames bundle) n out₀ out f
@@ -39,8 +33,8 @@ checked : (c : tie.After-frame-at Inv-loop μ-loop) → (let b = c .frame-at .re
     CheckedMap b (c .before .before .before .before .before .args .n) (kField b))
 checked c =
     let s = c .before .before .before .before .before in
-    frame-checked (frames (s .args .bundle .now)) (s .args .n) (s .pre .1 .1) (c .before .before .loop .f) (omega arith) _
-    (c .frame-at .ensures)
+    frame-checked (frames (s .args .bundle .now)) (s .args .n) (s .pre .1 .1) (c .before .before .loop .f) (omega arith)
+    _ (c .frame-at .ensures)
 
 get64-requires : tie.Need-get64-requires Inv-loop μ-loop
 get64-requires c κs = omega (arith, primary-inside _ _ _ (checked c))

@@ -1,6 +1,5 @@
--- Proves pciv_bundle_nearest::entries::lower_entries. Invariant: the slots below the least one that entry j may have are
--- lowered. Falls: k - j.
-use mathlib.Core.Path.{_≡_, sym, ap, _∙_}
+-- Proves pciv_bundle_nearest::entries::lower_entries. Invariant: the slots below the least one that entry j may have
+-- are lowered. Falls: k - j.
 use Prim.Native.Nat.{ℕ, _+_, _-_, _≤_, _<_}
 use native.Mathlib.Omega.{arith}
 use lib.ListN.{length}
@@ -11,14 +10,9 @@ use Rattle.pciv_format.proofs.PartsLaws.{entry-good}
 use Rattle.pciv_format.proofs.MapLaws.{entry-inside}
 use Rattle.pciv_bundle_nearest.specs.Passes.{loweredTo, Changed}
 use Rattle.pciv_bundle_nearest.proofs.ChangedLaws.{changed-start}
-use Rattle.pciv_bundle_nearest.proofs.PassesLaws.{lowered-entry, lowered-entries}
+use Rattle.pciv_bundle_nearest.proofs.LoweredLaws.{lowered-entry, lowered-entries}
 use Rattle.pciv_bundle_nearest.proofs.entries.lower_entries.Statement.{statement}
 use Rattle.pciv_bundle_nearest.proofs.entries.lower_entries.Tie as tie
-use Rattle.pciv_bundle_nearest.proofs.entries.lower_entries.Reads as reads
-use Rattle.pciv_bundle_nearest.proofs.entries.lower_entries.Lts as lts
-use Rattle.pciv_bundle_nearest.proofs.entries.smaller_distance.Reads as smaller-distance-reads
-use Rattle.pciv_map.proofs.entries.entry_distance.Reads as entry-distance-reads
-use Rattle.pciv_map.proofs.entries.entry_slot.Reads as entry-slot-reads
 
 abbrev Inv-loop : tie.InvT-loop
 Inv-loop file n k out₀ j₀ out j =
@@ -89,7 +83,8 @@ loop-again c =
     let s = entry l in (
       search needs,
       rw (e .entry-slot .ensures)
-          (lowered-entry (parts l) (s .pre .0 .parts) (bytes l) (l .loop .j) _ (l .loop .inv .1) (omega arith) (s .pre .1)
+          (lowered-entry (parts l) (s .pre .0 .parts) (bytes l) (l .loop .j) _ (l .loop .inv .1) (omega arith)
+          (s .pre .1)
           (rw (e .entry-slot .ensures, c .before .entry-distance .ensures) at (c .smaller-distance .ensures))),
     )
 
