@@ -3,7 +3,6 @@
 --   headerBytes n count, framesBytes fs, bundleOf-is
 --                                   record 0, the frames as records, and the bundle that these are
 --   length-bundleOf                 its length, which does not depend on n
---   ShortFrames fs                  the length of each frame's record fits in 4 bytes
 --   Counted fs f len                len are the bytes of record 0 and the first f frames
 --   counted-start, -more, -end      no frame, one more, and all
 --   Putting fs out₀ out at f        the first f frames are written, up to `at`: what is left to write makes the whole
@@ -75,7 +74,7 @@ pub counted-start : (fs : List (List ℕ)) → Counted fs 0 12
 counted-start fs = record { inside = omega arith; rest = refl; small = omega arith }
 
 module _ (fs : List (List ℕ)) (f len : ℕ) (c : Counted fs f len) where
-  pub counted-more : ShortFrames fs → f < length fs → (frame : List ℕ) → getD fs f [] ≡ frame
+  pub counted-more : ShortFrames fs → f < length fs → (frame : List ℕ) → frame ≡ getD fs f []
       → Counted fs (f + 1) (len + (6 + length frame))
   counted-more short h frame e =
       record {
@@ -98,7 +97,7 @@ pub putting-start : (fs : List (List ℕ)) (out : List ℕ) → Putting fs out o
 putting-start fs out = record { counted = counted-start fs; same = refl; rest = refl }
 
 module _ (fs : List (List ℕ)) (out₀ out : List ℕ) (at f : ℕ) (p : Putting fs out₀ out at f) where
-  module _ (h : f < length fs) (frame : List ℕ) (is : getD fs f [] ≡ frame) where
+  module _ (h : f < length fs) (frame : List ℕ) (is : frame ≡ getD fs f []) where
     pub putting-space : 12 + length (framesBytes fs) ≤ length out → at + (6 + length frame) ≤ length out
     putting-space fits = omega (arith, p .counted .rest, length-more fs f h, ap length is)
 
@@ -111,7 +110,7 @@ module _ (fs : List (List ℕ)) (out₀ out : List ℕ) (at f : ℕ) (p : Puttin
           same = ap length e ∙ length-sets out at (recordBytes r) ∙ p .same;
           rest =
               p .rest
-              ∙ ap (sets out at) (rw is at (framesBytes-more fs f h))
+              ∙ ap (sets out at) (rw (sym is) at (framesBytes-more fs f h))
               ∙ sets-append (recordBytes r) (framesBytes (drop (f + 1) fs)) out at
               ∙ rw (length-recordBytes r, ← e);
         }

@@ -18,12 +18,12 @@ use native.Mathlib.Omega.{arith}
 use native.Mathlib.Decide.{decLe}
 use mathlib.Core.List.{List, []}
 use lib.ListN.{length, getD, take}
-use lib.Seq.{sets, length-take-le, getD-take}
+use lib.Seq.{sets, getD-take}
 use borrow.Author.Tests.{le-leb, lt-leb, lt-ltb, le-ltb}
 use Rattle.pciv_bytes.proofs.RangesLaws.{length-table}
 use Rattle.pciv_bytes.proofs.WriteLaws.{sets-front}
 use Rattle.pciv_format.specs.Refusals.{done, refused, refuse}
-use Rattle.pciv_format.specs.Check.{kField}
+use Rattle.pciv_format.specs.Check.{nField, kField}
 use Rattle.pciv_format.specs.declared.Refusal.{Refusal}
 use Rattle.pciv_format.proofs.RefusalsLaws.{andThen-done}
 use Rattle.pciv_format.proofs.LayoutLaws.{fileLen-is, indexLen-le, indexStep-le}
@@ -133,14 +133,17 @@ module _ (fs : List (List ℕ)) (count : ℕ) where
 
   module _ (some : 1 ≤ count) (few : count ≤ 8) where
     -- a first frame without a whole header is refused, whatever its n is taken for
-    pub write-slots : (n : ℕ) → count ≤ length fs → (40 ≤ length (getD fs 0 []) → n ≡ usedSlots fs)
-        → framesOutcome n (take count fs) ≡ framesOutcome (usedSlots fs) (take count fs)
-    write-slots n all is = elim (decLe 40 (length (getD fs 0 []))) [
-      | yes long ↦ ap (λ (m : ℕ). framesOutcome m (take count fs)) (is long)
-      | no short ↦
-          framesOutcome-any n (usedSlots fs) (take count fs) (rw (length-take-le count fs all) some)
-          (rw (getD-take count fs 0 [] some) (omega arith))
-    ]
+    pub write-slots : (n : ℕ) → length (take count fs) ≡ count
+        → (let first = getD (take count fs) 0 [] in
+        (40 ≤ length first → n ≡ nField first)
+        → framesOutcome n (take count fs) ≡ framesOutcome (usedSlots fs) (take count fs))
+    write-slots n all is =
+        let first : List ℕ = getD (take count fs) 0 [] in
+        let same : first ≡ getD fs 0 [] = getD-take count fs 0 [] some in
+        elim (decLe 40 (length first)) [
+          | yes long ↦ ap (λ (m : ℕ). framesOutcome m (take count fs)) (is long ∙ ap nField same)
+          | no short ↦ framesOutcome-any n (usedSlots fs) (take count fs) (rw all some) (omega arith)
+        ]
 
     pub write-refused : (capacity : ℕ) (r : Refusal) → framesOutcome (usedSlots fs) (take count fs) ≡ refused r
         → bundleWriteOutcome fs count capacity ≡ refused r
@@ -167,8 +170,8 @@ module _ (fs : List (List ℕ)) (count : ℕ) where
             ),
           )
 
-      pub write-n : count ≤ length fs → n < 2 ^ 32
-      write-n all = small 0 (rw (length-take-le count fs all) some) .0
+      pub write-n : length (take count fs) ≡ count → n < 2 ^ 32
+      write-n all = small 0 (rw all some) .0
 
       pub write-frames : ShortFrames (take count fs)
       write-frames f h = small f h .1

@@ -1,3 +1,2 @@
 pub mod BundleBytesLaws
-pub mod LentLaws
 pub mod BundleCaseLaws

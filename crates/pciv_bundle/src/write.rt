@@ -38,7 +38,7 @@ fn slots_of(file: &[u8]) -> usize
 
 // The length of the bundle of the first `count` frames.
 fn bundle_len(frames: &[&[u8]], count: usize) -> usize
-    requires { ⌜ (count ≤ 8) × (count ≤ length (now frames)) × ShortFrames (take count (map now (now frames))) ⌝ }
+    requires { ⌜ (count ≤ 8) × (length (now frames) ≡ 8) × ShortFrames (take count (map now (now frames))) ⌝ }
     ensures { λ r. ⌜ ((n : ℕ) → r ≡ length (bundleOf n (take count (map now (now (frames .entry)))))) ⌝ }
 {
     let mut len = HEADER_RECORD_LEN;
@@ -74,7 +74,7 @@ fn put_frame(out: &mut [u8], at: usize, frame: &[u8])
 
 // The whole bundle, at the front.
 fn put_bundle(frames: &[&[u8]], count: usize, n: usize, out: &mut [u8])
-    requires { ⌜ (count ≤ 8) × (count ≤ length (now frames)) × ShortFrames (take count (map now (now frames))) ⌝ }
+    requires { ⌜ (count ≤ 8) × (length (now frames) ≡ 8) × ShortFrames (take count (map now (now frames))) ⌝ }
     requires { ⌜ (n < 2 ^ 32) × (length (bundleOf n (take count (map now (now frames)))) ≤ length (now out)) ⌝ }
     ensures { λ _. ⌜ now (out .exit)
         ≡ sets (now (out .entry)) 0 (bundleOf n (take count (map now (now (frames .entry))))) ⌝ }
@@ -99,6 +99,7 @@ pub fn write(frames: &[&[u8]; 8], count: usize, out: &mut [u8]) -> NumberAnswer
     ensures buffer { λ _. ⌜ now (out .exit)
         ≡ bundleWriteBuffer (map now (now (frames .entry))) count (now (out .entry)) ⌝ }
 {
+    // a slice made of the array is known to have eight elements
     let lent: &[&[u8]] = frames;
     if count < 1 {
         return refuse_number(BAD_BUNDLE, 0, 0);

@@ -2,23 +2,24 @@
 use mathlib.Core.Path.{_≡_, sym, ap, _∙_}
 use Prim.Native.Nat.{ℕ, _≤_}
 use native.Mathlib.Omega.{arith}
-use mathlib.Core.List.{List}
+use mathlib.Core.List.{List, map}
 use lib.ListN.{length, take}
 use Rattle.pciv_format.specs.Refusals.{done, refused, numberAnswer}
 use Rattle.pciv_format.proofs.RefusalsLaws.{numberAnswer-number, numberAnswer-refused}
 use Rattle.pciv_bundle_records.specs.Records.{bundleOf}
 use Rattle.pciv_bundle_frames.specs.Frames.{framesOutcome}
 use Rattle.pciv_bundle.specs.Bundle.{usedSlots, bundleWriteBuffer}
-use Rattle.pciv_bundle.proofs.LentLaws.{lists, length-lists, lists-at}
+use Rattle.pciv_bundle_frames.proofs.LentLaws.{used-length, used-at}
 use Rattle.pciv_bundle.proofs.BundleCaseLaws.{write-none, write-many, write-slots, write-refused}
 use Rattle.pciv_bundle.proofs.BundleCaseLaws.{write-n, write-frames, write-short, write-done, write-buffer}
+use denote.Ref as R
 use borrow.Author.Needs.{needs}
 use Rattle.pciv_bundle.proofs.write.write.Statement.{statement}
 use Rattle.pciv_bundle.proofs.write.write.Tie as tie
 
 -- the frames, as lists of bytes
 abbrev fs : tie.Start → List (List ℕ)
-fs s = lists (s .args .frames .now)
+fs s = map (R.now {X = List ℕ}) (s .args .frames .now)
 
 abbrev entry : tie.Else2 → tie.Start
 entry c = c .before .before .before .before
@@ -65,11 +66,11 @@ some c = c .before .if1 .left
 few : (c : tie.Else2) → entry c .args .count ≤ 8
 few c = c .if2 .left
 
-there : (c : tie.Else2) → entry c .args .count ≤ length (entry c .args .frames .now)
-there c = omega (arith, few c, c .before .before .lent .given .0)
+eight : (c : tie.Else2) → length (entry c .args .frames .now) ≡ 8
+eight c = omega (arith, c .before .before .lent .given .0)
 
-inside : (c : tie.Else2) → entry c .args .count ≤ length (fs (entry c))
-inside c = rw length-lists (there c)
+there : (c : tie.Else2) → length (take (entry c .args .count) (fs (entry c))) ≡ entry c .args .count
+there c = used-length (entry c .args .frames .now) _ (eight c) (few c)
 
 -- what their check has found, against the n that was read of the first, and so against its n
 checked-used : (c : tie.After-check-lent)
@@ -85,7 +86,8 @@ checked-slots c =
     let e = entry x in
     checked-used c
     ∙ ap numberAnswer
-    (write-slots (fs e) (e .args .count) (some x) (few x) _ (inside x) (rw lists-at (c .before .slots-of .ensures)))
+    (write-slots (fs e) (e .args .count) (some x) (few x) _ (there x)
+    (rw (used-at (e .args .frames .now) (e .args .count) 0 (some x)) at (c .before .slots-of .ensures)))
 
 is-refused : (c : tie.After-checked)
     → (let e = entry (c .before .before .before .before .before) in
@@ -101,7 +103,7 @@ bundle-len-requires : tie.Need-bundle-len-requires
 bundle-len-requires c κs =
     let k = c .before in
     let x = k .before .before .before .before .before in
-    (few x, there x, write-frames (fs (entry x)) _ (some x) (few x) _ (is-done k))
+    (few x, eight x, write-frames (fs (entry x)) _ (some x) (few x) _ (is-done k))
 
 refuse-number-requires-3 : tie.Need-refuse-number-requires-3
 refuse-number-requires-3 c κs = search needs
@@ -130,8 +132,8 @@ put-bundle-requires c κs =
     let k = c .before .before .before .before in
     let x = k .before .before .before .before .before in
     let e = is-done k in (
-      (few x, there x, write-frames (fs (entry x)) _ (some x) (few x) _ e),
-      (write-n (fs (entry x)) _ (some x) (few x) _ e (inside x), fits (c .before)),
+      (few x, eight x, write-frames (fs (entry x)) _ (some x) (few x) _ e),
+      (write-n (fs (entry x)) _ (some x) (few x) _ e (there x), fits (c .before)),
     )
 
 returns-4 : tie.Need-returns-4
