@@ -90,8 +90,8 @@ fn put_bundle(frames: &[&[u8]], count: usize, n: usize, out: &mut [u8])
     }
 }
 
-// Writes the first `count` of eight frames as a bundle to the front of the caller's buffer; answers how many bytes. The others
-// are not looked at. Refusals: 14 where `count` is not from 1 to 8, then each used frame's 1 to 8, then 10 against
+// Writes the first `count` of eight frames as a bundle to the front of the caller's buffer; answers how many bytes. The
+// others are not looked at. Refusals: 14 where `count` is not from 1 to 8, then each used frame's 1 to 8, then 10 against
 // the n of the first, then 12.
 pub fn write(frames: &[&[u8]; 8], count: usize, out: &mut [u8]) -> NumberAnswer
     ensures answer { λ r. ⌜ r

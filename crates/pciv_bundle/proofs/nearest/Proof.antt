@@ -12,12 +12,14 @@ use Rattle.pciv_bundle.proofs.nearest.Tie as tie
 
 -- what the check has shown: why the bundle is refused, or its counts
 is-refused : (c : tie.After-answer)
-    → bundleOutcome (c .before .before .before .before .before .before .args .bundle .now) ≡ refused (c .answer .given .0 .0)
+    → (let s = c .before .before .before .before .before .before in
+    bundleOutcome (s .args .bundle .now) ≡ refused (c .answer .given .0 .0))
 is-refused c =
     bundleAnswer-refused _ _ (sym (c .answer .given .1) ∙ c .before .before .before .check-bundle .ensures .0)
 
 is-bundle : (c : tie.After-answer2)
-    → bundleOutcome (c .before .before .before .before .before .before .args .bundle .now) ≡ done (c .answer2 .given .0 .0)
+    → (let s = c .before .before .before .before .before .before in
+    bundleOutcome (s .args .bundle .now) ≡ done (c .answer2 .given .0 .0))
 is-bundle c =
     bundleAnswer-counted _ _ (sym (c .answer2 .given .1) ∙ c .before .before .before .check-bundle .ensures .0)
 
