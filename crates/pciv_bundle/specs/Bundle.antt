@@ -5,14 +5,15 @@
 --   nearestOutcome b capacity, nearestBuffer b out
 --                             then 12, else how many distances; the caller's list afterwards
 --   usedSlots fs              the slot count of a bundle that is written: that of its first frame
+--   ShortFrames fs            what the writer knows of the frames: the length of each as a record fits in 4 bytes
 --   bundleWriteOutcome fs count capacity, bundleWriteBuffer fs count out
 --                             the first `count` of the frames fs as a bundle: how many bytes; the buffer afterwards
 -- Laws are in proofs/. Axioms: none.
-use Prim.Native.Nat.{ℕ}
+use Prim.Native.Nat.{ℕ, _+_, _<_, _^_}
 use mathlib.Core.Bool.{_||_}
 use mathlib.Core.List.{List, []}
 use lib.ListN.{length, getD, take, replicate}
-use lib.Dec.{ltb, leb, eqb}
+use lib.Dec.{ltb, leb}
 use Rattle.pciv_format.specs.Refusals.{Outcome, done, refused, refuse, refuseIf, andThen, written, verdictOf}
 use Rattle.pciv_format.specs.Check.{nField}
 use Rattle.pciv_format.specs.Read.{itemsInto}
@@ -52,6 +53,9 @@ nearestBuffer b out = written (nearestOutcome b (length out)) (nearestList (fram
 
 abbrev pub usedSlots : List (List ℕ) → ℕ
 usedSlots fs = nField (getD fs 0 [])
+
+abbrev pub ShortFrames : List (List ℕ) → Type 0
+ShortFrames fs = (f : ℕ) → f < length fs → 2 + length (getD fs f []) < 2 ^ 32
 
 -- frames past `count` are not looked at
 unfoldable pub bundleWriteOutcome : List (List ℕ) → ℕ → ℕ → Outcome ℕ

@@ -7,7 +7,6 @@ ghost use lib.ListN.{length};
 ghost use Rattle.pciv_format.specs.Refusals.{done, refused, numberAnswer};
 ghost use Rattle.pciv_bundle_records.specs.Records.{frames, bundleAnswer, PlacedFrames};
 ghost use Rattle.pciv_bundle_records.specs.declared.BundleCounts.{BundleCounts};
-ghost use Rattle.pciv_bundle_frames.specs.Frames.{CheckedFrames};
 ghost use Rattle.pciv_bundle.specs.Bundle.{bundleOutcome, rowOutcome, rowAnswer, nearestOutcome, nearestBuffer};
 use pciv_bundle_frames::check_frames;
 use pciv_bundle_frames::row_of;

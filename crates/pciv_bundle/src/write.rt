@@ -1,13 +1,14 @@
 // Writing a bundle: record 0, then each frame as a record of kind 1.
 ghost use mathlib.Core.Path.{_≡_};
-ghost use Prim.Native.Nat.{_+_, _≤_, _<_, _^_};
-ghost use mathlib.Core.List.{map};
+ghost use Prim.Native.Nat.{ℕ, _+_, _≤_, _<_, _^_};
+ghost use mathlib.Core.List.{map, _++_};
 ghost use lib.ListN.{length, take};
 ghost use lib.Seq.{sets};
+ghost use Rattle.pciv_bytes.specs.LittleEndian.{le};
 ghost use Rattle.pciv_format.specs.Check.{nField};
 ghost use Rattle.pciv_format.specs.Refusals.{numberAnswer};
 ghost use Rattle.pciv_bundle_records.specs.Records.{recordOf, recordBytes, bundleOf};
-ghost use Rattle.pciv_bundle.specs.Bundle.{bundleWriteOutcome, bundleWriteBuffer};
+ghost use Rattle.pciv_bundle.specs.Bundle.{ShortFrames, bundleWriteOutcome, bundleWriteBuffer};
 use pciv_bundle_frames::check_lent;
 use pciv_bundle_records::FRAME_KIND;
 use pciv_bundle_records::HEADER_KIND;
@@ -36,7 +37,10 @@ fn slots_of(file: &[u8]) -> usize
 }
 
 // The length of the bundle of the first `count` frames.
-fn bundle_len(frames: &[&[u8]; 8], count: usize) -> usize {
+fn bundle_len(frames: &[&[u8]], count: usize) -> usize
+    requires { ⌜ (count ≤ 8) × (length (now frames) ≡ 8) × ShortFrames (take count (map now (now frames))) ⌝ }
+    ensures { λ r. ⌜ ((n : ℕ) → r ≡ length (bundleOf n (take count (map now (now (frames .entry)))))) ⌝ }
+{
     let mut len = HEADER_RECORD_LEN;
     let mut f = 0;
     while f < count {
@@ -48,7 +52,10 @@ fn bundle_len(frames: &[&[u8]; 8], count: usize) -> usize {
 }
 
 // Record 0, at the front.
-fn put_header(out: &mut [u8], n: usize, count: usize) {
+fn put_header(out: &mut [u8], n: usize, count: usize)
+    requires { ⌜ (12 ≤ length (now out)) × (n < 2 ^ 32) ⌝ }
+    ensures { λ _. ⌜ now (out .exit) ≡ sets (now (out .entry)) 0 (recordBytes (recordOf 0 (le 4 n ++ le 2 count))) ⌝ }
+{
     put32(out, 0, (HEADER_RECORD_LEN - 4) as u32);
     put16(out, 4, HEADER_KIND);
     put32(out, 6, n as u32);
@@ -66,7 +73,12 @@ fn put_frame(out: &mut [u8], at: usize, frame: &[u8])
 }
 
 // The whole bundle, at the front.
-fn put_bundle(frames: &[&[u8]; 8], count: usize, n: usize, out: &mut [u8]) {
+fn put_bundle(frames: &[&[u8]], count: usize, n: usize, out: &mut [u8])
+    requires { ⌜ (count ≤ 8) × (length (now frames) ≡ 8) × ShortFrames (take count (map now (now frames))) ⌝ }
+    requires { ⌜ (n < 2 ^ 32) × (length (bundleOf n (take count (map now (now frames)))) ≤ length (now out)) ⌝ }
+    ensures { λ _. ⌜ now (out .exit)
+        ≡ sets (now (out .entry)) 0 (bundleOf n (take count (map now (now (frames .entry))))) ⌝ }
+{
     put_header(out, n, count);
     let mut at = HEADER_RECORD_LEN;
     let mut f = 0;
@@ -78,8 +90,8 @@ fn put_bundle(frames: &[&[u8]; 8], count: usize, n: usize, out: &mut [u8]) {
     }
 }
 
-// Writes the first `count` of eight frames as a bundle to the front of the caller's buffer; answers how many bytes. The others
-// are not looked at. Refusals: 14 where `count` is not from 1 to 8, then each used frame's 1 to 8, then 10 against
+// Writes the first `count` of eight frames as a bundle to the front of the caller's buffer; answers how many bytes. The
+// others are not looked at. Refusals: 14 where `count` is not from 1 to 8, then each used frame's 1 to 8, then 10 against
 // the n of the first, then 12.
 pub fn write(frames: &[&[u8]; 8], count: usize, out: &mut [u8]) -> NumberAnswer
     ensures answer { λ r. ⌜ r
@@ -87,22 +99,24 @@ pub fn write(frames: &[&[u8]; 8], count: usize, out: &mut [u8]) -> NumberAnswer
     ensures buffer { λ _. ⌜ now (out .exit)
         ≡ bundleWriteBuffer (map now (now (frames .entry))) count (now (out .entry)) ⌝ }
 {
+    // a slice made of the array is known to have eight elements
+    let lent: &[&[u8]] = frames;
     if count < 1 {
         return refuse_number(BAD_BUNDLE, 0, 0);
     }
     if MAX_FRAMES < count {
         return refuse_number(BAD_BUNDLE, 0, 0);
     }
-    let first = frames[0];
+    let first = lent[0];
     let checked = check_lent(frames, count, slots_of(first));
     match checked {
         NumberAnswer::Refused(r) => NumberAnswer::Refused(r),
         NumberAnswer::Number(n) => {
-            let len = bundle_len(frames, count);
+            let len = bundle_len(lent, count);
             if out.len() < len {
                 return refuse_number(BUFFER_TOO_SMALL, 0, 0);
             }
-            put_bundle(frames, count, n, out);
+            put_bundle(lent, count, n, out);
             NumberAnswer::Number(len)
         }
     }
