@@ -587,8 +587,8 @@ uint64_t pciv_bundle_read(const uint8_t *bundle, size_t bundle_len, uint64_t *sl
 uint64_t pciv_bundle_row(const uint8_t *bundle, size_t bundle_len, uint64_t slot, uint32_t row[8],
                          pciv_refusal *refusal);
 
-/* The nearest reading at each slot: the least distance of all frames that is not 0, or 0 where all
-   frames have 0. Refusals as above, then 12 where distances_len is below the slot count.
+/* The nearest distance at each slot: the least of all frames' distances that is not 0, or 0 where all
+   of them are 0. Refusals as above, then 12 where distances_len is below the slot count.
    When done the first elements of distances, as many as the slot count, hold them in order of their
    slots, the elements behind them are unchanged, and *count is the slot count. After a refusal
    distances and *count are unchanged. */

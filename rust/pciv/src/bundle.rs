@@ -63,8 +63,8 @@ pub fn row(bundle: &[u8], slot: u64) -> Result<[u32; MAX_FRAMES], Refusal> {
     answer(|row, refusal| raw::bundle_row(bundle, slot, row, refusal))
 }
 
-/// The nearest reading at each slot, to the front of `distances`: the least distance of all frames that is
-/// not 0, or 0 where all frames have 0. Answers how many slots there are. Refusals as [`read`], then 12.
+/// The nearest distance at each slot, to the front of `distances`: the least of all frames' distances that
+/// is not 0, or 0 where all of them are 0. Answers how many slots there are. Refusals as [`read`], then 12.
 pub fn nearest(bundle: &[u8], distances: &mut [u32]) -> Result<usize, Refusal> {
     count(|count, refusal| raw::bundle_nearest(bundle, distances, count, refusal))
 }

@@ -33,7 +33,7 @@ pub const RATTLE: &str = "crates/pciv_c/src";
 /// The Rattle source of its structs and numbers.
 pub const RATTLE_FORMAT: &str = "crates/pciv_format/src/lib.rt";
 /// The folders of the Rattle source of further numbers: of a list of corrections, and of bundles.
-pub const RATTLE_NUMBERS: [&str; 2] = ["crates/pciv_repair/src", "crates/pciv_bundle/src"];
+pub const RATTLE_NUMBERS: [&str; 2] = ["crates/pciv_repair/src", "crates/pciv_bundle_records/src"];
 /// The folder of the Rust crate's source.
 pub const RUST: &str = "rust/pciv/src";
 /// The file that names the version.
