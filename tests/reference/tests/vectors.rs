@@ -130,8 +130,13 @@ fn every_refusal_of_a_bundle_is_there() {
 #[test]
 fn the_later_fault_of_a_bundle_is_there() {
     type Repair = fn(&mut Vec<u8>);
-    let repairs: [(&str, Repair, [u64; 3]); 2] = [
+    let repairs: [(&str, Repair, [u64; 3]); 3] = [
         ("bad-02-map-2-before-10.pcib", |b| b[69] = b'P', [10, 0, 1]),
+        (
+            "bad-06-map-1-place-0-before-02.pcib",
+            |bundle| bundle[70] = 255,
+            [2, 2, 0],
+        ),
         (
             "bad-14-place-2-before-01.pcib",
             |bundle| bundle.extend([2, 0, 0, 0, 1, 0]),

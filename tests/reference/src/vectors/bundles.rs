@@ -209,6 +209,7 @@ fn bad_first() -> Vec<Vector<Contents>> {
             of_a(record(0, &[&counts[..], &[0]].concat())),
         ),
         refused([14, 0, 0], "frame-first", a.clone()),
+        refused([14, 0, 0], "pciv-file", file_of(&MAP_A)),
         refused([14, 0, 0], "kind-1", of_a(record(1, &counts))),
         refused([14, 0, 0], "kind-256", of_a(record(256, &counts))),
         refused(
@@ -319,7 +320,7 @@ fn bad_frames() -> Vec<Vector<Contents>> {
         ),
         refused([6, 2, 0], "distance-254", two(&a, &distance_254)),
         refused([6, 2, 1], "slot-repeated", two(&a, &with(&a, 56, &[2]))),
-        refused([6, 1, 0], "frame-2-too", two(&distance_254, &lower)),
+        refused([6, 1, 0], "before-02", two(&distance_254, &lower)),
         refused([7, 8, 0], "no-entry", [header(4, 8), eight].concat()),
         refused(
             [8, 2, 0],
