@@ -6,12 +6,12 @@ use crate::input::Input;
 use pciv::raw;
 use reference::bundle::MAX_FRAMES;
 
-/// How many faults: mostly none.
+/// How many faults: mostly none, up to three.
 fn faults(input: &mut Input) -> usize {
     match input.byte() {
         0..=159 => 0,
         160..=223 => 1,
-        code => usize::from(code - 222) / 8,
+        code => usize::from(code / 16) - 12,
     }
 }
 
