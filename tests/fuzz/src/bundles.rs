@@ -87,11 +87,12 @@ fn fault(input: &mut Input, records: &mut Vec<Vec<u8>>) {
         }
         1 => put(record, 4, &(input.number(&[0, 256]) as u16).to_le_bytes()),
         2 => {
-            let count = input.number(&[frames, 8, 256]) as u16;
+            let count = input.number(&[frames, 8, 256 + frames]) as u16;
             put(&mut records[0], 10, &count.to_le_bytes());
         }
         3 => {
-            let slots = input.number(&[claimed(&records[0])]) as u32;
+            let slots = claimed(&records[0]);
+            let slots = input.number(&[slots, slots + (1 << 16)]) as u32;
             put(&mut records[0], 6, &slots.to_le_bytes());
         }
         4 => records.insert(at, header(0, 1)),
@@ -150,7 +151,7 @@ pub fn write(bench: &mut Bench, input: &mut Input) {
     }
     let count = match input.byte() {
         0..=223 => used,
-        _ => input.number(&[used as u64, 8, 256]) as usize,
+        _ => input.number(&[8, 256 + used as u64]) as usize,
     };
     let records = frames.iter().take(count).map(|frame| 6 + frame.len());
     let capacity = input.capacity(12 + records.sum::<usize>());

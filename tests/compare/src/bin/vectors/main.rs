@@ -42,43 +42,36 @@ const KINDS: [Kind; 2] = [
 fn main() {
     let folder = env::args().nth(1).expect("usage: vectors FOLDER");
     let folder = Path::new(&folder);
-    let [mut files, mut failures] = [0; 2];
+    let mut failures = 0;
     let mut judge = |what: &str, verdict: Verdict| {
         if let Err(wrong) = verdict {
             println!("vectors: {what}: {wrong}");
             failures += 1;
         }
     };
-    let in_folder = names_of(folder);
-    let in_readme = names_in(&text(&folder.join(README)));
-    judge("files", of_a_kind(&in_folder));
+    let mut names = BTreeSet::new();
     for kind in KINDS {
         let table = text(&folder.join(kind.table));
-        let lines = lines(&table);
-        judge(kind.table, first_line(&table, kind.columns));
-        judge(kind.table, unique(&lines));
-        let of_kind = |names| of_extension(names, kind.extension);
-        judge("files and lines", same_names(&of_kind(&in_folder), &lines));
-        judge(
-            "rows of the README and lines",
-            same_names(&of_kind(&in_readme), &lines),
-        );
-        for (name, fields) in &lines {
+        let columns = table.lines().next();
+        judge(kind.table, same("columns", Some(kind.columns), columns));
+        judge(kind.table, same("lines", true, table.lines().count() > 1));
+        for (name, fields) in lines(&table) {
+            let is_new = names.insert(name.to_string());
+            judge(name, same("the only line of its name", true, is_new));
             let file = fs::read(folder.join(name)).unwrap_or_default();
             let stem = name.strip_suffix(kind.extension);
             let stem = stem.ok_or(format!("not a {} file", kind.extension));
-            judge(
-                name,
-                stem.and_then(|stem| (kind.judge)(stem, fields, &file)),
-            );
+            let verdict = stem.and_then(|stem| (kind.judge)(stem, &fields, &file));
+            judge(name, verdict);
         }
-        judge(
-            kind.table,
-            same("a table without lines", false, lines.is_empty()),
-        );
-        files += lines.len();
     }
-    println!("vectors: {files} files, {failures} failures");
+    let in_readme = names_in(&text(&folder.join(README)));
+    judge("files and lines", same_names(&names_of(folder), &names));
+    judge(
+        "rows of the README and lines",
+        same_names(&in_readme, &names),
+    );
+    println!("vectors: {} files, {failures} failures", names.len());
     process::exit(i32::from(failures > 0));
 }
 
@@ -91,10 +84,6 @@ fn lines(table: &str) -> Vec<(&str, Vec<&str>)> {
     let rows = table.lines().skip(1).map(|line| line.split('\t'));
     rows.map(|mut fields| (fields.next().unwrap_or_default(), fields.collect()))
         .collect()
-}
-
-fn first_line(table: &str, columns: &str) -> Verdict {
-    same("first line", Some(columns), table.lines().next())
 }
 
 /// The names of all files in the folder but the tables and the README.
@@ -118,34 +107,13 @@ fn names_in(readme: &str) -> BTreeSet<String> {
         .collect()
 }
 
-/// Each name has the extension of a kind.
-fn of_a_kind(names: &BTreeSet<String>) -> Verdict {
-    let is_of = |name: &String| KINDS.iter().any(|kind| name.ends_with(kind.extension));
-    let odd: Vec<_> = names.iter().filter(|name| !is_of(name)).collect();
-    same("files of no kind", Vec::<&String>::new(), odd)
-}
-
-fn of_extension(names: &BTreeSet<String>, extension: &str) -> BTreeSet<String> {
-    let names = names.iter().filter(|name| name.ends_with(extension));
-    names.cloned().collect()
-}
-
-fn unique(lines: &[(&str, Vec<&str>)]) -> Verdict {
-    same("names", lines.len(), in_lines(lines).len())
-}
-
 /// Each name has a line, and each line one of the names.
-fn same_names(names: &BTreeSet<String>, lines: &[(&str, Vec<&str>)]) -> Verdict {
-    let lines = in_lines(lines);
-    let odd: Vec<_> = names.symmetric_difference(&lines).collect();
+fn same_names(names: &BTreeSet<String>, lines: &BTreeSet<String>) -> Verdict {
+    let odd: Vec<_> = names.symmetric_difference(lines).collect();
     match odd.is_empty() {
         true => Ok(()),
         false => Err(format!("not in both: {odd:?}")),
     }
-}
-
-fn in_lines(lines: &[(&str, Vec<&str>)]) -> BTreeSet<String> {
-    lines.iter().map(|(name, _)| name.to_string()).collect()
 }
 
 /// What a line says: the refusal, or the other fields, none where there is `-`.
