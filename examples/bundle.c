@@ -1,7 +1,7 @@
 /* bundle BUNDLE MAP..: packs one to eight maps with the same number of slots, the frames of a burst,
    into BUNDLE, a new file. bundle BUNDLE: reads one. Prints how many frames and slots it has; how many
    slots have a reading in some frame, and the mean of the nearest ones; and the distances by frame at
-   the slot that is nearest of all. Where it fails BUNDLE is not made. Exits with 0 when done, 1 where a
+   the slot that is nearest of all. Where packing fails BUNDLE is not made. Exits with 0 when done, 1 where a
    file cannot be read or written, 2 where it is called in another way, 3 where the library refuses. */
 #define _POSIX_C_SOURCE 200809L
 #include "pciv.h"

@@ -607,7 +607,7 @@ static inline size_t pciv_bundle_len(const pciv_part frames[8], size_t count)
 }
 
 /* The bundle of the first `count` of eight parts, each a file, in this order. The parts behind them
-   are not looked at, but must be there; one of length 0 will do.
+   are not looked at, but must be valid slices too; { NULL, 0 } will do.
    Refusals: 14 with place 0 where count is not 1 to 8; 1 to 8 of each frame, with its number as map;
    10 with the least frame as place whose n is not that of frame 1; then 12 where the bundle is longer
    than out_len, which pciv_bundle_len(frames, count) bytes are enough for.

@@ -1,10 +1,12 @@
 /* Calls every function of pciv.h on maps built by hand and on refused input. If it fails, the
    library, the header or the way they are linked is wrong for C programs. */
+#define _DEFAULT_SOURCE
 #include "pciv.h"
 
 #include <stdio.h>
 #include <stdlib.h>
 #include <string.h>
+#include <sys/mman.h>
 
 /* Unlike assert, also checks in release builds. */
 #define EXPECT(condition)                                                                  \
@@ -851,7 +853,29 @@ static void test_bundle_not_written(const pciv_part *frames, size_t count, size_
     EXPECT(is_dirty(out, sizeof out) && is_dirty(&written, sizeof written));
 }
 
-/* Frames behind the count are not looked at. */
+/* Frames behind the count are not looked at: here they lie where nothing can be read. */
+static void test_bundle_unread(const uint8_t *file)
+{
+    const size_t page = 4096;
+    void *closed = mmap(NULL, page, PROT_NONE, MAP_PRIVATE | MAP_ANONYMOUS, -1, 0);
+    uint8_t out[12 + 6 + MAP_LEN];
+    uint64_t written;
+    pciv_part frames[PCIV_MAX_FRAMES];
+    pciv_refusal refusal;
+    EXPECT(closed != MAP_FAILED);
+    for (size_t i = 0; i < PCIV_MAX_FRAMES; i++) {
+        frames[i].bytes = closed;
+        frames[i].len = page;
+    }
+    EXPECT(pciv_bundle_write(frames, 0, out, sizeof out, &written, &refusal) == PCIV_BAD_BUNDLE);
+    EXPECT(pciv_bundle_write(frames, 9, out, sizeof out, &written, &refusal) == PCIV_BAD_BUNDLE);
+    frames[0].bytes = file;
+    frames[0].len = MAP_LEN;
+    EXPECT(pciv_bundle_write(frames, 1, out, sizeof out, &written, &refusal) == PCIV_OK);
+    EXPECT(written == sizeof out);
+    EXPECT(munmap(closed, page) == 0);
+}
+
 static void test_bundle_write(const uint8_t *file, const uint8_t *other)
 {
     static const uint8_t empty[40] = "PCIV";
@@ -1207,6 +1231,7 @@ int main(void)
     test_bundle_faults();
     test_bundle();
     test_bundle_write(file, other);
+    test_bundle_unread(file);
     test_report(file);
     test_version();
     test_lengths();

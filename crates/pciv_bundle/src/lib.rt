@@ -1,11 +1,11 @@
-// Burst bundles: one to eight frames of one scene in one file (docs/FORMAT.md, "Bundles"). A bundle's records and frames
-// are checked first in every routine. A refused call changes nothing, and what follows a result stays as it was.
+// Burst bundles: one to eight frames of one scene in one file (docs/FORMAT.md, "Bundles"). Every routine checks all records
+// and frames that it uses before anything else. A refused call changes nothing, and what follows a result stays as it was.
 pub mod write;
 
 ghost use mathlib.Core.Path.{_≡_};
 ghost use lib.ListN.{length};
 ghost use Rattle.pciv_format.specs.Refusals.{done, refused, numberAnswer};
-ghost use Rattle.pciv_bundle_records.specs.Records.{frames, bundleAnswer, PlacedFrames};
+ghost use Rattle.pciv_bundle_records.specs.Records.{bundleAnswer, PlacedFrames};
 ghost use Rattle.pciv_bundle_records.specs.declared.BundleCounts.{BundleCounts};
 ghost use Rattle.pciv_bundle.specs.Bundle.{bundleOutcome, rowOutcome, rowAnswer, nearestOutcome, nearestBuffer};
 use pciv_bundle_frames::check_frames;

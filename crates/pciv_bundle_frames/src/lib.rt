@@ -33,7 +33,8 @@ fn next_other(other: usize, f: usize, have: usize, n: usize) -> usize
     f + 1
 }
 
-// The check of frame f, then the least of the frames up to it that has not n slots, where `other` is that of those below.
+// The check of frame f, then the least of the frames up to it that has not n slots, or f + 1, where `other` is that of
+// those below.
 fn check_next(frame: &[u8], f: usize, other: usize, n: usize) -> NumberAnswer
     requires { ⌜ f < 8 ⌝ }
     ensures { λ r. ⌜ r ≡ numberAnswer (nextFrame n f other (now (frame .entry))) ⌝ }
@@ -45,7 +46,7 @@ fn check_next(frame: &[u8], f: usize, other: usize, n: usize) -> NumberAnswer
     }
 }
 
-// Refusal 10 where one of `count` frames, the least of which is `other`, has not n slots, else n.
+// Refusal 10 where one of `count` frames has not n slots, else n; `other` is the least such frame, from 0, or `count`.
 fn same_slots(other: usize, count: usize, n: usize) -> NumberAnswer
     requires { ⌜ other ≤ 8 ⌝ }
     ensures { λ r. ⌜ r ≡ numberAnswer (refuseIf (ltb other count) (refuse 10 0 (other + 1)) (done n)) ⌝ }

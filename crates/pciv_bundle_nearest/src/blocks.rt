@@ -29,7 +29,7 @@ fn lowered(least: u8, byte: u8) -> u8
     if less < least { less } else { least }
 }
 
-// The distance of a byte that is less by 1; the largest one for byte 255, whose distances are in overflow.
+// The distance of a byte that was taken less 1. 254 was byte 255, whose distance is in overflow: it becomes the largest one.
 fn raised(least: u8) -> u32
     ensures { λ r. ⌜ r ≡ raisedByte least ⌝ }
 {

@@ -1,7 +1,7 @@
 //! Bundles: a burst of one to eight maps of equal size in one file, its frames.
 //!
 //! A bundle has a record with the two counts, then the frames in order, each a whole PCIV file. Records of
-//! other kinds may stand among the frames and behind them, and are passed over. Frames count from 1,
+//! other kinds may stand anywhere behind the first one, and are passed over. Frames count from 1,
 //! records from 0.
 //!
 //! The functions that take a bundle check all of it first, each frame as [`check`](crate::check) does.
@@ -69,9 +69,10 @@ pub fn nearest(bundle: &[u8], distances: &mut [u32]) -> Result<usize, Refusal> {
     count(|count, refusal| raw::bundle_nearest(bundle, distances, count, refusal))
 }
 
-/// The length of the bundle of some frames: 12, and for each frame 6 more than it has itself.
+/// The length of the bundle of some frames, of which eight count at most: 12, and for each frame 6 more
+/// than it has itself.
 pub fn bundle_len(frames: &[&[u8]]) -> usize {
-    let records = frames.iter().map(|frame| 6 + frame.len());
+    let records = frames.iter().take(MAX_FRAMES).map(|frame| 6 + frame.len());
     12 + records.sum::<usize>()
 }
 

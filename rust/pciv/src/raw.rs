@@ -324,6 +324,7 @@ const _: () = {
     assert!(size_of::<Summary>() == 6 * size_of::<u64>());
     assert!(size_of::<Refusal>() == 3 * size_of::<u64>());
     assert!(size_of::<Entry>() == 16 && offset_of!(Entry, distance) == 8);
+    assert!(size_of::<c::Part>() == 16 && offset_of!(c::Part, len) == 8);
 };
 
 /// `pciv_check`.
