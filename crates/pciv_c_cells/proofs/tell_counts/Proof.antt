@@ -17,7 +17,9 @@ tell-refused-requires : tie.Need-tell-refused-requires
 tell-refused-requires c κs = search needs
 
 returns : tie.Need-returns
-returns c = search needs
+returns c =
+    rw (c .before .before .before .a .given .1)
+    (record { codeIs = c .tell-done .ensures .0; slotsIs = refl; framesIs = refl; whyIs = c .tell-done .ensures .1 })
 
 returns-2 : tie.Need-returns-2
 returns-2 c =
