@@ -29,11 +29,10 @@ use Rattle.pciv_format.proofs.Acceptance.{file-counted, file-read, counted-is-f
 use Rattle.pciv_bundle_records.specs.Records.{recordKind, recordPayload, recordCount, frames, recordsOutcome}
 use Rattle.pciv_bundle_records.specs.Records.{slotCount, frameCount, Record, recordsBytes, recordsOf}
 use Rattle.pciv_bundle_records.specs.declared.BundleCounts.{BundleCounts}
-use Rattle.pciv_bundle_records.proofs.RecordsLaws.{done-counts, done-accepted}
-use Rattle.pciv_bundle_records.proofs.RecordBytesLaws.{headerOf, framesIn}
-use Rattle.pciv_bundle_records.proofs.RecordListLaws.{records-whole, records-first, records-later, frames-bytes}
-use Rattle.pciv_bundle_records.proofs.RecordListLaws.{SoundRest, whole-list, frames-list, sound-list}
-use Rattle.pciv_bundle_records.proofs.RecordListLaws.{rest-frames, rest-outcome}
+use Rattle.pciv_bundle_records.proofs.RecordsLaws.{frames-bytes, done-counts, done-accepted}
+use Rattle.pciv_bundle_records.proofs.RecordBytesLaws.{headerOf, framesIn, SoundRest, rest-frames, rest-outcome}
+use Rattle.pciv_bundle_records.proofs.RecordListLaws.{records-whole, records-first, records-later}
+use Rattle.pciv_bundle_records.proofs.RecordListLaws.{whole-list, frames-list, sound-list}
 use Rattle.pciv_bundle_frames.specs.Frames.{soundFrames, otherSlots, framesOutcome}
 use Rattle.pciv_bundle_frames.proofs.FramesLaws.{frames-checked, frames-length}
 use Rattle.pciv_bundle.specs.Bundle.{bundleOutcome}
@@ -129,13 +128,13 @@ module _ (b : List ℕ) (c : BundleCounts) (accepted : bundleOutcome b ≡ done 
           headerKind = ap (λ (r : Record). r .kind) first;
           headerPayload = rw (slots-are, frames-are) (ap (λ (r : Record). r .payload) first);
           later = records-later b bytes c accepted-records;
-          some = omega (arith, a .some, frames-are);
-          few = omega (arith, a .few, frames-are);
+          some = omega (arith, a .header .some, frames-are);
+          few = omega (arith, a .header .few, frames-are);
           count = a .counted ∙ sym frames-are;
           each = λ f h.
               (let inside : f < length (frames b) = omega (arith, a .counted, frames-are) in
               done-file (c .slots) (passed .1) (frames b) (passed .2) f inside
-              (frames-bytes b bytes c accepted-records f inside));
+              (frames-bytes b bytes f inside));
         }
 
     rest-accepted : BundleRest c (drop 1 (recordsOf b))

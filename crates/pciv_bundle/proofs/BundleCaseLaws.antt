@@ -48,7 +48,7 @@ module _ (b : List ℕ) where
     pub counted-frames : (c .frames ≤ 8) × (c .frames ≡ length (frames b))
     counted-frames =
         let a = done-accepted b c e in
-        rw (done-counts b c e) (a .few, sym (a .counted))
+        rw (done-counts b c e) (a .header .few, sym (a .counted))
 
     pub bundle-frames : (r : Refusal) → framesOutcome (c .slots) (frames b) ≡ refused r → bundleOutcome b ≡ refused r
     unfolding bundleOutcome
