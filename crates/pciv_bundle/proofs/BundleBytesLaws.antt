@@ -1,8 +1,6 @@
 -- Laws of the bytes of a bundle: how many there are, and writing them record by record. fs are the frames.
---   length-recordBytes              a record has 6 bytes before its payload
---   headerBytes n count, framesBytes fs, bundleOf-is
---                                   record 0, the frames as records, and the bundle that these are
---   length-bundleOf                 its length, which does not depend on n
+--   headerBytes n count, framesBytes fs    the bytes of record 0, and of the frames as records
+--   length-bundleOf                 the length of a bundle, which does not depend on n
 --   Counted fs f len                len are the bytes of record 0 and the first f frames
 --   counted-start, -more, -end      no frame, one more, and all
 --   Putting fs out₀ out at f        the first f frames are written, up to `at`: what is left to write makes the whole
@@ -21,25 +19,21 @@ use Rattle.pciv_bytes.specs.LittleEndian.{le}
 use Rattle.pciv_bytes.proofs.LittleEndianLaws.{length-le}
 use Rattle.pciv_bytes.proofs.WriteLaws.{sets-append}
 use Rattle.pciv_bundle_records.specs.Records.{Record, recordOf, recordBytes, recordsBytes, bundleRecords, bundleOf}
+use Rattle.pciv_bundle_records.proofs.RecordBytesLaws.{length-recordBytes, headerOf}
 use Rattle.pciv_bundle.specs.Bundle.{ShortFrames}
 
-pub length-recordBytes : (r : Record) → length (recordBytes r) ≡ 6 + length (r .payload)
-unfolding recordBytes
-length-recordBytes r = simp (length-append, length-le) (omega arith)
-
 abbrev pub headerBytes : ℕ → ℕ → List ℕ
-headerBytes n count = recordBytes (recordOf 0 (le 4 n ++ le 2 count))
+headerBytes n count = recordBytes (headerOf n count)
 
 abbrev pub framesBytes : List (List ℕ) → List ℕ
 framesBytes fs = recordsBytes (map (recordOf 1) fs)
 
-pub bundleOf-is : (n : ℕ) (fs : List (List ℕ)) → bundleOf n fs ≡ headerBytes n (length fs) ++ framesBytes fs
+bundleOf-is : (n : ℕ) (fs : List (List ℕ)) → bundleOf n fs ≡ headerBytes n (length fs) ++ framesBytes fs
 unfolding bundleOf bundleRecords recordsBytes
 bundleOf-is n fs = refl
 
 length-header : (n count : ℕ) → length (headerBytes n count) ≡ 12
-length-header n count =
-    length-recordBytes (recordOf 0 (le 4 n ++ le 2 count)) ∙ simp (length-append, length-le)
+length-header n count = length-recordBytes (headerOf n count) ∙ simp (length-append, length-le)
 
 pub length-bundleOf : (n : ℕ) (fs : List (List ℕ)) → length (bundleOf n fs) ≡ 12 + length (framesBytes fs)
 length-bundleOf n fs =

@@ -2,7 +2,7 @@
 --   counted-frames                     sound records have up to eight frames, as many as they say
 --   bundle-records, bundle-frames, bundle-done    a bundle's records are refused, its frames are, or it is accepted
 --   row-refused, nearest-refused       the bundle is refused, and so is the call
---   records-accepted                   an accepted bundle has sound records
+--   records-accepted, frames-accepted  an accepted bundle has sound records, and its frames are
 --   accepted-frames, bundle-checked    it has as many frames as it says, and each is a checked map with its slots
 --   row-outside, row-inside            refusal 9, or the distances at a slot
 --   nearest-short, nearest-done, nearest-buffer    refusal 12, or how many distances, and what is written
@@ -13,27 +13,26 @@
 --   write-short, write-done, write-buffer    refusal 12, or how many bytes, and what is written
 -- Axioms: none.
 use mathlib.Core.Path.{_≡_, sym, ap, _∙_}
-use Prim.Native.Nat.{ℕ, _+_, _≤_, _<_, _^_}
+use Prim.Native.Nat.{ℕ, _≤_, _<_, _^_}
 use native.Mathlib.Omega.{arith}
 use native.Mathlib.Decide.{decLe}
 use mathlib.Core.List.{List, []}
 use lib.ListN.{length, getD, take}
 use lib.Seq.{sets, getD-take}
 use borrow.Author.Tests.{le-leb, lt-leb, lt-ltb, le-ltb}
-use Rattle.pciv_bytes.proofs.RangesLaws.{length-table}
 use Rattle.pciv_bytes.proofs.WriteLaws.{sets-front}
 use Rattle.pciv_format.specs.Refusals.{done, refused, refuse}
-use Rattle.pciv_format.specs.Check.{nField, kField}
+use Rattle.pciv_format.specs.Check.{nField}
 use Rattle.pciv_format.specs.declared.Refusal.{Refusal}
 use Rattle.pciv_format.proofs.RefusalsLaws.{andThen-done}
-use Rattle.pciv_format.proofs.LayoutLaws.{fileLen-is, indexLen-le, indexStep-le}
 use Rattle.pciv_format.proofs.ReadLaws.{items-fit, items-short}
 use Rattle.pciv_bundle_records.specs.Records.{frames, slotCount, recordsOutcome, bundleOf}
 use Rattle.pciv_bundle_records.specs.declared.BundleCounts.{BundleCounts}
 use Rattle.pciv_bundle_records.proofs.RecordsLaws.{done-counts, done-accepted}
 use Rattle.pciv_bundle_frames.specs.Frames.{framesOutcome, CheckedFrames, rowOf}
-use Rattle.pciv_bundle_frames.proofs.FramesLaws.{frames-value, frames-checked, frames-length, framesOutcome-any}
-use Rattle.pciv_bundle_nearest.specs.Nearest.{nearestAt, nearestList}
+use Rattle.pciv_bundle_frames.proofs.FramesLaws.{frames-value, frames-checked, frames-small, framesOutcome-any}
+use Rattle.pciv_bundle_nearest.specs.Nearest.{nearestList}
+use Rattle.pciv_bundle_nearest.proofs.NearestLaws.{length-nearestList}
 use Rattle.pciv_bundle.specs.Bundle.{bundleOutcome, rowOutcome, nearestOutcome, nearestBuffer}
 use Rattle.pciv_bundle.specs.Bundle.{usedSlots, ShortFrames, bundleWriteOutcome, bundleWriteBuffer}
 
@@ -48,7 +47,7 @@ module _ (b : List ℕ) where
     pub counted-frames : (c .frames ≤ 8) × (c .frames ≡ length (frames b))
     counted-frames =
         let a = done-accepted b c e in
-        rw (done-counts b c e) (a .few, sym (a .counted))
+        rw (done-counts b c e) (a .header .few, sym (a .counted))
 
     pub bundle-frames : (r : Refusal) → framesOutcome (c .slots) (frames b) ≡ refused r → bundleOutcome b ≡ refused r
     unfolding bundleOutcome
@@ -84,11 +83,14 @@ module _ (b : List ℕ) (c : BundleCounts) (e : bundleOutcome b ≡ done c) wher
   pub records-accepted : recordsOutcome b ≡ done c
   records-accepted = parts .1
 
+  pub frames-accepted : (n : ℕ) × (framesOutcome (c .slots) (frames b) ≡ done n)
+  frames-accepted = (parts .0, parts .2)
+
   pub accepted-frames : (c .frames ≤ 8) × (c .frames ≡ length (frames b))
   accepted-frames = counted-frames b c records-accepted
 
   pub bundle-checked : CheckedFrames (frames b) (c .slots)
-  bundle-checked = frames-checked (c .slots) (frames b) _ (parts .2)
+  bundle-checked = frames-checked (c .slots) (frames b) _ (frames-accepted .1)
 
   -- one slot
   pub row-outside : (slot : ℕ) → c .slots ≤ slot → rowOutcome b slot ≡ refuse 9 0 0
@@ -108,17 +110,13 @@ module _ (b : List ℕ) (c : BundleCounts) (e : bundleOutcome b ≡ done c) wher
   unfolding nearestOutcome
   nearest-done capacity h = rw e (items-fit (c .slots) capacity h)
 
-  length-nearest : length (nearestList (frames b) (c .slots)) ≡ c .slots
-  unfolding nearestList
-  length-nearest = length-table (nearestAt (frames b)) 0 (c .slots)
-
   pub nearest-buffer : (out : List ℕ) → c .slots ≤ length out
       → sets out 0 (nearestList (frames b) (c .slots)) ≡ nearestBuffer b out
   unfolding nearestBuffer
   nearest-buffer out h =
       let slots : slotCount b ≡ c .slots = ap (λ (x : BundleCounts). x .slots) (sym (done-counts b c records-accepted)) in
       rw (nearest-done (length out) h, slots)
-      (sets-front (nearestList (frames b) (c .slots)) out (rw length-nearest h))
+      (sets-front (nearestList (frames b) (c .slots)) out (rw length-nearestList h))
 
 -- ---- writing
 
@@ -151,30 +149,11 @@ module _ (fs : List (List ℕ)) (count : ℕ) where
     write-refused capacity r e = rw (le-ltb count 1 some, le-ltb 8 count few, e)
 
     module _ (n : ℕ) (e : framesOutcome (usedSlots fs) (take count fs) ≡ done n) where
-      -- a file of the most slots is shorter than that
-      small : (f : ℕ) → f < length (take count fs)
-          → (n < 2 ^ 32) × (2 + length (getD (take count fs) f []) < 2 ^ 32)
-      small f h =
-          let same : n ≡ usedSlots fs = frames-value _ _ n e in
-          let k : ℕ = kField (getD (take count fs) f []) in
-          let m = frames-checked _ _ n e f h .header in (
-            omega (arith, m .small, same),
-            omega (
-              arith,
-              m .small,
-              m .few,
-              frames-length _ _ n e f h,
-              fileLen-is (usedSlots fs) k,
-              indexLen-le k,
-              indexStep-le k,
-            ),
-          )
-
       pub write-n : length (take count fs) ≡ count → n < 2 ^ 32
-      write-n all = small 0 (rw all some) .0
+      write-n all = rw (← frames-value _ _ n e) at (frames-small _ _ n e 0 (rw all some) .0)
 
       pub write-frames : ShortFrames (take count fs)
-      write-frames f h = small f h .1
+      write-frames f h = frames-small _ _ n e f h .1
 
       pub write-short : (capacity : ℕ) → capacity < length (bundleOf n (take count fs))
           → bundleWriteOutcome fs count capacity ≡ refuse 12 0 0

@@ -13,26 +13,24 @@ use Prim.Native.Nat.{ℕ, suc, _+_, _≤_, _<_}
 use native.Mathlib.Nat.{zero-add}
 use native.Mathlib.Omega.{arith}
 use native.Mathlib.Decide.{decLe}
-use mathlib.Core.Bool.{false}
 use mathlib.Core.List.{List, [], _∷_, _++_, map}
-use lib.ListN.{length, getD, take, drop, length-map, List·getD-map, List·getD-eq-default}
+use lib.ListN.{length, getD, take, drop, length-map, List·getD-eq-default}
 use lib.Seq.{take-at, drop-at, getD-take}
 use borrow.Author.Tests.{le-ltb, le-leb, lt-leb}
 use Rattle.pciv_bytes.specs.Ranges.{table}
-use Rattle.pciv_bytes.specs.LittleEndian.{number, get}
-use Rattle.pciv_bytes.proofs.RangesLaws.{getD-inside, firstBelow-none, getD-table, table-cong}
-use Rattle.pciv_format.specs.Layout.{at, overflowCount, fileOf, Limits}
+use Rattle.pciv_bytes.proofs.RangesLaws.{getD-map, getD-table, table-cong}
+use Rattle.pciv_format.specs.Layout.{at, fileOf, Limits}
 use Rattle.pciv_format.specs.Refusals.{done, refuse, written}
 use Rattle.pciv_format.specs.Check.{nField}
 use Rattle.pciv_format.specs.Read.{listOf, itemsInto}
-use Rattle.pciv_format.proofs.PartsLaws.{eqb-not}
-use Rattle.pciv_format.proofs.LayoutLaws.{length-file, fileLen-is, indexLen-le, indexStep-le, overflowCount-le}
-use Rattle.pciv_format.proofs.FileLaws.{file-checked}
-use Rattle.pciv_format.proofs.Acceptance.{file-counted, file-read}
+use Rattle.pciv_format.proofs.Acceptance.{file-read}
 use Rattle.pciv_format.proofs.ReadLaws.{items-fit}
 use Rattle.pciv_bundle_records.specs.Records.{frames, slotCount, bundleOf}
 use Rattle.pciv_bundle_records.proofs.RecordBytesLaws.{bundleOf-frames, bundleOf-sound, bundleOf-slotCount}
-use Rattle.pciv_bundle_frames.specs.Frames.{soundFrames, otherSlots, framesOutcome, rowOf}
+use Rattle.pciv_bundle_frames.specs.Frames.{framesOutcome, rowOf}
+use Rattle.pciv_bundle_frames.proofs.FramesLaws.{frames-checked, frames-small}
+use Rattle.pciv_bundle_frames.proofs.FrameFileLaws.{FrameFile, file-frame, files-done}
+use Rattle.pciv_bundle_frames.proofs.RowLaws.{absent-zero}
 use Rattle.pciv_bundle_nearest.specs.Nearest.{nearestOf, distancesAt, nearestAt, nearestList}
 use Rattle.pciv_bundle.specs.Bundle.{bundleOutcome, rowOutcome, nearestOutcome, nearestBuffer, usedSlots}
 use Rattle.pciv_bundle.specs.Bundle.{bundleWriteOutcome, bundleWriteBuffer}
@@ -82,40 +80,6 @@ module _ (xss : List (List ℕ)) (slot f : ℕ) where
 
 -- ---- files as frames
 
-file-size : (xs : List ℕ) → Limits xs → 2 + length (fileOf xs) < 4294967296
-file-size xs l =
-    let k : ℕ = overflowCount (length xs) (at xs) in
-    omega (
-      arith,
-      l .count,
-      length-file (length xs) (at xs),
-      fileLen-is (length xs) k,
-      overflowCount-le (length xs) (at xs),
-      indexLen-le k,
-      indexStep-le k,
-    )
-
-file-slots : (xs : List ℕ) → Limits xs → nField (fileOf xs) ≡ length xs
-file-slots xs l = file-checked (length xs) (at xs) (l .count) (l .each) .header .nIs
-
--- no bytes are read as no slots
-no-file : listOf [] ≡ []
-unfolding listOf get number table
-no-file = refl
-
-getD-files : (xss : List (List ℕ)) (f : ℕ) → f < length xss → getD (map fileOf xss) f [] ≡ fileOf (getD xss f [])
-getD-files xss f h =
-    getD-inside (map fileOf xss) f [] (fileOf []) (omega (arith, length-map xss fileOf))
-    ∙ List·getD-map fileOf xss f []
-
-sound-files : (f : ℕ) (xss : List (List ℕ)) → ((i : ℕ) → i < length xss → Limits (getD xss i []))
-    → soundFrames f (map fileOf xss) ≡ done (f + length xss)
-unfolding soundFrames
-sound-files f [] limits = ap done (omega arith)
-sound-files f (xs ∷ xss) limits =
-    rw (file-counted f xs (limits 0 (omega arith)))
-    (sound-files (suc f) xss (λ i h. limits (suc i) (omega arith)) ∙ ap done (omega arith))
-
 distances-files : (i : ℕ) (xss : List (List ℕ)) → ((f : ℕ) → f < length xss → Limits (getD xss f []))
     → distancesAt (map fileOf xss) i ≡ map (λ (xs : List ℕ). at xs i) xss
 unfolding distancesAt
@@ -134,31 +98,28 @@ module _ (xss : List (List ℕ)) (n : ℕ) (l : Bundled xss n) where
   count : length files ≡ length xss
   count = length-map xss fileOf
 
-  same-slots : (f : ℕ) → f < length files → otherSlots n files f ≡ false
-  same-slots f h =
+  file-at : (f : ℕ) → f < length xss → getD files f [] ≡ fileOf (getD xss f [])
+  file-at f h = getD-map fileOf xss f [] [] h
+
+  frame-file : (f : ℕ) → f < length files → FrameFile n (getD files f [])
+  frame-file f h =
       let inside : f < length xss = omega (arith, count) in
-      rw (getD-files xss f inside)
-      (eqb-not _ _ (file-slots (getD xss f []) (l .limits f inside) ∙ l .slots f inside))
+      rw (file-at f inside, ← l .slots f inside) (file-frame (getD xss f []) (l .limits f inside))
 
   frames-done : framesOutcome n files ≡ done n
-  unfolding framesOutcome
-  frames-done =
-      rw (
-        sound-files 1 xss (l .limits),
-        firstBelow-none (otherSlots n files) (length files) same-slots,
-        le-ltb (length files) (length files) (omega arith),
-      )
+  frames-done = files-done n files frame-file
 
-  small : (f : ℕ) → f < length files → 2 + length (getD files f []) < 4294967296
-  small f h =
-      let inside : f < length xss = omega (arith, count) in
-      rw (getD-files xss f inside) (file-size (getD xss f []) (l .limits f inside))
+  small : (f : ℕ) → f < length files → (n < 4294967296) × (2 + length (getD files f []) < 4294967296)
+  small = frames-small n files n frames-done
+
+  first : 0 < length files
+  first = omega (arith, count, l .some)
 
   n-small : n < 4294967296
-  n-small = omega (arith, l .slots 0 (l .some), l .limits 0 (l .some) .count)
+  n-small = small 0 first .0
 
   frames-are : frames b ≡ files
-  frames-are = bundleOf-frames n files small
+  frames-are = bundleOf-frames n files (λ f h. small f h .1)
 
   slots-are : slotCount b ≡ n
   slots-are = bundleOf-slotCount n files n-small
@@ -167,7 +128,7 @@ module _ (xss : List (List ℕ)) (n : ℕ) (l : Bundled xss n) where
   unfolding bundleOutcome
   counts =
       rw (
-        bundleOf-sound n files small (omega (arith, count, l .some)) (omega (arith, count, l .few)) n-small,
+        bundleOf-sound n files (λ f h. small f h .1) first (omega (arith, count, l .few)) n-small,
         frames-are,
         frames-done,
         count,
@@ -180,10 +141,8 @@ module _ (xss : List (List ℕ)) (n : ℕ) (l : Bundled xss n) where
     used =
         ap nField
         (sym (getD-take (length xss) fs 0 [] (l .some))
-        ∙ ap (λ (l : List (List ℕ)). getD l 0 []) given
-        ∙ getD-files xss 0 (l .some))
-        ∙ file-slots (getD xss 0 []) (l .limits 0 (l .some))
-        ∙ l .slots 0 (l .some)
+        ∙ ap (λ (l : List (List ℕ)). getD l 0 []) given)
+        ∙ frames-checked n files n frames-done 0 first .header .nIs
 
     write-done : (capacity : ℕ) → length b ≤ capacity
         → bundleWriteOutcome fs (length xss) capacity ≡ done (length b)
@@ -220,10 +179,10 @@ module _ (xss : List (List ℕ)) (n : ℕ) (l : Bundled xss n) where
       elim (decLe (length xss) f) [
         | yes absent ↦
             (let past : length files ≤ f = omega (arith, count) in
-            rw (List·getD-eq-default files [] past, List·getD-eq-default xss [] absent, no-file))
+            absent-zero files slot f past ∙ rw (List·getD-eq-default xss [] absent))
         | no present ↦
             (let inside : f < length xss = omega arith in
-            rw (getD-files xss f inside, file-read (getD xss f []) (l .limits f inside)))
+            rw (file-at f inside, file-read (getD xss f []) (l .limits f inside)))
       ]
 
   pub bundle-row : (slot : ℕ) → slot < n → rowOutcome (bundleOfLists n xss) slot ≡ done (rowOfLists xss slot)

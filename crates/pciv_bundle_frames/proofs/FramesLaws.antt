@@ -1,13 +1,15 @@
 -- Laws of the frames' outcome: frame by frame, and what it says of each where it is done.
 --   Passed n fs f other      the frames below f are sound, and `other` is the least of them that has not n slots, or f
 --   passed-none, -more, -le  before the first frame, and past a sound one; `other` is among them, or behind the last
---   frames-refused           at a frame that is refused, so is the outcome
+--   passed-refused           at a frame that is refused, so is the outcome
 --   frames-end               past the last frame: refusal 10, or n
 --   frames-value, -checked, -length    where it is done: it is n, and each frame is a whole file with n slots
---   frames-short, framesOutcome-any    where the first frame has no whole header, the outcome is refusal 1 for every n
+--   frames-small             n, and the length of each frame as a record, fits in 4 bytes
+--   frame-checked            a frame of checked frames is a checked map
+--   framesOutcome-any        where the first frame has no whole header, the outcome is the same for every n
 -- Axioms: none.
-use mathlib.Core.Path.{_≡_, refl, sym, ap, _∙_}
-use Prim.Native.Nat.{ℕ, zero, suc, _+_, _≤_, _<_}
+use mathlib.Core.Path.{_≡_, refl, sym, subst, ap, _∙_}
+use Prim.Native.Nat.{ℕ, zero, suc, _+_, _≤_, _<_, _^_}
 use native.Mathlib.Nat.{add-zero}
 use native.Mathlib.Numerals.{add-one}
 use native.Mathlib.Omega.{arith}
@@ -22,12 +24,15 @@ use Rattle.pciv_bytes.specs.Ranges.{firstBelow}
 use Rattle.pciv_bytes.proofs.RangesLaws.{firstBelow-none, firstBelow-at, firstBelow-le, firstBelow-clear}
 use Rattle.pciv_bytes.proofs.RangesLaws.{firstBelow-has, firstBelow-all}
 use Rattle.pciv_format.specs.Layout.{fileLen, countsOf}
-use Rattle.pciv_format.specs.Refusals.{Outcome, done, refused, refuse, refuseIf, andThen}
-use Rattle.pciv_format.specs.Check.{nField, kField, countsFile, checkHeader, checkWith, otherLength}
+use Rattle.pciv_format.specs.Refusals.{Outcome, done, refused, refuse, refuseIf, andThen, numberAnswer}
+use Rattle.pciv_format.specs.Check.{nField, kField, countsFile, checkHeader, checkWith, otherLength, CheckedMap}
 use Rattle.pciv_format.specs.declared.Counts.{Counts}
 use Rattle.pciv_format.specs.declared.Refusal.{Refusal}
+use Rattle.pciv_format.specs.declared.NumberAnswer.{NumberAnswer}
+use Rattle.pciv_format.specs.declared.NumberAnswer.the-variants as InNumber
 use Rattle.pciv_format.proofs.PartsLaws.{not-eqb}
-use Rattle.pciv_format.proofs.RefusalsLaws.{refuseIf-done, andThen-done}
+use Rattle.pciv_format.proofs.RefusalsLaws.{refuseIf-done, andThen-done, numberAnswer-number, numberAnswer-refused}
+use Rattle.pciv_format.proofs.LayoutLaws.{fileLen-is, indexLen-le, indexStep-le}
 use Rattle.pciv_format.proofs.CheckLaws.{Accepted, done-countsFile, accepted-length}
 use Rattle.pciv_bundle_frames.specs.Frames.{soundFrames, otherSlots, firstOther, framesOutcome}
 use Rattle.pciv_bundle_frames.specs.Frames.{nextOther, nextFrame, CheckedFrames}
@@ -95,17 +100,25 @@ module _ {n : ℕ} {fs : List (List ℕ)} {f other : ℕ} (e : Passed n fs f oth
     unfolding soundFrames
     step = e .rest ∙ rw (drop-cons fs f [], add-one (f + 1), add-one f)
 
-    pub passed-more : (least : ℕ) → nextFrame n f other (getD fs f []) ≡ done least → Passed n fs (f + 1) least
-    passed-more least q =
-        let h = andThen-done (countsFile (f + 1) (getD fs f [])) (λ s. done (nextOther n f other (s .n))) least q in
-        let next : nextOther n f other (h .0 .n) ≡ least = cc (h .2) in
-        record { inside = omega arith; rest = step ∙ rw (h .1); least = sym next ∙ next-least (h .0) (h .1) }
+    -- frame f, whose bytes are b, and what the code is told of it
+    module _ (b : List ℕ) (is : b ≡ getD fs f []) (answer : NumberAnswer)
+        (told : answer ≡ numberAnswer (nextFrame n f other b)) where
+      found : answer ≡ numberAnswer (nextFrame n f other (getD fs f []))
+      found = told ∙ ap (λ (x : List ℕ). numberAnswer (nextFrame n f other x)) is
 
-    pub frames-refused : (r : Refusal) → nextFrame n f other (getD fs f []) ≡ refused r
-        → framesOutcome n fs ≡ refused r
-    unfolding framesOutcome
-    frames-refused r q =
-        rw (step, andThen-refused (countsFile (f + 1) (getD fs f [])) (λ s. nextOther n f other (s .n)) r q)
+      pub passed-refused : (r : Refusal) → answer ≡ InNumber.Refused r
+          → InNumber.Refused r ≡ numberAnswer (framesOutcome n fs)
+      unfolding framesOutcome
+      passed-refused r q =
+          let refuses = numberAnswer-refused (nextFrame n f other (getD fs f [])) r (sym q ∙ found) in
+          rw (step, andThen-refused (countsFile (f + 1) (getD fs f [])) (λ s. nextOther n f other (s .n)) r refuses)
+
+      pub passed-more : (least : ℕ) → answer ≡ InNumber.Number least → Passed n fs (f + 1) least
+      passed-more least q =
+          let passes = numberAnswer-number (nextFrame n f other (getD fs f [])) least (sym q ∙ found) in
+          let h = andThen-done (countsFile (f + 1) (getD fs f [])) (λ s. done (nextOther n f other (s .n))) least passes in
+          let next : nextOther n f other (h .0 .n) ≡ least = cc (h .2) in
+          record { inside = omega arith; rest = step ∙ rw (h .1); least = sym next ∙ next-least (h .0) (h .1) }
 
   pub frames-end : (count : ℕ) → length fs ≡ count → count ≤ f
       → framesOutcome n fs ≡ refuseIf (ltb other count) (refuse 10 0 (other + 1)) (done n)
@@ -157,13 +170,27 @@ module _ (n : ℕ) (fs : List (List ℕ)) (m : ℕ) (e : framesOutcome n fs ≡ 
   pub frames-length : (f : ℕ) → f < length fs → length (getD fs f []) ≡ fileLen n (kField (getD fs f []))
   frames-length f h = let a = accepted f h in rw (slots f h) at (accepted-length _ _ _ (a .0) (a .1))
 
+  -- a file of the most slots is shorter than that
+  pub frames-small : (f : ℕ) → f < length fs → (n < 2 ^ 32) × (2 + length (getD fs f []) < 2 ^ 32)
+  frames-small f h =
+      let k : ℕ = kField (getD fs f []) in
+      let m = frames-checked f h .header in (
+        omega (arith, m .small),
+        omega (arith, m .small, m .few, frames-length f h, fileLen-is n k, indexLen-le k, indexStep-le k),
+      )
+
+-- frame f, whose bytes are b
+pub frame-checked : (fs : List (List ℕ)) (n : ℕ) → CheckedFrames fs n → (f : ℕ) → f < length fs
+    → (b : List ℕ) → b ≡ getD fs f [] → CheckedMap b n (kField b)
+frame-checked fs n checked f h b is = subst (λ (x : List ℕ). CheckedMap x n (kField x)) (sym is) (checked f h)
+
 -- ---- the first frame has no whole header
 
 check-short : (b : List ℕ) → length b < 40 → countsFile 1 b ≡ refuse 1 1 0
 unfolding checkWith checkHeader
 check-short b short = rw (lt-ltb (length b) 40 short)
 
-pub frames-short : (n : ℕ) (fs : List (List ℕ)) → 0 < length fs → length (getD fs 0 []) < 40
+frames-short : (n : ℕ) (fs : List (List ℕ)) → 0 < length fs → length (getD fs 0 []) < 40
     → framesOutcome n fs ≡ refuse 1 1 0
 unfolding framesOutcome soundFrames
 frames-short n [] some short = absurd (omega arith)

@@ -1,6 +1,5 @@
 -- Laws of the row of a slot, and of a loop that fills it.
---   row-absent             an absent frame has distance 0
---   row-frame              a checked frame has that of its slot
+--   absent-zero            an absent frame has distance 0
 --   Filled fs slot f row   the first f of the row's distances stand in it, and zeros behind them
 --   filled-none, -more     before the first frame, and past one
 --   filled-end             past the last frame it is the row
@@ -17,28 +16,21 @@ use Rattle.pciv_bytes.specs.LittleEndian.{get, number}
 use Rattle.pciv_bytes.specs.Ranges.{table}
 use Rattle.pciv_bytes.proofs.RangesLaws.{length-table, getD-table}
 use Rattle.pciv_format.specs.Layout.{at}
-use Rattle.pciv_format.specs.Parts.{valueOf}
-use Rattle.pciv_format.specs.Check.{nField, kField, fileParts}
+use Rattle.pciv_format.specs.Check.{nField}
 use Rattle.pciv_format.specs.Read.{listOf}
-use Rattle.pciv_format.proofs.ReadLaws.{length-listOf, at-list}
-use Rattle.pciv_bundle_frames.specs.Frames.{CheckedFrames, rowOf}
+use Rattle.pciv_format.proofs.ReadLaws.{length-listOf}
+use Rattle.pciv_bundle_frames.specs.Frames.{rowOf}
 
--- ---- the distances of a row
+-- ---- an absent frame
 
 no-slots : nField [] ≡ 0
 unfolding get number
 no-slots = refl
 
-module _ (fs : List (List ℕ)) (slot f : ℕ) where
-  pub row-absent : length fs ≤ f → at (listOf (getD fs f [])) slot ≡ 0
-  row-absent h =
-      rw (List·getD-eq-default fs [] h)
-      (List·getD-eq-default (listOf []) 0 (omega (arith, length-listOf [], no-slots)))
-
-  pub row-frame : (n : ℕ) → CheckedFrames fs n → f < length fs → slot < n
-      → (let b = getD fs f [] in at (listOf b) slot ≡ valueOf (fileParts b n (kField b)) slot)
-  row-frame n checked h inside =
-      at-list (getD fs f []) n (kField (getD fs f [])) (checked f h .header .nIs) refl slot inside
+pub absent-zero : (fs : List (List ℕ)) (slot f : ℕ) → length fs ≤ f → at (listOf (getD fs f [])) slot ≡ 0
+absent-zero fs slot f h =
+    rw (List·getD-eq-default fs [] h)
+    (List·getD-eq-default (listOf []) 0 (omega (arith, length-listOf [], no-slots)))
 
 -- ---- filling it
 
@@ -81,6 +73,6 @@ module _ {fs : List (List ℕ)} {slot f : ℕ} {row : List ℕ} (e : Filled fs s
       each : (g : ℕ) → g < 8 → at row g ≡ at (listOf (getD fs g [])) slot
       each g l =
           elim (decLe f g) [
-            | yes d ↦ e .behind g d l ∙ sym (row-absent fs slot g (omega arith))
+            | yes d ↦ e .behind g d l ∙ sym (absent-zero fs slot g (omega arith))
             | no d ↦ e .before g (omega arith)
           ]

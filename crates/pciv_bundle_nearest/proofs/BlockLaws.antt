@@ -6,7 +6,6 @@
 --   bytes-nearest    the pass over the bytes yields the nearest of them
 --   part-length, bytes-turn    the part of a frame that a block takes; the block lowered by it
 --   raised-block     a block that every frame has lowered, as distances
---   left-part        several elements of a table, written at once
 -- Axioms: none.
 use mathlib.Core.Path.{_≡_, refl, sym, subst, ap, ap₂, _∙_}
 use Prim.Native.Nat.{ℕ, suc, _+_, _-_, _%_, _≤_, _<_, min}
@@ -16,13 +15,12 @@ use native.Mathlib.Decide.{decLe}
 use mathlib.Core.Bool.{cond}
 use mathlib.Core.List.{List, [], _∷_, map, foldl}
 use lib.ListN.{length, getD, take, drop, length-drop}
-use lib.Seq.{sets, length-sets, length-take-le, getD-take, getD-drop}
+use lib.Seq.{length-take-le, getD-take, getD-drop}
 use lib.Dec.{eqb}
 use borrow.Author.Tests.{eq-eqb, ne-eqb}
 use Rattle.pciv_bytes.specs.LittleEndian.{Bytes}
 use Rattle.pciv_bytes.specs.Ranges.{table}
 use Rattle.pciv_bytes.proofs.RangesLaws.{table-shift}
-use Rattle.pciv_bytes.proofs.WriteLaws.{sets-table-part, Left}
 use Rattle.pciv_format.specs.Layout.{maxDistance, at}
 use Rattle.pciv_bundle_nearest.specs.Nearest.{nearer, nearestOf}
 use Rattle.pciv_bundle_nearest.specs.Passes.{lessOne, loweredByte, raisedByte, byteStep, nearestByte, Changed}
@@ -197,12 +195,3 @@ raised-block fs start len {old} {new} c full =
     table-shift (λ (i : ℕ). raisedByte (at new i)) (nearestByte fs) 0 start len
     (λ j h. rw (zero-add j)
     (ap raisedByte (c .each j h ∙ ap (λ (m : ℕ). foldl (byteStep (start + j)) m fs) (full j h))))
-
--- len more elements of a table, at once
-pub left-part : {g : ℕ → ℕ} {n : ℕ} {out₀ out : List ℕ} {i : ℕ} → Left g n out₀ out i → (len : ℕ) (out' : List ℕ)
-    → i + len ≤ n → out' ≡ sets out i (table g i len) → Left g n out₀ out' (i + len)
-left-part {g} {n} {out₀} {out} {i} left len out' inside is =
-    record {
-      same = ap length is ∙ length-sets out i (table g i len) ∙ left .same;
-      rest = left .rest ∙ rw is (rw (zero-add i, zero-add (i + len)) at (sets-table-part g 0 n i len out inside));
-    }

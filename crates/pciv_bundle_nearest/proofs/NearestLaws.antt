@@ -4,17 +4,16 @@
 --   nearest-hole     it is 0 exactly where all of them are 0
 --   nearest-least    else it is one of them, and none of them is smaller but 0
 --   hole-case, least-case    both at small lists, computed
---   length-nearestList, at-nearestList    that of every slot, as a list
+--   length-nearestList    that of every slot, as a list
 -- Axioms: none.
 use mathlib.Core.Path.{_≡_, refl, sym, ap, _∙_}
 use Prim.Native.Nat.{ℕ, zero, suc, _≤_, _<_, min}
-use native.Mathlib.Nat.{zero-add}
 use native.Mathlib.Omega.{arith}
 use native.Mathlib.Decide.{decLe}
 use mathlib.Core.List.{List, [], _∷_}
 use lib.ListN.{length}
 use borrow.Author.Tests.{eq-eqb, ne-eqb}
-use Rattle.pciv_bytes.proofs.RangesLaws.{length-table, getD-table}
+use Rattle.pciv_bytes.proofs.RangesLaws.{length-table}
 use Rattle.pciv_format.specs.Layout.{at}
 use Rattle.pciv_bundle_nearest.specs.Nearest.{nearer, nearestOf, nearestAt, nearestList}
 
@@ -130,7 +129,3 @@ least-case = (refl, refl)
 pub length-nearestList : (fs : List (List ℕ)) (n : ℕ) → length (nearestList fs n) ≡ n
 unfolding nearestList
 length-nearestList fs n = length-table (nearestAt fs) 0 n
-
-pub at-nearestList : (fs : List (List ℕ)) (n i : ℕ) → i < n → at (nearestList fs n) i ≡ nearestAt fs i
-unfolding nearestList
-at-nearestList fs n i h = getD-table (nearestAt fs) 0 0 n i h ∙ ap (nearestAt fs) (zero-add i)

@@ -1,19 +1,16 @@
 -- Laws of checked frames: the passes over their bytes and their entries make the nearest distance of every slot.
---   frame-checked    a frame is a checked map
---   frames-bytes     frames within bytes are bytes
 --   nearest-passes   both passes, over a whole list
 -- Axioms: none.
-use mathlib.Core.Path.{_≡_, refl, sym, subst, ap, _∙_}
+use mathlib.Core.Path.{_≡_, refl, sym, ap, _∙_}
 use Prim.Native.Nat.{ℕ, suc, _+_, _-_, _≤_, _<_, min}
 use native.Mathlib.Nat.{zero-add}
 use native.Mathlib.Omega.{arith}
 use native.Mathlib.Decide.{decLe}
 use mathlib.Core.List.{List, [], _∷_, foldl}
-use lib.ListN.{length, getD, drop}
+use lib.ListN.{length}
 use lib.Seq.{sets, ext-getD, length-sets}
 use Rattle.pciv_bytes.specs.LittleEndian.{Bytes}
 use Rattle.pciv_bytes.specs.Ranges.{table}
-use Rattle.pciv_bytes.proofs.LittleEndianLaws.{bytes-take, bytes-drop}
 use Rattle.pciv_bytes.proofs.RangesLaws.{length-table, getD-table}
 use Rattle.pciv_bytes.proofs.WriteLaws.{getD-sets, getD-sets-above}
 use Rattle.pciv_format.specs.Layout.{maxDistance, at}
@@ -23,8 +20,6 @@ use Rattle.pciv_format.specs.Read.{listOf}
 use Rattle.pciv_format.proofs.PartsLaws.{slot-cases}
 use Rattle.pciv_format.proofs.MapLaws.{value-lt}
 use Rattle.pciv_format.proofs.ReadLaws.{at-list}
-use Rattle.pciv_bundle_records.specs.Records.{frames, PlacedFrames}
-use Rattle.pciv_bundle_records.specs.declared.Places.{Places}
 use Rattle.pciv_bundle_frames.specs.Frames.{CheckedFrames}
 use Rattle.pciv_bundle_nearest.specs.Nearest.{nearer, nearestOf, distancesAt, nearestAt, nearestList}
 use Rattle.pciv_bundle_nearest.specs.Passes.{raisedByte, nearestByte, entryStep, Changed}
@@ -33,18 +28,6 @@ use Rattle.pciv_bundle_nearest.proofs.NearestLaws.{nearer-cases, nearer
 use Rattle.pciv_bundle_nearest.proofs.BlockLaws.{raisedByte-hole, capped, capped-full, capped-inline}
 use Rattle.pciv_bundle_nearest.proofs.BlockLaws.{AllBytes, caps, bytes-nearest}
 use Rattle.pciv_bundle_nearest.proofs.LoweredLaws.{loweredTo-inline, loweredTo-full}
-
--- ---- the frames
-
-pub frame-checked : (fs : List (List ℕ)) (n : ℕ) → CheckedFrames fs n → (f : ℕ) → f < length fs
-    → (b : List ℕ) → b ≡ getD fs f [] → CheckedMap b n (kField b)
-frame-checked fs n checked f h b is = subst (λ (x : List ℕ). CheckedMap x n (kField x)) (sym is) (checked f h)
-
-pub frames-bytes : (b : List ℕ) (p : Places) → Bytes b → PlacedFrames b p → AllBytes (frames b)
-frames-bytes b p bytes placed f h =
-    let start : ℕ = getD (p .starts) f 0 in
-    let size : ℕ = getD (p .ends) f 0 - start in
-    subst Bytes (placed f h .bytes) (bytes-take size (drop start b) (bytes-drop start b bytes))
 
 -- ---- one slot
 

@@ -1,39 +1,41 @@
 -- Laws of the bytes of records one after another: what is read of them is what the records are.
 --   noRecord                   what `getD` answers past the last record
 --   FitsRecord r, AllFit rs    a record whose length and kind fit their fields; each of them does
---   allFit-cons, -rest, -append    with a record in front; without the first; of two lists of records
---   length-recordBytes, recordsBytes-append    a record's length with its prefix; the bytes of two lists of records
+--   allFit-cons, -rest         with a record in front; without the first
+--   length-recordBytes         a record has 6 bytes before its payload
+--   recordsBytes-append, -one  the bytes of two lists of records, and of one record
 --   records-rest               what stands from record i on
 --   framesIn rs, frameIf       the payloads of the records of kind 1; one of them in front, or not
---   framesIn-append, -of       of two lists of records; of frames, each a record of kind 1
+--   framesIn-append, -other, -of    of two lists of records; behind one that is no frame; of frames, each a record of kind 1
 --   records-at, records-count  where record i starts; how many there are
 --   records-len, records-kind, records-payload    what is read of record i
 --   records-frames, records-before    the frames; how many of them stand before record i
 --   headerOf n c, headerOf-fits    record 0 with n slots and c frames; its fields fit
 --   records-slotCount, records-frameCount    what it says
---   records-sound              a header, and behind it as many frames as it says and no other header: no refusal
+--   SoundRest c rest           the records behind the header of a bundle of c frames
+--   rest-fit, rest-frames, rest-outcome    of a header and such records: they fit, their frames, and no refusal
 --   bundleOf-slotCount, -frames, -sound    of the bundle of frames: its slot count, its frames; no refusal
 -- Axioms: none.
 use mathlib.Core.Path.{_≡_, refl, sym, ap, ap₂, subst, _∙_}
-use Prim.Native.Nat.{ℕ, zero, suc, _+_, _*_, _-_, _≤_, _<_}
+use Prim.Native.Nat.{ℕ, zero, suc, _+_, _-_, _≤_, _<_}
 use native.Mathlib.Omega.{arith}
-use native.Mathlib.Decide.{decLe}
-use mathlib.Core.Bool.{Bool, true, false, cond, _&&_}
-use mathlib.Core.List.{List, [], _∷_, _++_, map, append-assoc}
-use lib.ListN.{length, getD, take, drop, length-append, take-append-drop, length-map, List·getD-map}
+use mathlib.Core.Bool.{Bool, true, false, cond}
+use mathlib.Core.List.{List, [], _∷_, _++_, map, append-assoc, append-nil}
+use lib.ListN.{length, getD, take, drop, length-append, take-append-drop, length-map}
 use lib.Seq.{take-at, drop-at, drop-drop, drop-cons, take-suc, take-length}
-use lib.Dec.{leb, eqb, eqb·suc-zero, lit<}
-use borrow.Author.Tests.{le-ltb, le-leb, lt-leb, ne-eqb}
-use Rattle.pciv_bytes.specs.Ranges.{keepIf, positions}
+use lib.Dec.{eqb, eqb·suc-zero, lit<}
+use borrow.Author.Tests.{ne-eqb}
 use Rattle.pciv_bytes.specs.LittleEndian.{le, get}
-use Rattle.pciv_bytes.proofs.RangesLaws.{getD-inside, firstBelow-at, firstBelow-none}
+use Rattle.pciv_bytes.proofs.RangesLaws.{getD-map}
 use Rattle.pciv_bytes.proofs.LittleEndianLaws.{length-le, get-at}
 use Rattle.pciv_format.specs.Refusals.{done}
-use Rattle.pciv_format.proofs.RefusalsLaws.{refuseFirst-none}
 use Rattle.pciv_bundle_records.specs.Records.{recordAt, recordLen, recordKind, recordPayload, recordCount}
 use Rattle.pciv_bundle_records.specs.Records.{slotCount, frameCount, isFrame, framesBefore, frames, badHeader}
 use Rattle.pciv_bundle_records.specs.Records.{badRecord, recordsOutcome, Record, recordOf, recordBytes}
 use Rattle.pciv_bundle_records.specs.Records.{recordsBytes, bundleRecords, bundleOf}
+use Rattle.pciv_bundle_records.proofs.RecordsLaws.{recordCount-end, framesTo, length-framesTo, frames-all}
+use Rattle.pciv_bundle_records.proofs.RecordsLaws.{framesTo-zero, framesTo-frame, framesTo-other}
+use Rattle.pciv_bundle_records.proofs.RecordsLaws.{Header, right-header, right-badRecord, records-done}
 
 abbrev pub noRecord : Record
 noRecord = recordOf 0 []
@@ -53,17 +55,11 @@ module _ (r : Record) (rs : List Record) where
   pub allFit-rest : AllFit (r ∷ rs) → AllFit rs
   allFit-rest fit i h = fit (suc i) (omega arith)
 
-pub allFit-append : (rs ss : List Record) → AllFit rs → AllFit ss → AllFit (rs ++ ss)
-allFit-append [] ss fit₁ fit₂ = fit₂
-allFit-append (r ∷ rs) ss fit₁ fit₂ =
-    allFit-cons r (rs ++ ss) (fit₁ 0 (omega arith)) (allFit-append rs ss (allFit-rest r rs fit₁) fit₂)
-
 -- ---- the bytes
 
 pub length-recordBytes : (r : Record) → length (recordBytes r) ≡ 6 + length (r .payload)
 unfolding recordBytes
-length-recordBytes r =
-    simp (length-append, length-le) (omega arith)
+length-recordBytes r = simp (length-append, length-le) (omega arith)
 
 pub recordsBytes-append : (rs ss : List Record) → recordsBytes (rs ++ ss) ≡ recordsBytes rs ++ recordsBytes ss
 unfolding recordsBytes
@@ -75,6 +71,10 @@ recordsBytes-append (r ∷ rs) ss =
 recordsBytes-cons : (r : Record) (rs : List Record) → recordsBytes (r ∷ rs) ≡ recordBytes r ++ recordsBytes rs
 unfolding recordsBytes
 recordsBytes-cons r rs = refl
+
+pub recordsBytes-one : (r : Record) → recordsBytes (r ∷ []) ≡ recordBytes r
+unfolding recordsBytes
+recordsBytes-one r = append-nil (recordBytes r)
 
 recordsBytes-nil : recordsBytes [] ≡ []
 unfolding recordsBytes
@@ -98,13 +98,8 @@ place-suc rs i h =
     ap (λ (l : List Record). length (recordsBytes l)) (take-suc rs i noRecord h)
     ∙ ap length (recordsBytes-append (take i rs) (getD rs i noRecord ∷ []))
     ∙ length-append (recordsBytes (take i rs)) (recordsBytes (getD rs i noRecord ∷ []))
-    ∙ ap (λ (l : ℕ). place rs i + l) one
-  where
-    one : length (recordsBytes (getD rs i noRecord ∷ [])) ≡ 6 + length (getD rs i noRecord .payload)
-    one =
-        ap length (recordsBytes-cons (getD rs i noRecord) [])
-        ∙ length-append (recordBytes (getD rs i noRecord)) (recordsBytes [])
-        ∙ omega (arith, length-recordBytes (getD rs i noRecord), ap length recordsBytes-nil)
+    ∙ ap (λ (l : ℕ). place rs i + l)
+    (ap length (recordsBytes-one (getD rs i noRecord)) ∙ length-recordBytes (getD rs i noRecord))
 
 place-le : (rs : List Record) (i : ℕ) → place rs i ≤ length (recordsBytes rs)
 place-le rs i =
@@ -140,18 +135,6 @@ payload-on rs i h =
     behind (recordsBytes rs) (le 2 (getD rs i noRecord .kind)) _ (place rs i + 4) 2 (place rs i + 6)
     (kind-on rs i h) (length-le 2 _) (omega arith)
 
--- each record has 6 bytes at least
-bytes-many : (rs : List Record) → 6 * length rs ≤ length (recordsBytes rs)
-bytes-many [] = omega arith
-bytes-many (r ∷ rs) =
-    omega (
-      arith,
-      bytes-many rs,
-      length-recordBytes r,
-      ap length (recordsBytes-cons r rs),
-      length-append (recordBytes r) (recordsBytes rs),
-    )
-
 -- ---- the frames among records
 
 abbrev pub frameIf : Bool → List ℕ → List (List ℕ) → List (List ℕ)
@@ -171,6 +154,14 @@ framesIn-append (r ∷ rs) ss = rw (framesIn-append rs ss) (go (eqb (r .kind) 1)
         ≡ frameIf t (r .payload) (framesIn rs) ++ framesIn ss
     go true = refl
     go false = refl
+
+framesIn-frame : (r : Record) (rs : List Record) → eqb (r .kind) 1 ≡ true → framesIn (r ∷ rs) ≡ r .payload ∷ framesIn rs
+unfolding framesIn
+framesIn-frame r rs e = rw e
+
+pub framesIn-other : (r : Record) (rs : List Record) → eqb (r .kind) 1 ≡ false → framesIn (r ∷ rs) ≡ framesIn rs
+unfolding framesIn
+framesIn-other r rs e = rw e
 
 pub framesIn-of : (fs : List (List ℕ)) → framesIn (map (recordOf 1) fs) ≡ fs
 unfolding framesIn
@@ -224,57 +215,49 @@ module _ (rs : List Record) (fit : AllFit rs) where
       sized : (l : ℕ) → 2 + l - 2 ≡ l
       sized l = omega arith
 
-  start-lt : (i : ℕ) → i < length rs → recordAt (recordsBytes rs) i < length (recordsBytes rs)
-  start-lt i h = omega (arith, records-at i (omega arith), place-suc rs i h, place-le rs (suc i))
-
   end-le : (i : ℕ) → i < length rs → recordAt (recordsBytes rs) (suc i) ≤ length (recordsBytes rs)
   end-le i h = omega (arith, records-at (suc i) (omega arith), place-le rs (suc i))
 
-  pub records-count : recordCount (recordsBytes rs) ≡ length rs
-  unfolding recordCount
-  records-count =
-      let b : List ℕ = recordsBytes rs in
-      let many = bytes-many rs in
-      let all : recordAt b (length rs) ≡ length b =
-      records-at (length rs) (omega arith)
-      ∙ ap (λ (l : List Record). length (recordsBytes l)) (take-length rs) in
-      elim (decLe (length b) (length rs)) [
-        | yes d ↦ firstBelow-none (λ (r : ℕ). leb (length b) (recordAt b r)) (length b) (λ j h. absurd (omega arith))
-            ∙ omega arith
-        | no d ↦ firstBelow-at (λ (r : ℕ). leb (length b) (recordAt b r)) (length b) (length rs) (omega arith)
-            (λ j h. lt-leb (length b) (recordAt b j) (start-lt j h))
-            (le-leb (length b) (recordAt b (length rs)) (omega arith))
-      ]
+  records-end : recordAt (recordsBytes rs) (length rs) ≡ length (recordsBytes rs)
+  records-end =
+      records-at (length rs) (omega arith) ∙ ap (λ (l : List Record). length (recordsBytes l)) (take-length rs)
 
-  frames-from : (c i : ℕ) → i + c ≤ length rs
-      → map (recordPayload (recordsBytes rs)) (positions (isFrame (recordsBytes rs)) i c)
-      ≡ framesIn (take c (drop i rs))
-  unfolding positions framesIn
-  frames-from zero i h = refl
-  frames-from (suc c) i h =
+  pub records-count : recordCount (recordsBytes rs) ≡ length rs
+  records-count = recordCount-end (recordsBytes rs) (length rs) records-end
+
+  -- those below record i
+  frames-below : (i : ℕ) → i ≤ length rs → framesTo (recordsBytes rs) i ≡ framesIn (take i rs)
+  unfolding framesIn
+  frames-below zero h = framesTo-zero (recordsBytes rs)
+  frames-below (suc i) h =
       let inside : i < length rs = omega arith in
-      rw (drop-cons rs i noRecord inside, records-kind i inside)
-      (go (eqb (getD rs i noRecord .kind) 1) inside (frames-from c (suc i) (omega arith)))
+      go (isFrame (recordsBytes rs) i) refl inside (frames-below i (omega arith))
+      ∙ sym (ap framesIn (take-suc rs i noRecord inside) ∙ framesIn-append (take i rs) (getD rs i noRecord ∷ []))
     where
-      go : (t : Bool) → i < length rs
-          → map (recordPayload (recordsBytes rs)) (positions (isFrame (recordsBytes rs)) (suc i) c)
-          ≡ framesIn (take c (drop (suc i) rs))
-          → map (recordPayload (recordsBytes rs)) (keepIf t i (positions (isFrame (recordsBytes rs)) (suc i) c))
-          ≡ frameIf t (getD rs i noRecord .payload) (framesIn (take c (drop (suc i) rs)))
-      go true inside ih = ap₂ (λ (f : List ℕ) (fs : List (List ℕ)). f ∷ fs) (records-payload i inside) ih
-      go false inside ih = ih
+      go : (t : Bool) → isFrame (recordsBytes rs) i ≡ t → i < length rs
+          → framesTo (recordsBytes rs) i ≡ framesIn (take i rs)
+          → framesTo (recordsBytes rs) (suc i) ≡ framesIn (take i rs) ++ framesIn (getD rs i noRecord ∷ [])
+      go true e inside ih =
+          framesTo-frame (recordsBytes rs) i e
+          ∙ ap₂ (λ (fs : List (List ℕ)) (f : List ℕ). fs ++ f ∷ []) ih (records-payload i inside)
+          ∙ ap (λ (fs : List (List ℕ)). framesIn (take i rs) ++ fs)
+          (sym (framesIn-frame (getD rs i noRecord) [] (rw (records-kind i inside) at e)))
+      go false e inside ih =
+          framesTo-other (recordsBytes rs) i e ∙ ih
+          ∙ sym
+          (ap (λ (fs : List (List ℕ)). framesIn (take i rs) ++ fs)
+          (framesIn-other (getD rs i noRecord) [] (rw (records-kind i inside) at e))
+          ∙ append-nil (framesIn (take i rs)))
 
   pub records-frames : frames (recordsBytes rs) ≡ framesIn rs
-  unfolding frames
   records-frames =
-      rw records-count (frames-from (length rs) 0 (omega arith) ∙ ap framesIn (take-length rs))
+      frames-all (recordsBytes rs) (length rs) records-count
+      ∙ frames-below (length rs) (omega arith)
+      ∙ ap framesIn (take-length rs)
 
   pub records-before : (i : ℕ) → i ≤ length rs
       → framesBefore (recordsBytes rs) i ≡ length (framesIn (take i rs))
-  unfolding framesBefore
-  records-before i h =
-      sym (length-map (positions (isFrame (recordsBytes rs)) 0 i) (recordPayload (recordsBytes rs)))
-      ∙ ap length (frames-from i 0 (omega arith))
+  records-before i h = sym (length-framesTo (recordsBytes rs) i) ∙ ap length (frames-below i h)
 
 -- ---- record 0
 
@@ -294,91 +277,82 @@ pub headerOf-fits : (n c : ℕ) → FitsRecord (headerOf n c)
 unfolding le
 headerOf-fits n c = (lit< tt, lit< tt)
 
--- record 0 is what a first record has to be
-badHeader-none : (n c : ℕ) (rest : List Record) → AllFit rest → 1 ≤ c → c ≤ 8
-    → badHeader (recordsBytes (headerOf n c ∷ rest)) ≡ false
-unfolding badHeader le
-badHeader-none n c rest fit low high =
-    let rs : List Record = headerOf n c ∷ rest in
-    let all : AllFit (headerOf n c ∷ rest) = allFit-cons (headerOf n c) rest (headerOf-fits n c) fit in
-    rw (
-      records-kind rs all 0 (omega arith),
-      records-len rs all 0 (omega arith),
-      records-frameCount n c rest (omega arith),
-      le-ltb c 1 low,
-      le-ltb 8 c high,
-    )
+-- ---- of a header and records behind it
 
--- a header, and behind it as many frames as it says and no other header
-module _ (n c : ℕ) (rest : List Record) (fit : AllFit rest)
-    (later : (i : ℕ) → i < length rest → getD rest i noRecord .kind ≡ 0 → ⊥)
-    (many : length (framesIn rest) ≡ c) (low : 1 ≤ c) (high : c ≤ 8) where
+-- the records behind the header of a bundle of c frames: as many of kind 1, and none of kind 0
+pub record SoundRest (c : ℕ) (rest : List Record) : Type 0 where
+  pub fit : AllFit rest
+  pub later : (i : ℕ) → i < length rest → getD rest i noRecord .kind ≡ 0 → ⊥
+  pub many : length (framesIn rest) ≡ c
+  pub some : 1 ≤ c
+  pub few : c ≤ 8
+
+module _ (n c : ℕ) (rest : List Record) (sound : SoundRest c rest) where
   abbrev rs : List Record
   rs = headerOf n c ∷ rest
 
   abbrev b : List ℕ
   b = recordsBytes rs
 
-  all : AllFit rs
-  all = allFit-cons (headerOf n c) rest (headerOf-fits n c) fit
+  pub rest-fit : AllFit (headerOf n c ∷ rest)
+  rest-fit = allFit-cons (headerOf n c) rest (headerOf-fits n c) (sound .fit)
 
   framesIn-all : length (framesIn rs) ≡ c
   unfolding framesIn
-  framesIn-all = many
+  framesIn-all = sound .many
 
-  header-none : (i : ℕ) → i < length rs → cond (eqb i 0) (badHeader b) (eqb (recordKind b i) 0) ≡ false
-  header-none zero h = badHeader-none n c rest fit low high
-  header-none (suc i) h =
-      rw (eqb·suc-zero i, records-kind rs all (suc i) h) (ne-eqb _ 0 (later i (omega arith)))
+  pub rest-frames : frames (recordsBytes (headerOf n c ∷ rest)) ≡ framesIn rest
+  unfolding framesIn
+  rest-frames = records-frames rs rest-fit
 
-  -- no frame is one too many
-  extra-none : (i : ℕ) → i < length rs → isFrame b i && leb (frameCount b) (framesBefore b i) ≡ false
-  extra-none i h =
-      rw (
-        records-kind rs all i h,
-        records-frameCount n c rest (omega arith),
-        records-before rs all i (omega arith),
-      )
-      (go (eqb (getD rs i noRecord .kind) 1) refl)
-    where
-      go : (t : Bool) → eqb (getD rs i noRecord .kind) 1 ≡ t → t && leb c (length (framesIn (take i rs))) ≡ false
-      go true e = lt-leb c _ (omega (arith, framesIn-more rs i h e, framesIn-all))
-      go false e = refl
+  count : frameCount b ≡ c
+  count = records-frameCount n c rest (omega (arith, sound .few))
 
-  bad-none : (i : ℕ) → i < length rs → badRecord b i ≡ false
-  unfolding badRecord
-  bad-none i h =
-      rw (
-        le-ltb _ _ (end-le rs all i h),
-        records-len rs all i h,
-        le-ltb (2 + length (getD rs i noRecord .payload)) 2 (omega arith),
-        header-none i h,
-        extra-none i h,
-      )
+  header : Header b
+  unfolding recordKind recordLen recordAt le
+  header =
+      record {
+        kind = records-kind rs rest-fit 0 (omega arith);
+        len = records-len rs rest-fit 0 (omega arith);
+        some = omega (arith, count, sound .some);
+        few = omega (arith, count, sound .few);
+      }
 
-  pub records-sound : n < 4294967296
+  -- each record has the kind that it has to have, and no frame is one too many
+  kind-right : (i : ℕ) → i < length rs → cond (eqb i 0) (badHeader b) (eqb (recordKind b i) 0) ≡ false
+  kind-right zero h = right-header b header
+  kind-right (suc i) h =
+      rw (eqb·suc-zero i, records-kind rs rest-fit (suc i) h) (ne-eqb _ 0 (sound .later i (omega arith)))
+
+  clear : (i : ℕ) → i < length rs → badRecord b i ≡ false
+  clear i h =
+      right-badRecord b i
+      (record {
+        inside = end-le rs rest-fit i h;
+        long = omega (arith, records-len rs rest-fit i h);
+        kind = kind-right i h;
+        room = λ e.
+            omega (
+              arith,
+              framesIn-more rs i h (rw (records-kind rs rest-fit i h) at e),
+              framesIn-all,
+              records-before rs rest-fit i (omega arith),
+              count,
+            );
+      })
+
+  pub rest-outcome : n < 4294967296
       → recordsOutcome (recordsBytes (headerOf n c ∷ rest)) ≡ done (record { slots = n; frames = c })
-  unfolding recordsOutcome
-  records-sound few =
-      rw (
-        records-count rs all,
-        records-before rs all (length rs) (omega arith),
-        take-length rs,
-        framesIn-all,
-        records-slotCount n c rest few,
-        records-frameCount n c rest (omega arith),
-        le-ltb c c (omega arith),
-        eqb·suc-zero (length rest),
-      )
-      (refuseFirst-none 14 0 (badRecord b) (length rs) _ bad-none)
+  rest-outcome few =
+      let found = records-before rs rest-fit (length rs) (omega arith) ∙ ap (λ (l : List Record). length (framesIn l)) (take-length rs) in
+      records-done b (length rs) clear (records-end rs rest-fit) (omega arith) (omega (arith, found, framesIn-all, count))
+      ∙ ap₂ (λ (slots frames : ℕ). done (record { slots = slots; frames = frames })) (records-slotCount n c rest few) count
 
 -- ---- the bundle of frames
 
 frame-record : (fs : List (List ℕ)) (i : ℕ) → i < length fs
     → getD (map (recordOf 1) fs) i noRecord ≡ recordOf 1 (getD fs i [])
-frame-record fs i h =
-    getD-inside (map (recordOf 1) fs) i noRecord (recordOf 1 []) (omega (arith, length-map fs (recordOf 1)))
-    ∙ List·getD-map (recordOf 1) fs i []
+frame-record fs i h = getD-map (recordOf 1) fs i [] noRecord h
 
 pub bundleOf-slotCount : (n : ℕ) (fs : List (List ℕ)) → n < 4294967296 → slotCount (bundleOf n fs) ≡ n
 unfolding bundleOf bundleRecords
@@ -406,5 +380,6 @@ module _ (n : ℕ) (fs : List (List ℕ))
   pub bundleOf-sound : 1 ≤ length fs → length fs ≤ 8 → n < 4294967296
       → recordsOutcome (bundleOf n fs) ≡ done (record { slots = n; frames = length fs })
   unfolding bundleOf bundleRecords
-  bundleOf-sound =
-      records-sound n (length fs) (map (recordOf 1) fs) frames-fit no-header (ap length (framesIn-of fs))
+  bundleOf-sound some few =
+      rest-outcome n (length fs) (map (recordOf 1) fs)
+      (record { fit = frames-fit; later = no-header; many = ap length (framesIn-of fs); some = some; few = few })

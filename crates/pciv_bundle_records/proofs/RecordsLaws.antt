@@ -1,15 +1,17 @@
 -- Laws of the records of a bundle: where they start, how many there are, what a right one says, and each outcome.
 --   recordAt-first, -next, -rise, -low    where records start
---   recordCount-end, -past    how many there are, where the next would start at the end; more than a record before the end
+--   recordCount-end, -reaches, -past    how many there are, where the next would start at the end; it starts there or past
+--                             it; more than a record before the end
 --   framesTo b r              the frames among the records below r
---   length-framesTo, frames-all    how many they are; all of them
+--   length-framesTo, frames-all, frames-bytes    how many they are; all of them; they are bytes
 --   framesTo-zero, -frame, -other    none, and those below the next record, where record r is a frame or is not
 --   framesBefore-frame, -other    the same of their number
---   Header b, header-right    what a record 0 that is not at fault says
+--   Header b, header-right, right-header    what a record 0 that is not at fault says, and only such a one
 --   bad-kind, bad-len, bad-none, header-count    each test of record 0
 --   header-end, header-frames    where it ends; no frame stands below record 1
 --   Later b at found count, wrong-right    what a later record that is not at fault says
 --   wrong-prefix, -cut, -short, -kind, -other, -frame    each test of a later record
+--   Right b r, badRecord-right, right-badRecord    the same of any record
 --   badRecord-first, first-right, badRecord-later    whether record 0 is at fault, and whether a later one is
 --   records-header, -refused, -missing, -done    the outcomes
 --   frames-few                no more frames than record 0 says
@@ -17,20 +19,21 @@
 --   bundleAnswer-counted, -refused    the outcome of an answer
 -- Axioms: none.
 use mathlib.Core.Path.{_≡_, refl, sym, ap, _∙_}
-use Prim.Native.Nat.{ℕ, zero, suc, _+_, _*_, _≤_, _<_}
+use Prim.Native.Nat.{ℕ, zero, suc, _+_, _*_, _-_, _≤_, _<_}
 use native.Mathlib.Nat.{zero-add}
 use native.Mathlib.Omega.{arith}
 use native.Mathlib.Decide.{decLe}
 use native.Mathlib.Numerals.{add-one}
 use mathlib.Core.Bool.{Bool, true, false, not, cond, _||_, _&&_}
 use mathlib.Core.List.{List, [], _∷_, _++_, map, map-append, append-nil}
-use lib.ListN.{length, length-append, length-map}
+use lib.ListN.{length, getD, drop, length-append, length-map}
 use lib.Dec.{ltb, leb, eqb}
 use borrow.Author.Tests.{lt-ltb, le-ltb, le-leb, lt-leb, eq-eqb, ne-eqb}
 use borrow.Author.Tests.{ltb-false, leb-false, leb-true, eqb-true, eqb-false, not-false}
-use Rattle.pciv_bytes.specs.Ranges.{positions, keepIf}
-use Rattle.pciv_bytes.specs.LittleEndian.{get}
-use Rattle.pciv_bytes.proofs.RangesLaws.{true-false, firstBelow-at, firstBelow-none, firstBelow-has}
+use Rattle.pciv_bytes.specs.Ranges.{firstBelow, positions, keepIf}
+use Rattle.pciv_bytes.specs.LittleEndian.{get, Bytes}
+use Rattle.pciv_bytes.proofs.RangesLaws.{true-false, getD-map, firstBelow-at, firstBelow-none, firstBelow-has}
+use Rattle.pciv_bytes.proofs.LittleEndianLaws.{bytes-drop, bytes-take}
 use Rattle.pciv_bytes.proofs.PositionsLaws.{positions-append, rises}
 use Rattle.pciv_format.specs.Refusals.{Outcome, done, refused, refuse, refuseIf}
 use Rattle.pciv_format.specs.declared.Refusal.{Refusal}
@@ -87,16 +90,22 @@ module _ (b : List ℕ) where
             (le-leb (length b) (recordAt b r) (omega arith))
       ]
 
-  count-stops : recordCount b < length b → length b ≤ recordAt b (recordCount b)
+  -- the next would start at the end, or past it
+  pub recordCount-reaches : length b ≤ recordAt b (recordCount b)
   unfolding recordCount
-  count-stops h = leb-true _ _ (firstBelow-has (λ (r : ℕ). leb (length b) (recordAt b r)) (length b) h)
+  recordCount-reaches =
+      let p : ℕ → Bool = λ r. leb (length b) (recordAt b r) in
+      let k : ℕ = firstBelow p (length b) in
+      elim (decLe (length b) k) [
+        | yes d ↦ omega (arith, recordAt-low k)
+        | no d ↦ leb-true (length b) (recordAt b k) (firstBelow-has p (length b) (omega arith))
+      ]
 
   -- more than a record that starts before the end
   pub recordCount-past : (r : ℕ) → recordAt b r < length b → r < recordCount b
   recordCount-past r inside =
       elim (decLe (recordCount b) r) [
-        | yes d ↦ absurd
-            (omega (arith, recordAt-le (recordCount b) r d, count-stops (omega (arith, recordAt-low r))))
+        | yes d ↦ absurd (omega (arith, recordAt-le (recordCount b) r d, recordCount-reaches))
         | no d ↦ omega arith
       ]
 
@@ -113,6 +122,15 @@ module _ (b : List ℕ) where
   pub frames-all : (r : ℕ) → recordCount b ≡ r → frames b ≡ framesTo r
   unfolding frames framesTo
   frames-all r e = ap (λ (k : ℕ). map (recordPayload b) (positions (isFrame b) 0 k)) e
+
+  -- each is a part of b
+  pub frames-bytes : Bytes b → (f : ℕ) → f < length (frames b) → Bytes (getD (frames b) f [])
+  unfolding frames recordPayload
+  frames-bytes bytes f h =
+      let ps : List ℕ = positions (isFrame b) 0 (recordCount b) in
+      let r : ℕ = getD ps f 0 in
+      rw (getD-map (recordPayload b) ps f 0 [] (omega (arith, length-map ps (recordPayload b))))
+      (bytes-take (recordLen b r - 2) (drop (recordAt b r + 6) b) (bytes-drop (recordAt b r + 6) b bytes))
 
   pub framesTo-zero : framesTo 0 ≡ []
   unfolding framesTo positions
@@ -188,6 +206,9 @@ module _ (b : List ℕ) where
         some = ltb-false _ _ (some .1);
         few = ltb-false _ _ (few .1);
       }
+
+  pub right-header : Header b → badHeader b ≡ false
+  right-header h = header-count (h .kind) (h .len) (h .some) ∙ le-ltb 8 (frameCount b) (h .few)
 
   -- where it ends, and what stands below record 1
   pub header-end : Header b → recordAt b 1 ≡ 12
@@ -267,6 +288,42 @@ module _ (b : List ℕ) (at found count : ℕ) where
         room = λ q. leb-false count found (rw (eq-eqb (get 2 b (at + 4)) 1 q) at (room .1));
       }
 
+-- ---- any record
+
+-- what one that is not at fault says
+pub record Right (b : List ℕ) (r : ℕ) : Type 0 where
+  pub inside : recordAt b (suc r) ≤ length b
+  pub long : 2 ≤ recordLen b r
+  pub kind : cond (eqb r 0) (badHeader b) (eqb (recordKind b r) 0) ≡ false
+  pub room : isFrame b r ≡ true → framesBefore b r < frameCount b
+
+module _ (b : List ℕ) (r : ℕ) where
+  pub badRecord-right : badRecord b r ≡ false → Right b r
+  unfolding badRecord
+  badRecord-right e =
+      let cut : Bool = ltb (length b) (recordAt b (suc r)) in
+      let short : Bool = ltb (recordLen b r) 2 in
+      let first : Bool = cond (eqb r 0) (badHeader b) (eqb (recordKind b r) 0) in
+      let room = or-false (cut || short || first) (isFrame b r && leb (frameCount b) (framesBefore b r)) e in
+      let kind = or-false (cut || short) first (room .0) in
+      let front = or-false cut short (kind .0) in
+      record {
+        inside = ltb-false _ _ (front .0);
+        long = ltb-false _ _ (front .1);
+        kind = kind .1;
+        room = λ q. leb-false (frameCount b) (framesBefore b r) (rw q at (room .1));
+      }
+
+  pub right-badRecord : Right b r → badRecord b r ≡ false
+  unfolding badRecord
+  right-badRecord s =
+      rw (le-ltb (length b) (recordAt b (suc r)) (s .inside), le-ltb (recordLen b r) 2 (s .long), s .kind)
+      (go (isFrame b r) refl)
+    where
+      go : (t : Bool) → isFrame b r ≡ t → t && leb (frameCount b) (framesBefore b r) ≡ false
+      go true q = lt-leb (frameCount b) (framesBefore b r) (s .room q)
+      go false q = refl
+
 -- ---- the outcomes
 
 module _ (b : List ℕ) where
@@ -285,22 +342,19 @@ module _ (b : List ℕ) where
 
   -- record 0 is not at fault
   pub badRecord-first : badHeader b ≡ false → 12 ≤ length b → badRecord b 0 ≡ false
-  unfolding badRecord recordLen recordAt
+  unfolding recordLen recordAt
   badRecord-first e long =
       let h = header-right b e in
-      rw (
-        le-ltb (length b) (recordAt b 1) (omega (arith, header-end b h)),
-        le-ltb (get 4 b 0) 2 (omega (arith, h .len)),
-        e,
-        no-frame b h,
-      )
+      right-badRecord b 0
+      (record {
+        inside = omega (arith, header-end b h);
+        long = omega (arith, h .len);
+        kind = e;
+        room = λ q. absurd (true-false (sym q ∙ no-frame b h));
+      })
 
   pub first-right : badRecord b 0 ≡ false → Header b
-  first-right e = go (badHeader b) refl
-    where
-      go : (t : Bool) → badHeader b ≡ t → Header b
-      go true q = absurd (true-false (sym (bad-first q) ∙ e))
-      go false q = header-right b q
+  first-right e = header-right b (badRecord-right b 0 e .kind)
 
   module _ (r : ℕ) (clear : (j : ℕ) → j < r → badRecord b j ≡ false) where
     -- record r is at fault, the least one
@@ -349,30 +403,21 @@ module _ (b : List ℕ) where
 
   -- ---- what a done outcome says
 
-  room : (r : ℕ) → badRecord b r ≡ false → isFrame b r ≡ true → framesBefore b r < frameCount b
-  unfolding badRecord
-  room r e q =
-      leb-false (frameCount b) (framesBefore b r)
-      (rw q at
-      (or-false
-      (ltb (length b) (recordAt b (suc r)) || ltb (recordLen b r) 2
-      || cond (eqb r 0) (badHeader b) (eqb (recordKind b r) 0))
-      (isFrame b r && leb (frameCount b) (framesBefore b r)) e .1))
-
   -- no frame is one too many
   pub frames-few : (r : ℕ) → ((j : ℕ) → j < r → badRecord b j ≡ false) → framesBefore b r ≤ frameCount b
   frames-few zero clear = omega (arith, length-framesTo b 0, ap length (framesTo-zero b))
   frames-few (suc r) clear = go (frames-few r (λ j h. clear j (omega arith))) (isFrame b r) refl
     where
       go : framesBefore b r ≤ frameCount b → (t : Bool) → isFrame b r ≡ t → framesBefore b (suc r) ≤ frameCount b
-      go few true q = omega (arith, framesBefore-frame b r q, room r (clear r (omega arith)) q)
+      go few true q = omega (arith, framesBefore-frame b r q, badRecord-right b r (clear r (omega arith)) .room q)
       go few false q = omega (arith, framesBefore-other b r q)
 
--- as many frames as record 0 says, from 1 to 8
+-- no record is at fault, and there are as many frames as record 0 says
 pub record Accepted (b : List ℕ) : Type 0 where
+  pub clear : (r : ℕ) → r < recordCount b → badRecord b r ≡ false
+  pub records : 0 < recordCount b
+  pub header : Header b
   pub counted : length (frames b) ≡ frameCount b
-  pub some : 1 ≤ frameCount b
-  pub few : frameCount b ≤ 8
 
 module _ (b : List ℕ) (c : BundleCounts) (accepted : recordsOutcome b ≡ done c) where
   -- no record is at fault, and neither records nor frames are missing
@@ -393,8 +438,11 @@ module _ (b : List ℕ) (c : BundleCounts) (accepted : recordsOutcome b ≡ done
   done-accepted =
       let k : ℕ = recordCount b in
       let full = or-false (eqb k 0) (ltb (framesBefore b k) (frameCount b)) (passed .1) in
-      let header = first-right b (passed .0 0 (go k (eqb-false k 0 (full .0)))) in
+      let records : 0 < k = omega (arith, eqb-false k 0 (full .0)) in
       record {
+        clear = passed .0;
+        records = records;
+        header = first-right b (passed .0 0 records);
         counted = omega (
           arith,
           ap length (frames-all b k refl),
@@ -402,13 +450,7 @@ module _ (b : List ℕ) (c : BundleCounts) (accepted : recordsOutcome b ≡ done
           frames-few b k (passed .0),
           ltb-false (framesBefore b k) (frameCount b) (full .1),
         );
-        some = header .some;
-        few = header .few;
       }
-    where
-      go : (k : ℕ) → (k ≡ 0 → ⊥) → 0 < k
-      go zero h = absurd (h refl)
-      go (suc k) h = omega arith
 
 -- ---- answers
 

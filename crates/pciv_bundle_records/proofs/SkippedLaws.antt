@@ -17,10 +17,9 @@ use Rattle.pciv_bundle_records.specs.Records.{withRecord}
 use Rattle.pciv_bundle_records.specs.declared.BundleCounts.{BundleCounts}
 use Rattle.pciv_bundle_records.proofs.RecordsLaws.{done-counts}
 use Rattle.pciv_bundle_records.proofs.RecordBytesLaws.{noRecord, FitsRecord, AllFit, recordsBytes-append}
-use Rattle.pciv_bundle_records.proofs.RecordBytesLaws.{framesIn, framesIn-append, records-at, records-rest}
-use Rattle.pciv_bundle_records.proofs.RecordBytesLaws.{headerOf}
-use Rattle.pciv_bundle_records.proofs.RecordListLaws.{length-recordsOf, SoundRest, whole-list, frames-list}
-use Rattle.pciv_bundle_records.proofs.RecordListLaws.{sound-list, rest-fit, rest-frames, rest-outcome}
+use Rattle.pciv_bundle_records.proofs.RecordBytesLaws.{framesIn, framesIn-append, framesIn-other, records-at, records-rest}
+use Rattle.pciv_bundle_records.proofs.RecordBytesLaws.{headerOf, SoundRest, rest-fit, rest-frames, rest-outcome}
+use Rattle.pciv_bundle_records.proofs.RecordListLaws.{length-recordsOf, whole-list, frames-list, sound-list}
 
 -- ---- lists of records
 
@@ -41,14 +40,10 @@ each-with P x p (y ∷ rs) (suc r) each (suc i) h =
     each-with P x p rs r (λ j l. each (suc j) (omega arith)) i (omega arith)
 
 -- what is no frame leaves the frames
-framesIn-other : (x : Record) (rs : List Record) → (x .kind ≡ 1 → ⊥) → framesIn (x ∷ rs) ≡ framesIn rs
-unfolding framesIn
-framesIn-other x rs other = rw (ne-eqb (x .kind) 1 other)
-
 framesIn-with : (rs : List Record) (r : ℕ) (x : Record) → (x .kind ≡ 1 → ⊥) → framesIn (with rs r x) ≡ framesIn rs
 framesIn-with rs r x other =
     framesIn-append (take r rs) (x ∷ drop r rs)
-    ∙ ap (λ (fs : List (List ℕ)). framesIn (take r rs) ++ fs) (framesIn-other x (drop r rs) other)
+    ∙ ap (λ (fs : List (List ℕ)). framesIn (take r rs) ++ fs) (framesIn-other x (drop r rs) (ne-eqb (x .kind) 1 other))
     ∙ sym (framesIn-append (take r rs) (drop r rs))
     ∙ ap framesIn (take-append-drop r rs)
 

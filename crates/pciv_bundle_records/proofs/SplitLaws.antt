@@ -1,5 +1,5 @@
 -- Laws of the walk over the records of a bundle.
---   Placed b starts ends fs f    frame f of fs stands in b from `starts` to `ends`
+--   placesOf starts ends      where frames start and end
 --   Splitting b starts ends found number at    the walk: record `number` would start at `at`, no record before it is at
 --                             fault, `found` of them are frames, and each has its place
 --   splitting-start           behind record 0
@@ -16,7 +16,7 @@ use native.Mathlib.Decide.{decLe}
 use native.Mathlib.Numerals.{add-one}
 use mathlib.Core.Bool.{true, false}
 use mathlib.Core.List.{List, [], _∷_}
-use lib.ListN.{length, getD, set, take, drop, length-set, List·getD-append}
+use lib.ListN.{length, set, take, drop, length-set, List·getD-append}
 use lib.Seq.{getD-set-same, getD-set-other, getD-at}
 use lib.Dec.{eqb}
 use borrow.Author.Tests.{eq-eqb, ne-eqb}
@@ -24,8 +24,10 @@ use Rattle.pciv_bytes.specs.LittleEndian.{get}
 use Rattle.pciv_format.specs.Refusals.{done, refuse}
 use Rattle.pciv_bundle_records.specs.Records.{behindRecord, recordAt, recordLen, recordKind, recordPayload}
 use Rattle.pciv_bundle_records.specs.Records.{frameCount, isFrame, framesBefore, badHeader, badRecord}
-use Rattle.pciv_bundle_records.specs.Records.{wrongRecord, countsIn, recordsOutcome, bundleAnswer, PlacedFrames}
+use Rattle.pciv_bundle_records.specs.Records.{wrongRecord, countsIn, recordsOutcome, bundleAnswer}
+use Rattle.pciv_bundle_records.specs.Records.{PlacedFrame, PlacedFrames}
 use Rattle.pciv_bundle_records.specs.declared.BundleCounts.{BundleCounts}
+use Rattle.pciv_bundle_records.specs.declared.Places.{Places}
 use Rattle.pciv_bundle_records.specs.declared.Split.{Split}
 use Rattle.pciv_bundle_records.proofs.RecordsLaws.{recordAt-next, recordCount-end}
 use Rattle.pciv_bundle_records.proofs.RecordsLaws.{framesTo, length-framesTo, frames-all, framesTo-frame, framesTo-other}
@@ -34,11 +36,8 @@ use Rattle.pciv_bundle_records.proofs.RecordsLaws.{header-end, header-f
 use Rattle.pciv_bundle_records.proofs.RecordsLaws.{badRecord-first, first-right, badRecord-later}
 use Rattle.pciv_bundle_records.proofs.RecordsLaws.{records-refused, records-missing, records-done}
 
--- frame f of fs stands in b from `starts` to `ends`
-pub record Placed (b starts ends : List ℕ) (fs : List (List ℕ)) (f : ℕ) : Type 0 where
-  pub rising : getD starts f 0 ≤ getD ends f 0
-  pub inside : getD ends f 0 ≤ length b
-  pub bytes : take (getD ends f 0 - getD starts f 0) (drop (getD starts f 0) b) ≡ getD fs f []
+abbrev pub placesOf : List ℕ → List ℕ → Places
+placesOf starts ends = record { starts = starts; ends = ends }
 
 pub record Splitting (b starts ends : List ℕ) (found number at : ℕ) : Type 0 where
   pub starts-long : length starts ≡ 8
@@ -48,7 +47,7 @@ pub record Splitting (b starts ends : List ℕ) (found number at : ℕ) : Type 0
   pub inside : at ≤ length b
   pub counted : found ≡ framesBefore b number
   pub clear : (j : ℕ) → j < number → badRecord b j ≡ false
-  pub placed : (f : ℕ) → f < found → Placed b starts ends (framesTo b number) f
+  pub placed : (f : ℕ) → f < found → PlacedFrame b (placesOf starts ends) (framesTo b number) f
 
 -- behind record 0
 pub splitting-start : (b starts ends : List ℕ) → length starts ≡ 8 → length ends ≡ 8 → 12 ≤ length b
@@ -122,7 +121,7 @@ module _ {b starts ends : List ℕ} {found number at : ℕ} (s : Splitting b sta
     -- past a frame
     module _ (room : found < 8) where
       frame-placed : isFrame b number ≡ true → (f : ℕ) → f < found + 1
-          → Placed b (set starts found (at + 6)) (set ends found next) (framesTo b (suc number)) f
+          → PlacedFrame b (placesOf (set starts found (at + 6)) (set ends found next)) (framesTo b (suc number)) f
       frame-placed q f h =
           elim (decLe found f) [
             | yes d ↦ (let e : f ≡ found = omega arith in
@@ -177,11 +176,10 @@ module _ {b starts ends : List ℕ} {found number at : ℕ} (s : Splitting b sta
     pub splitting-done : frameCount b ≤ found → recordsOutcome b ≡ done (countsIn b)
     splitting-done all = records-done b number (s .clear) at-end (s .past) (omega (arith, s .counted))
 
-    pub splitting-placed : PlacedFrames b (record { starts = starts; ends = ends })
+    pub splitting-placed : PlacedFrames b (placesOf starts ends)
     splitting-placed f h =
         let e = frames-all b number (recordCount-end b number at-end) in
-        let p = s .placed f (omega (arith, s .counted, length-framesTo b number, ap length e)) in
-        record { rising = p .rising; inside = p .inside; bytes = rw e (p .bytes) }
+        rw e (s .placed f (omega (arith, s .counted, length-framesTo b number, ap length e)))
 
 -- what a refusal says: its answer, and no places
 pub split-refused : (b : List ℕ) (s : Split) (place : ℕ) → recordsOutcome b ≡ refuse 14 0 place

@@ -18,7 +18,8 @@
 --   bundleRecords n fs, bundleOf n fs       the records, and the bytes, of the bundle of the frames fs with n slots
 --   recordsOf b           the records of b, as a list
 --   withRecord b r x      b with a record x put in before its record r, or at its end
---   PlacedFrame b p f     frame f, here from 0, stands in b from `starts` to `ends` of the places p; PlacedFrames, all do
+--   PlacedFrame b p fs f    frame f of fs, here from 0, stands in b from `starts` to `ends` of the places p
+--   PlacedFrames b p      all frames of b do
 -- Laws are in proofs/. Axioms: none.
 use mathlib.Core.Path.{_≡_}
 use Prim.Native.Nat.{ℕ, zero, suc, _+_, _-_, _≤_, _<_}
@@ -133,13 +134,13 @@ bundleOf n fs = recordsBytes (bundleRecords n fs)
 
 -- ---- where the frames stand
 
-pub record PlacedFrame (b : List ℕ) (p : Places) (f : ℕ) : Type 0 where
+pub record PlacedFrame (b : List ℕ) (p : Places) (fs : List (List ℕ)) (f : ℕ) : Type 0 where
   pub rising : getD (p .starts) f 0 ≤ getD (p .ends) f 0
   pub inside : getD (p .ends) f 0 ≤ length b
-  pub bytes : take (getD (p .ends) f 0 - getD (p .starts) f 0) (drop (getD (p .starts) f 0) b) ≡ getD (frames b) f []
+  pub bytes : take (getD (p .ends) f 0 - getD (p .starts) f 0) (drop (getD (p .starts) f 0) b) ≡ getD fs f []
 
 abbrev pub PlacedFrames : List ℕ → Places → Type 0
-PlacedFrames b p = (f : ℕ) → f < length (frames b) → PlacedFrame b p f
+PlacedFrames b p = (f : ℕ) → f < length (frames b) → PlacedFrame b p (frames b) f
 
 -- ---- the records of bytes
 

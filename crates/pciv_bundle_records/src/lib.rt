@@ -57,7 +57,7 @@ pub struct Split {
 
 // The frame with this number, here from 0, as a part of the bundle.
 pub fn frame_at(bundle: &[u8], places: Places, f: usize) -> &[u8]
-    requires { ⌜ (f < 8) × PlacedFrame (now bundle) places f ⌝ }
+    requires { ⌜ (f < 8) × PlacedFrame (now bundle) places (frames (now bundle)) f ⌝ }
     ensures { λ r. ⌜ now r ≡ getD (frames (now (bundle .entry))) f [] ⌝ }
 {
     let start = places.starts[f];

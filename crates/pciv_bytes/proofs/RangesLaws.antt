@@ -3,6 +3,7 @@
 --   flag-le, -zero, -not      a flag is at most 1; where it is 0, the test fails; a test and its negation
 --   boolByte-flag             a test, cast to a number
 --   getD-inside               inside a list the default does not matter
+--   getD-map                  an element of a list to which a function is applied
 --   map-cong                  functions that agree on the elements of a list
 --   firstBelow-none, -at      its value, from what holds of each number
 --   firstBelow-le, -clear, -has, -all, -lt    what holds of each number, from its value
@@ -19,7 +20,7 @@ use native.Mathlib.Decide.{decLe}
 use native.Mathlib.Numerals.{add-one}
 use mathlib.Core.Bool.{Bool, true, false, cond, not}
 use mathlib.Core.List.{List, [], _∷_, _++_, map}
-use lib.ListN.{length, getD}
+use lib.ListN.{length, getD, length-map, List·getD-map}
 use mir.Val.{boolByte}
 use Rattle.pciv_bytes.specs.Ranges.{flag, firstFrom, firstBelow, table}
 
@@ -51,6 +52,10 @@ pub getD-inside : {A : Type 0} (xs : List A) (j : ℕ) (a b : A) → j < length 
 getD-inside [] j a b h = absurd (omega arith)
 getD-inside (x ∷ xs) zero a b h = refl
 getD-inside (x ∷ xs) (suc j) a b h = getD-inside xs j a b (omega arith)
+
+pub getD-map : {A B : Type 0} (f : A → B) (xs : List A) (i : ℕ) (e : A) (d : B) → i < length xs
+    → getD (map f xs) i d ≡ f (getD xs i e)
+getD-map f xs i e d h = getD-inside (map f xs) i d (f e) (rw length-map h) ∙ List·getD-map f xs i e
 
 pub map-cong : (f g : ℕ → ℕ) (xs : List ℕ) → ((i : ℕ) → i < length xs → f (getD xs i 0) ≡ g (getD xs i 0))
     → map f xs ≡ map g xs

@@ -11,7 +11,7 @@
 --   sets-same                      a list that stands there already
 --   sets-table-start, -more, -end, -part    a table, an element or c of them a turn
 --   Left f n out₀ out i            the invariant of a loop that writes a table to the front of a list
---   left-start, left-more, left-end    no element, one more, and all
+--   left-start, left-more, left-part, left-end    no element, one more, several at once, and all
 --   sets-copy-more, -end           a copy of a list
 --   sets-same-more, -end           the same element, over and over
 --   sets-le-start, -more, -end     a number, a byte a turn
@@ -24,7 +24,7 @@ use native.Mathlib.Omega.{arith}
 use native.Mathlib.Decide.{decLe}
 use mathlib.Core.List.{List, [], _∷_, _++_, append-assoc}
 use lib.ListN.{length, length-append, getD, take, drop, set, replicate, drop-of-length-le, length-set, List·getD-append}
-use lib.Seq.{sets, sets-eq, length-take-le, take-set-le, drop-cons, drop-at, getD-append-add, set-getD}
+use lib.Seq.{sets, sets-eq, length-sets, length-take-le, take-set-le, drop-cons, drop-at, getD-append-add, set-getD}
 use lib.Seq.{set-set, set-comm, set-append-left, getD-set-other}
 use Rattle.pciv_bytes.specs.LittleEndian.{le}
 use Rattle.pciv_bytes.specs.Ranges.{table}
@@ -247,6 +247,15 @@ module _ {f : ℕ → ℕ} {n : ℕ} {out₀ out : List ℕ} {i : ℕ} (left : L
       record {
         same = length-set out i x ∙ left .same;
         rest = left .rest ∙ rw e (sets-cons out _ (f i) _ i (i + 1) (table-rest f n i h) refl);
+      }
+
+  -- len more elements at once
+  pub left-part : (len : ℕ) (next : List ℕ) → i + len ≤ n → next ≡ sets out i (table f i len)
+      → Left f n out₀ next (i + len)
+  left-part len next inside is =
+      record {
+        same = ap length is ∙ length-sets out i (table f i len) ∙ left .same;
+        rest = left .rest ∙ rw is (rw (zero-add i, zero-add (i + len)) at (sets-table-part f 0 n i len out inside));
       }
 
   pub left-end : n ≤ i → out ≡ sets out₀ 0 (table f 0 n)

@@ -1,16 +1,13 @@
 -- Proves pciv_bundle_frames::check_frames. Invariant: the frames below next are sound, and `other` is the least of them with
 -- another number of slots, or next (`Passed`, FramesLaws.antt). Falls: count - next.
-use mathlib.Core.Path.{_≡_, sym, ap, _∙_}
-use Prim.Native.Nat.{ℕ, _<_, _-_}
+use mathlib.Core.Path.{sym, ap, _∙_}
+use Prim.Native.Nat.{_<_, _-_}
 use native.Mathlib.Omega.{arith}
-use mathlib.Core.List.{List, []}
-use lib.ListN.{length, getD}
+use lib.ListN.{length}
 use Rattle.pciv_format.specs.Refusals.{numberAnswer}
-use Rattle.pciv_format.proofs.RefusalsLaws.{numberAnswer-number, numberAnswer-refused}
 use Rattle.pciv_bundle_records.specs.Records.{frames}
-use Rattle.pciv_bundle_frames.specs.Frames.{nextFrame}
 use Rattle.pciv_bundle_frames.proofs.FramesLaws.{Passed, passed-none, passed-more, passed-le}
-use Rattle.pciv_bundle_frames.proofs.FramesLaws.{frames-refused, frames-end}
+use Rattle.pciv_bundle_frames.proofs.FramesLaws.{passed-refused, frames-end}
 use borrow.Author.Needs.{needs}
 use Rattle.pciv_bundle_frames.proofs.check_frames.Statement.{statement}
 use Rattle.pciv_bundle_frames.proofs.check_frames.Tie as tie
@@ -25,20 +22,6 @@ abbrev μ-loop : tie.MeasureT-loop
 there : (c : tie.In-loop Inv-loop μ-loop)
     → (let s = c .before .before .before in c .before .loop .next < length (frames (s .args .bundle .now)))
 there c = let s = c .before .before .before in omega (arith, c .loop-test .taken, s .pre .0 .1)
-
--- what its check finds
-found : (c : tie.After-check-next Inv-loop μ-loop)
-    → (let l = c .before .before .before in
-    let a = l .before .before .args in
-    c .check-next .result
-    ≡ numberAnswer
-    (nextFrame (a .n) (l .loop .next) (l .loop .other) (getD (frames (a .bundle .now)) (l .loop .next) [])))
-found c =
-    let l = c .before .before .before in
-    let a = l .before .before .args in
-    c .check-next .ensures
-    ∙ ap (λ (b : List ℕ). numberAnswer (nextFrame (a .n) (l .loop .next) (l .loop .other) b))
-    (c .before .frame-at .ensures)
 
 loop-holds : tie.Need-loop-holds Inv-loop μ-loop
 loop-holds c = passed-none _ _
@@ -60,9 +43,8 @@ returns : tie.Need-returns Inv-loop μ-loop
 returns c =
     let k = c .before .before .before in
     let l = k .before .before .before in
-    ap numberAnswer
-    (sym (frames-refused (l .loop .inv) (there (k .before .before)) (c .before .checked .given .0 .0)
-    (numberAnswer-refused _ _ (sym (c .before .checked .given .1) ∙ found k))))
+    passed-refused (l .loop .inv) (there (k .before .before)) _ (k .before .frame-at .ensures) _ (k .check-next .ensures) _
+    (c .before .checked .given .1)
 
 enum-known-checked-2 : tie.Need-enum-known-checked-2 Inv-loop μ-loop
 enum-known-checked-2 c = search needs
@@ -74,8 +56,8 @@ loop-again : tie.Need-loop-again Inv-loop μ-loop
 loop-again c =
     let k = c .before .before .before in
     let l = k .before .before .before in
-    passed-more (l .loop .inv) (there (k .before .before)) (c .before .checked2 .given .0 .0)
-    (numberAnswer-number _ _ (sym (c .before .checked2 .given .1) ∙ found k))
+    passed-more (l .loop .inv) (there (k .before .before)) _ (k .before .frame-at .ensures) _ (k .check-next .ensures) _
+    (c .before .checked2 .given .1)
 
 same-slots-requires : tie.Need-same-slots-requires Inv-loop μ-loop
 same-slots-requires c κs =

@@ -1,16 +1,15 @@
 -- Proves pciv_bundle_frames::check_lent. Invariant and what falls are those of check_frames, over the first `count` of the
 -- lent frames and with `passed` for next.
 use mathlib.Core.Path.{_≡_, sym, ap, _∙_}
-use Prim.Native.Nat.{ℕ, _<_, _-_}
+use Prim.Native.Nat.{_<_, _-_}
 use native.Mathlib.Omega.{arith}
-use mathlib.Core.List.{List, []}
+use mathlib.Core.List.{[]}
 use lib.ListN.{length, getD}
+use denote.Ref as R
 use Rattle.pciv_format.specs.Refusals.{numberAnswer}
-use Rattle.pciv_format.proofs.RefusalsLaws.{numberAnswer-number, numberAnswer-refused}
-use Rattle.pciv_bundle_frames.specs.Frames.{nextFrame}
-use Rattle.pciv_bundle_frames.proofs.LentLaws.{used, used-length, used-at}
+use Rattle.pciv_bundle_frames.proofs.LentLaws.{noFrame, used, used-length, used-at}
 use Rattle.pciv_bundle_frames.proofs.FramesLaws.{Passed, passed-none, passed-more, passed-le}
-use Rattle.pciv_bundle_frames.proofs.FramesLaws.{frames-refused, frames-end}
+use Rattle.pciv_bundle_frames.proofs.FramesLaws.{passed-refused, frames-end}
 use borrow.Author.Needs.{needs}
 use Rattle.pciv_bundle_frames.proofs.check_lent.Statement.{statement}
 use Rattle.pciv_bundle_frames.proofs.check_lent.Tie as tie
@@ -31,20 +30,14 @@ there : (c : tie.In-loop Inv-loop μ-loop)
     → (let a = c .before .before .before .args in c .before .loop .passed < length (used (a .frames .now) (a .count)))
 there c = omega (arith, c .loop-test .taken, many (c .before .before))
 
--- what its check finds
-found : (c : tie.After-check-next Inv-loop μ-loop)
-    → (let l = c .before .before .before in
+-- and its bytes are those that are checked
+here : (c : tie.In-loop Inv-loop μ-loop)
+    → (let l = c .before in
     let a = l .before .before .args in
-    c .check-next .result
-    ≡ numberAnswer
-    (nextFrame (a .n) (l .loop .passed) (l .loop .other)
-    (getD (used (a .frames .now) (a .count)) (l .loop .passed) [])))
-found c =
-    let l = c .before .before .before in
-    let a = l .before .before .args in
-    c .check-next .ensures
-    ∙ ap (λ (b : List ℕ). numberAnswer (nextFrame (a .n) (l .loop .passed) (l .loop .other) b))
-    (used-at (a .frames .now) (a .count) (l .loop .passed) (c .before .before .loop-test .taken))
+    R.now (getD (a .frames .now) (l .loop .passed) noFrame) ≡ getD (used (a .frames .now) (a .count)) (l .loop .passed) [])
+here c =
+    let a = c .before .before .before .args in
+    used-at (a .frames .now) (a .count) (c .before .loop .passed) (c .loop-test .taken)
 
 loop-holds : tie.Need-loop-holds Inv-loop μ-loop
 loop-holds c = passed-none _ _
@@ -69,9 +62,8 @@ returns : tie.Need-returns Inv-loop μ-loop
 returns c =
     let k = c .before .before .before in
     let l = k .before .before .before in
-    ap numberAnswer
-    (sym (frames-refused (l .loop .inv) (there (k .before .before)) (c .before .checked .given .0 .0)
-    (numberAnswer-refused _ _ (sym (c .before .checked .given .1) ∙ found k))))
+    passed-refused (l .loop .inv) (there (k .before .before)) _ (here (k .before .before)) _ (k .check-next .ensures) _
+    (c .before .checked .given .1)
 
 enum-known-checked-2 : tie.Need-enum-known-checked-2 Inv-loop μ-loop
 enum-known-checked-2 c = search needs
@@ -83,8 +75,8 @@ loop-again : tie.Need-loop-again Inv-loop μ-loop
 loop-again c =
     let k = c .before .before .before in
     let l = k .before .before .before in
-    passed-more (l .loop .inv) (there (k .before .before)) (c .before .checked2 .given .0 .0)
-    (numberAnswer-number _ _ (sym (c .before .checked2 .given .1) ∙ found k))
+    passed-more (l .loop .inv) (there (k .before .before)) _ (here (k .before .before)) _ (k .check-next .ensures) _
+    (c .before .checked2 .given .1)
 
 same-slots-requires : tie.Need-same-slots-requires Inv-loop μ-loop
 same-slots-requires c κs =

@@ -1,9 +1,9 @@
 -- Proves pciv_bundle_frames::row_of. Invariant: the distances of the frames below f stand in the row, and zeros behind
 -- them (`Filled`, RowLaws.antt). Falls: count - f.
 use mathlib.Core.Path.{_≡_, sym, ap, _∙_}
-use Prim.Native.Nat.{_≤_, _<_, _-_}
+use Prim.Native.Nat.{ℕ, _≤_, _<_, _-_}
 use native.Mathlib.Omega.{arith}
-use mathlib.Core.List.{[]}
+use mathlib.Core.List.{List, []}
 use lib.ListN.{length, getD}
 use denote.Ref as R
 use Rattle.pciv_format.specs.Layout.{at}
@@ -11,8 +11,10 @@ use Rattle.pciv_format.specs.Read.{listOf}
 use Rattle.pciv_format.specs.Check.{kField, CheckedMap}
 use Rattle.pciv_format.specs.declared.Located.{Located}
 use Rattle.pciv_format.proofs.CheckLaws.{checked-length}
+use Rattle.pciv_format.proofs.ReadLaws.{at-list}
 use Rattle.pciv_bundle_records.specs.Records.{frames}
-use Rattle.pciv_bundle_frames.proofs.RowLaws.{row-frame, Filled, filled-none, filled-more, filled-end}
+use Rattle.pciv_bundle_frames.proofs.FramesLaws.{frame-checked}
+use Rattle.pciv_bundle_frames.proofs.RowLaws.{Filled, filled-none, filled-more, filled-end}
 use Rattle.pciv_bundle_frames.proofs.row_of.Statement.{statement}
 use Rattle.pciv_bundle_frames.proofs.row_of.Tie as tie
 
@@ -42,7 +44,13 @@ this c = c .frame-at .ensures
 checked : (c : tie.After-frame-at Inv-loop μ-loop)
     → (let b = R.now (c .frame-at .result) in CheckedMap b (c .before .before .before .before .args .n) (kField b))
 checked c =
-    let l = c .before .before in rw (this c) (l .before .before .pre .1 .1 (l .loop .f) (there (c .before)))
+    let l = c .before .before in
+    let s = l .before .before in
+    frame-checked (frames (s .args .bundle .now)) (s .args .n) (s .pre .1 .1) (l .loop .f) (there (c .before)) _ (this c)
+
+located : (c : tie.After-get64 Inv-loop μ-loop)
+    → CheckedMap (R.now (c .before .frame-at .result)) (c .before .before .before .before .before .args .n) (c .get64 .result)
+located c = rw (c .get64 .ensures) (checked (c .before))
 
 -- its distance at the slot
 distance : (c : tie.After-locate Inv-loop μ-loop)
@@ -51,13 +59,11 @@ distance : (c : tie.After-locate Inv-loop μ-loop)
     c .locate .result .distance ≡ at (listOf (getD (frames (a .bundle .now)) (l .loop .f) [])) (a .slot))
 distance c =
     let g = c .before .before in
-    let l = g .before .before in
-    let s = l .before .before in
-    let a = s .args in
+    let s = g .before .before .before .before in
+    let header = located (c .before) .header in
     ap (λ (z : Located). z .distance) (c .locate .ensures)
-    ∙ rw (c .before .get64 .ensures, this g)
-    (sym (row-frame (frames (a .bundle .now)) (a .slot) (l .loop .f) (a .n) (s .pre .1 .1)
-    (there (g .before)) (s .pre .0 .2)))
+    ∙ sym (at-list _ _ _ (header .nIs) (header .kIs) (s .args .slot) (s .pre .0 .2))
+    ∙ ap (λ (b : List ℕ). at (listOf b) (s .args .slot)) (this g)
 
 frame-at-requires : tie.Need-frame-at-requires Inv-loop μ-loop
 frame-at-requires c κs = (below c, c .before .before .before .pre .1 .0 _ (there c))
@@ -67,7 +73,7 @@ get64-requires c κs = omega (arith, checked-length _ _ _ (checked c))
 
 locate-requires : tie.Need-locate-requires Inv-loop μ-loop
 locate-requires c κs =
-    let s = c .before .before .before .before .before in (rw (c .get64 .ensures) (checked (c .before)), s .pre .0 .2)
+    (located c, c .before .before .before .before .before .pre .0 .2)
 
 mul-row : tie.Need-mul-row Inv-loop μ-loop
 mul-row c = omega (arith, below (c .before .before .before))

@@ -1,7 +1,8 @@
 -- Proves pciv_bundle_nearest::nearest_into.
 use borrow.Author.Needs.{needs}
 use Rattle.pciv_bundle_records.specs.Records.{frames}
-use Rattle.pciv_bundle_nearest.proofs.PassesLaws.{frames-bytes, nearest-passes}
+use Rattle.pciv_bundle_records.proofs.RecordsLaws.{frames-bytes}
+use Rattle.pciv_bundle_nearest.proofs.PassesLaws.{nearest-passes}
 use Rattle.pciv_bundle_nearest.proofs.nearest_into.Statement.{statement}
 use Rattle.pciv_bundle_nearest.proofs.nearest_into.Tie as tie
 
@@ -22,7 +23,7 @@ returns c =
     let s = known .before in
     let a = s .args in
     nearest-passes (frames (a .bundle .now)) (a .n) (s .pre .1 .1)
-    (frames-bytes (a .bundle .now) (a .places) (λ i. known .shared-slice-known .given i .fits) (s .pre .1 .0))
+    (frames-bytes (a .bundle .now) (λ i. known .shared-slice-known .given i .fits))
     (a .out .now) _ _ (s .pre .0 .2) (bytes .nearest-bytes .ensures) (entries .lower-all .ensures)
 
 pub nearest-into-spec : {M : Type 1} → statement M

@@ -10,10 +10,10 @@ use borrow.Author.Needs.{needs}
 use Rattle.pciv_format.specs.Check.{kField, CheckedMap}
 use Rattle.pciv_format.proofs.MapLaws.{primary-inside}
 use Rattle.pciv_bundle_records.specs.Records.{frames}
+use Rattle.pciv_bundle_frames.proofs.FramesLaws.{frame-checked}
 use Rattle.pciv_bundle_nearest.specs.Passes.{byteStep}
 use Rattle.pciv_bundle_nearest.proofs.ChangedLaws.{Turns, turns-start, turns-more, turns-end}
 use Rattle.pciv_bundle_nearest.proofs.BlockLaws.{part-length, bytes-turn, raised-block}
-use Rattle.pciv_bundle_nearest.proofs.PassesLaws.{frame-checked}
 use Rattle.pciv_bundle_nearest.proofs.blocks.nearest_block.Statement.{statement}
 use Rattle.pciv_bundle_nearest.proofs.blocks.nearest_block.Tie as tie
 

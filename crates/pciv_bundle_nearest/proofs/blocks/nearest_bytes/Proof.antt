@@ -3,10 +3,9 @@
 use Prim.Native.Nat.{_-_, _≤_}
 use native.Mathlib.Omega.{arith}
 use borrow.Author.Needs.{needs}
-use Rattle.pciv_bytes.proofs.WriteLaws.{Left, left-start, left-end}
+use Rattle.pciv_bytes.proofs.WriteLaws.{Left, left-start, left-part, left-end}
 use Rattle.pciv_bundle_records.specs.Records.{frames}
 use Rattle.pciv_bundle_nearest.specs.Passes.{nearestByte}
-use Rattle.pciv_bundle_nearest.proofs.BlockLaws.{left-part}
 use Rattle.pciv_bundle_nearest.proofs.blocks.nearest_bytes.Statement.{statement}
 use Rattle.pciv_bundle_nearest.proofs.blocks.nearest_bytes.Tie as tie
 

@@ -7,10 +7,10 @@ use borrow.Author.Needs.{needs}
 use Rattle.pciv_format.specs.Check.{kField, CheckedMap}
 use Rattle.pciv_format.proofs.MapLaws.{primary-inside}
 use Rattle.pciv_bundle_records.specs.Records.{frames}
+use Rattle.pciv_bundle_frames.proofs.FramesLaws.{frame-checked}
 use Rattle.pciv_bundle_nearest.specs.Passes.{entryStep}
 use Rattle.pciv_bundle_nearest.proofs.ChangedLaws.{Turns, turns-start, turns-more, turns-end}
 use Rattle.pciv_bundle_nearest.proofs.LoweredLaws.{entries-turn}
-use Rattle.pciv_bundle_nearest.proofs.PassesLaws.{frame-checked}
 use Rattle.pciv_bundle_nearest.proofs.entries.lower_all.Statement.{statement}
 use Rattle.pciv_bundle_nearest.proofs.entries.lower_all.Tie as tie
 
