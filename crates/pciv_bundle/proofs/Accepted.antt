@@ -14,10 +14,12 @@ use lib.ListN.{length, getD, drop}
 use Rattle.pciv_bytes.specs.LittleEndian.{le, Bytes}
 use Rattle.pciv_format.specs.Refusals.{done}
 use Rattle.pciv_bundle_records.specs.Records.{recordKind, recordPayload, recordCount, frames, recordsOutcome}
-use Rattle.pciv_bundle_records.specs.Records.{slotCount, frameCount, Record, recordsBytes, recordsOf}
+use Rattle.pciv_bundle_records.specs.Records.{slotCount, frameCount, Record, recordsBytes}
+use Rattle.pciv_bundle_records.specs.Records.{headerOf}
+use Rattle.pciv_bundle_records.specs.RecordList.{framesIn, SoundRest, recordsOf}
 use Rattle.pciv_bundle_records.specs.declared.BundleCounts.{BundleCounts}
 use Rattle.pciv_bundle_records.proofs.RecordsLaws.{frames-bytes, done-counts, done-accepted}
-use Rattle.pciv_bundle_records.proofs.RecordBytesLaws.{headerOf, framesIn, SoundRest, rest-frames, rest-outcome}
+use Rattle.pciv_bundle_records.proofs.RecordBytesLaws.{rest-frames, rest-outcome}
 use Rattle.pciv_bundle_records.proofs.RecordListLaws.{records-whole, records-first, records-later}
 use Rattle.pciv_bundle_records.proofs.RecordListLaws.{whole-list, frames-list, sound-list}
 use Rattle.pciv_bundle_frames.proofs.FrameFileLaws.{FrameFile, done-file, files-done}

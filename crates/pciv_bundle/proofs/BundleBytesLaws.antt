@@ -19,7 +19,8 @@ use Rattle.pciv_bytes.specs.LittleEndian.{le}
 use Rattle.pciv_bytes.proofs.LittleEndianLaws.{length-le}
 use Rattle.pciv_bytes.proofs.WriteLaws.{sets-append}
 use Rattle.pciv_bundle_records.specs.Records.{Record, recordOf, recordBytes, recordsBytes, bundleRecords, bundleOf}
-use Rattle.pciv_bundle_records.proofs.RecordBytesLaws.{length-recordBytes, headerOf}
+use Rattle.pciv_bundle_records.specs.Records.{headerOf}
+use Rattle.pciv_bundle_records.proofs.RecordBytesLaws.{length-recordBytes}
 use Rattle.pciv_bundle.specs.Bundle.{ShortFrames}
 
 abbrev pub headerBytes : ℕ → ℕ → List ℕ

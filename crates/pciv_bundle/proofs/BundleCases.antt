@@ -21,7 +21,7 @@ use Rattle.pciv_format.proofs.Cases.{A, B}
 use Rattle.pciv_bundle_records.specs.Records.{recordAt, recordLen, recordKind, recordPayload, recordCount}
 use Rattle.pciv_bundle_records.specs.Records.{framesBefore, frames, badHeader, badRecord, recordsOutcome, Record}
 use Rattle.pciv_bundle_records.specs.Records.{recordOf, recordBytes, recordsBytes, bundleRecords, bundleOf}
-use Rattle.pciv_bundle_records.proofs.RecordBytesLaws.{headerOf}
+use Rattle.pciv_bundle_records.specs.Records.{headerOf}
 use Rattle.pciv_bundle_frames.specs.Frames.{soundFrames, framesOutcome, rowOf}
 use Rattle.pciv_bundle_nearest.specs.Nearest.{nearestOf, distancesAt, nearestList}
 use Rattle.pciv_bundle.specs.Bundle.{bundleOutcome, rowOutcome, nearestOutcome, nearestBuffer}

@@ -18,9 +18,10 @@ use Rattle.pciv_format.specs.Read.{listOf}
 use Rattle.pciv_format.proofs.Cases.{A}
 use Rattle.pciv_bundle_records.specs.Records.{recordAt, recordLen, recordKind, recordPayload, recordCount, framesBefore}
 use Rattle.pciv_bundle_records.specs.Records.{frames, badHeader, badRecord, recordsOutcome, Record, recordOf}
-use Rattle.pciv_bundle_records.specs.Records.{recordBytes, recordsBytes, bundleRecords, bundleOf, withRecord}
+use Rattle.pciv_bundle_records.specs.Records.{recordBytes, recordsBytes, bundleRecords, bundleOf}
+use Rattle.pciv_bundle_records.specs.Records.{headerOf}
+use Rattle.pciv_bundle_records.specs.RecordList.{FitsRecord, withRecord}
 use Rattle.pciv_bundle_records.specs.declared.BundleCounts.{BundleCounts}
-use Rattle.pciv_bundle_records.proofs.RecordBytesLaws.{FitsRecord, headerOf}
 use Rattle.pciv_bundle_records.proofs.SkippedLaws.{skipped-frames, skipped-outcome, skipped-slots}
 use Rattle.pciv_bundle_frames.specs.Frames.{soundFrames, framesOutcome, rowOf}
 use Rattle.pciv_bundle_nearest.specs.Nearest.{nearestOf, distancesAt, nearestList}

@@ -8,7 +8,7 @@
 --   ShortFrames fs            what the writer knows of the frames: the length of each as a record fits in 4 bytes
 --   bundleWriteOutcome fs count capacity, bundleWriteBuffer fs count out
 --                             the first `count` of the frames fs as a bundle: how many bytes; the buffer afterwards
--- Laws are in proofs/. Axioms: none.
+-- Laws are in proofs/BundleCaseLaws.antt, the theorems in Bundles.antt, Accepted.antt and Skips.antt. Axioms: none.
 use Prim.Native.Nat.{ℕ, _+_, _<_, _^_}
 use mathlib.Core.Bool.{_||_}
 use mathlib.Core.List.{List, []}

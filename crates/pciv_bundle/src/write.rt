@@ -1,13 +1,12 @@
 // Writing a bundle: record 0, then each frame as a record of kind 1.
 ghost use mathlib.Core.Path.{_≡_};
 ghost use Prim.Native.Nat.{ℕ, _+_, _≤_, _<_, _^_};
-ghost use mathlib.Core.List.{map, _++_};
+ghost use mathlib.Core.List.{map};
 ghost use lib.ListN.{length, take};
 ghost use lib.Seq.{sets};
-ghost use Rattle.pciv_bytes.specs.LittleEndian.{le};
 ghost use Rattle.pciv_format.specs.Check.{nField};
 ghost use Rattle.pciv_format.specs.Refusals.{numberAnswer};
-ghost use Rattle.pciv_bundle_records.specs.Records.{recordOf, recordBytes, bundleOf};
+ghost use Rattle.pciv_bundle_records.specs.Records.{recordOf, recordBytes, headerOf, bundleOf};
 ghost use Rattle.pciv_bundle.specs.Bundle.{ShortFrames, bundleWriteOutcome, bundleWriteBuffer};
 use pciv_bundle_frames::check_lent;
 use pciv_bundle_records::FRAME_KIND;
@@ -54,7 +53,7 @@ fn bundle_len(frames: &[&[u8]], count: usize) -> usize
 // Record 0, at the front.
 fn put_header(out: &mut [u8], n: usize, count: usize)
     requires { ⌜ (12 ≤ length (now out)) × (n < 2 ^ 32) ⌝ }
-    ensures { λ _. ⌜ now (out .exit) ≡ sets (now (out .entry)) 0 (recordBytes (recordOf 0 (le 4 n ++ le 2 count))) ⌝ }
+    ensures { λ _. ⌜ now (out .exit) ≡ sets (now (out .entry)) 0 (recordBytes (headerOf n count)) ⌝ }
 {
     put32(out, 0, (HEADER_RECORD_LEN - 4) as u32);
     put16(out, 4, HEADER_KIND);

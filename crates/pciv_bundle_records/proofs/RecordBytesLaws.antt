@@ -1,19 +1,15 @@
 -- Laws of the bytes of records one after another: what is read of them is what the records are.
---   noRecord                   what `getD` answers past the last record
---   FitsRecord r, AllFit rs    a record whose length and kind fit their fields; each of them does
---   allFit-cons, -rest         with a record in front; without the first
+--   allFit-cons, -rest         records that fit, with one in front, and without the first
 --   length-recordBytes         a record has 6 bytes before its payload
 --   recordsBytes-append, -one  the bytes of two lists of records, and of one record
 --   records-rest               what stands from record i on
---   framesIn rs, frameIf       the payloads of the records of kind 1; one of them in front, or not
---   framesIn-append, -other, -of    of two lists of records; behind one that is no frame; of frames, each a record of kind 1
+--   framesIn-append, -other, -of    the frames of two lists of records; behind one that is no frame; of frames, each a record of kind 1
 --   records-at, records-count  where record i starts; how many there are
 --   records-len, records-kind, records-payload    what is read of record i
 --   records-frames, records-before    the frames; how many of them stand before record i
---   headerOf n c, headerOf-fits    record 0 with n slots and c frames; its fields fit
+--   headerOf-fits              record 0 fits its fields
 --   records-slotCount, records-frameCount    what it says
---   SoundRest c rest           the records behind the header of a bundle of c frames
---   rest-fit, rest-frames, rest-outcome    of a header and such records: they fit, their frames, and no refusal
+--   rest-fit, rest-frames, rest-outcome    of a header and records that may stand behind it: they fit, their frames, and no refusal
 --   bundleOf-slotCount, -frames, -sound    of the bundle of frames: its slot count, its frames; no refusal
 -- Axioms: none.
 use mathlib.Core.Path.{_≡_, refl, sym, ap, ap₂, subst, _∙_}
@@ -33,19 +29,11 @@ use Rattle.pciv_bundle_records.specs.Records.{recordAt, recordLen, recor
 use Rattle.pciv_bundle_records.specs.Records.{slotCount, frameCount, isFrame, framesBefore, frames, badHeader}
 use Rattle.pciv_bundle_records.specs.Records.{badRecord, recordsOutcome, Record, recordOf, recordBytes}
 use Rattle.pciv_bundle_records.specs.Records.{recordsBytes, bundleRecords, bundleOf}
+use Rattle.pciv_bundle_records.specs.Records.{headerOf}
+use Rattle.pciv_bundle_records.specs.RecordList.{noRecord, FitsRecord, AllFit, frameIf, framesIn, SoundRest}
 use Rattle.pciv_bundle_records.proofs.RecordsLaws.{recordCount-end, framesTo, length-framesTo, frames-all}
 use Rattle.pciv_bundle_records.proofs.RecordsLaws.{framesTo-zero, framesTo-frame, framesTo-other}
 use Rattle.pciv_bundle_records.proofs.RecordsLaws.{Header, right-header, right-badRecord, records-done}
-
-abbrev pub noRecord : Record
-noRecord = recordOf 0 []
-
--- its length and its kind fit their fields
-abbrev pub FitsRecord : Record → Type 0
-FitsRecord r = (2 + length (r .payload) < 4294967296) × (r .kind < 65536)
-
-abbrev pub AllFit : List Record → Type 0
-AllFit rs = (i : ℕ) → i < length rs → FitsRecord (getD rs i noRecord)
 
 module _ (r : Record) (rs : List Record) where
   pub allFit-cons : FitsRecord r → AllFit rs → AllFit (r ∷ rs)
@@ -136,14 +124,6 @@ payload-on rs i h =
     (kind-on rs i h) (length-le 2 _) (omega arith)
 
 -- ---- the frames among records
-
-abbrev pub frameIf : Bool → List ℕ → List (List ℕ) → List (List ℕ)
-frameIf true f fs = f ∷ fs
-frameIf false f fs = fs
-
-unfoldable pub framesIn : List Record → List (List ℕ)
-framesIn [] = []
-framesIn (r ∷ rs) = frameIf (eqb (r .kind) 1) (r .payload) (framesIn rs)
 
 pub framesIn-append : (rs ss : List Record) → framesIn (rs ++ ss) ≡ framesIn rs ++ framesIn ss
 unfolding framesIn
@@ -261,9 +241,6 @@ module _ (rs : List Record) (fit : AllFit rs) where
 
 -- ---- record 0
 
-abbrev pub headerOf : ℕ → ℕ → Record
-headerOf n c = recordOf 0 (le 4 n ++ le 2 c)
-
 module _ (n c : ℕ) (rs : List Record) where
   pub records-slotCount : n < 4294967296 → slotCount (recordsBytes (headerOf n c ∷ rs)) ≡ n
   unfolding recordsBytes recordBytes le
@@ -278,14 +255,6 @@ unfolding le
 headerOf-fits n c = (lit< tt, lit< tt)
 
 -- ---- of a header and records behind it
-
--- the records behind the header of a bundle of c frames: as many of kind 1, and none of kind 0
-pub record SoundRest (c : ℕ) (rest : List Record) : Type 0 where
-  pub fit : AllFit rest
-  pub later : (i : ℕ) → i < length rest → getD rest i noRecord .kind ≡ 0 → ⊥
-  pub many : length (framesIn rest) ≡ c
-  pub some : 1 ≤ c
-  pub few : c ≤ 8
 
 module _ (n c : ℕ) (rest : List Record) (sound : SoundRest c rest) where
   abbrev rs : List Record

@@ -22,13 +22,14 @@ use Rattle.pciv_bytes.proofs.LittleEndianLaws.{le-get, get-lt}
 use Rattle.pciv_format.specs.Refusals.{done}
 use Rattle.pciv_bundle_records.specs.Records.{recordAt, recordLen, recordKind, recordPayload, recordCount}
 use Rattle.pciv_bundle_records.specs.Records.{slotCount, frameCount, frames, recordsOutcome}
-use Rattle.pciv_bundle_records.specs.Records.{Record, recordOf, recordBytes, recordsBytes, recordsOf}
+use Rattle.pciv_bundle_records.specs.Records.{Record, recordOf, recordBytes, recordsBytes}
+use Rattle.pciv_bundle_records.specs.Records.{headerOf}
+use Rattle.pciv_bundle_records.specs.RecordList.{noRecord, AllFit, framesIn, SoundRest, recordsOf}
 use Rattle.pciv_bundle_records.specs.declared.BundleCounts.{BundleCounts}
 use Rattle.pciv_bundle_records.proofs.RecordsLaws.{recordAt-next, recordCount-reaches, Right, badRecord-right}
 use Rattle.pciv_bundle_records.proofs.RecordsLaws.{badRecord-later, wrong-right, Accepted, done-accepted}
-use Rattle.pciv_bundle_records.proofs.RecordBytesLaws.{noRecord, AllFit, allFit-rest}
-use Rattle.pciv_bundle_records.proofs.RecordBytesLaws.{recordsBytes-append, recordsBytes-one, framesIn, records-frames}
-use Rattle.pciv_bundle_records.proofs.RecordBytesLaws.{headerOf, SoundRest}
+use Rattle.pciv_bundle_records.proofs.RecordBytesLaws.{allFit-rest}
+use Rattle.pciv_bundle_records.proofs.RecordBytesLaws.{recordsBytes-append, recordsBytes-one, records-frames}
 
 abbrev pub recordIn : List ℕ → ℕ → Record
 recordIn b r = recordOf (recordKind b r) (recordPayload b r)

@@ -12,13 +12,14 @@ use Rattle.pciv_bytes.specs.LittleEndian.{Bytes}
 use Rattle.pciv_bytes.proofs.LittleEndianLaws.{get-lt}
 use Rattle.pciv_format.specs.Refusals.{done}
 use Rattle.pciv_bundle_records.specs.Records.{recordAt, recordCount, slotCount, frameCount, frames, countsIn}
-use Rattle.pciv_bundle_records.specs.Records.{recordsOutcome, Record, recordBytes, recordsBytes, recordsOf}
-use Rattle.pciv_bundle_records.specs.Records.{withRecord}
+use Rattle.pciv_bundle_records.specs.Records.{recordsOutcome, Record, recordBytes, recordsBytes}
+use Rattle.pciv_bundle_records.specs.Records.{headerOf}
+use Rattle.pciv_bundle_records.specs.RecordList.{noRecord, FitsRecord, AllFit, framesIn, SoundRest, recordsOf, withRecord}
 use Rattle.pciv_bundle_records.specs.declared.BundleCounts.{BundleCounts}
 use Rattle.pciv_bundle_records.proofs.RecordsLaws.{done-counts}
-use Rattle.pciv_bundle_records.proofs.RecordBytesLaws.{noRecord, FitsRecord, AllFit, recordsBytes-append}
-use Rattle.pciv_bundle_records.proofs.RecordBytesLaws.{framesIn, framesIn-append, framesIn-other, records-at, records-rest}
-use Rattle.pciv_bundle_records.proofs.RecordBytesLaws.{headerOf, SoundRest, rest-fit, rest-frames, rest-outcome}
+use Rattle.pciv_bundle_records.proofs.RecordBytesLaws.{recordsBytes-append}
+use Rattle.pciv_bundle_records.proofs.RecordBytesLaws.{framesIn-append, framesIn-other, records-at, records-rest}
+use Rattle.pciv_bundle_records.proofs.RecordBytesLaws.{rest-fit, rest-frames, rest-outcome}
 use Rattle.pciv_bundle_records.proofs.RecordListLaws.{length-recordsOf, whole-list, frames-list, sound-list}
 
 -- ---- lists of records

@@ -15,12 +15,11 @@
 --   recordsOutcome b      refusal 14, else the two counts
 --   bundleAnswer          an outcome as a value of the answer's type
 --   Record, recordBytes, recordsBytes rs    a record; its bytes; the bytes of records one after another
+--   headerOf n c          record 0 of a bundle of c frames with n slots
 --   bundleRecords n fs, bundleOf n fs       the records, and the bytes, of the bundle of the frames fs with n slots
---   recordsOf b           the records of b, as a list
---   withRecord b r x      b with a record x put in before its record r, or at its end
 --   PlacedFrame b p fs f    frame f of fs, here from 0, stands in b from `starts` to `ends` of the places p
 --   PlacedFrames b p      all frames of b do
--- Laws are in proofs/. Axioms: none.
+-- Laws are in proofs/RecordsLaws.antt and, of the bytes of records, in RecordBytesLaws.antt. Axioms: none.
 use mathlib.Core.Path.{_≡_}
 use Prim.Native.Nat.{ℕ, zero, suc, _+_, _-_, _≤_, _<_}
 use mathlib.Core.Bool.{Bool, not, cond, _&&_, _||_}
@@ -125,9 +124,12 @@ unfoldable pub recordsBytes : List Record → List ℕ
 recordsBytes [] = []
 recordsBytes (r ∷ rs) = recordBytes r ++ recordsBytes rs
 
+abbrev pub headerOf : ℕ → ℕ → Record
+headerOf n c = recordOf 0 (le 4 n ++ le 2 c)
+
 -- the header, and each frame as a record of kind 1
 unfoldable pub bundleRecords : ℕ → List (List ℕ) → List Record
-bundleRecords n fs = recordOf 0 (le 4 n ++ le 2 (length fs)) ∷ map (recordOf 1) fs
+bundleRecords n fs = headerOf n (length fs) ∷ map (recordOf 1) fs
 
 unfoldable pub bundleOf : ℕ → List (List ℕ) → List ℕ
 bundleOf n fs = recordsBytes (bundleRecords n fs)
@@ -141,12 +143,3 @@ pub record PlacedFrame (b : List ℕ) (p : Places) (fs : List (List ℕ)) (f : �
 
 abbrev pub PlacedFrames : List ℕ → Places → Type 0
 PlacedFrames b p = (f : ℕ) → f < length (frames b) → PlacedFrame b p (frames b) f
-
--- ---- the records of bytes
-
-unfoldable pub recordsOf : List ℕ → List Record
-recordsOf b = table (λ (r : ℕ). recordOf (recordKind b r) (recordPayload b r)) 0 (recordCount b)
-
--- where r is the number of records, it starts at the end
-abbrev pub withRecord : List ℕ → ℕ → Record → List ℕ
-withRecord b r x = take (recordAt b r) b ++ (recordBytes x ++ drop (recordAt b r) b)

@@ -65,7 +65,7 @@ pub fn frame_at(bundle: &[u8], places: Places, f: usize) -> &[u8]
     &bundle[start..end]
 }
 
-// Record 0 is at fault, or there is none: it has 12 bytes, with kind 0, length 8 and a frame count from 1 to 8.
+// Whether record 0 is at fault or missing. A right one has 12 bytes, kind 0, length 8 and a frame count from 1 to 8.
 fn bad_header(bundle: &[u8]) -> bool
     ensures { λ r. ⌜ r ≡ (ltb (length (now (bundle .entry))) 12 || badHeader (now (bundle .entry))) ⌝ }
 {
@@ -87,7 +87,7 @@ fn bad_header(bundle: &[u8]) -> bool
     MAX_FRAMES < count
 }
 
-// A record behind record 0 is at fault, which starts at `at`, where `found` of `count` frames stand before it.
+// Whether the record that starts at `at`, behind record 0 and `found` of `count` frames, is at fault.
 fn wrong_record(bundle: &[u8], at: usize, found: usize, count: usize) -> bool
     requires { ⌜ at < length (now bundle) ⌝ }
     ensures { λ r. ⌜ r ≡ wrongRecord (now (bundle .entry)) at found count ⌝ }
