@@ -2,7 +2,7 @@
 --   headerBytes n count, framesBytes fs    the bytes of record 0, and of the frames as records
 --   length-bundleOf                 the length of a bundle, which does not depend on n
 --   Counted fs f len                len are the bytes of record 0 and the first f frames
---   counted-start, -more, -end      no frame, one more, and all
+--   counted-start, -more, -small, -end    no frame, one more, how few bytes with it, and all
 --   Putting fs out₀ out at f        the first f frames are written, up to `at`: what is left to write makes the whole
 --   putting-start, -space, -more, -end    no frame, space for one, one more, and all
 --   sets-bundle                     record 0, then the frames
@@ -77,6 +77,11 @@ module _ (fs : List (List ℕ)) (f len : ℕ) (c : Counted fs f len) where
         rest = omega (arith, c .rest, length-more fs f h, ap length e);
         small = omega (arith, c .small, short f h, ap length e);
       }
+
+  -- up to eight frames stay far below the largest number
+  pub counted-small : ShortFrames fs → f < length fs → length fs ≤ 8 → (frame : List ℕ) → frame ≡ getD fs f []
+      → len + (6 + length frame) < 2 ^ 40
+  counted-small short h few frame e = omega (arith, c .small, short f h, ap length e)
 
   pub counted-end : length fs ≤ f → (n : ℕ) → len ≡ length (bundleOf n fs)
   counted-end h n = omega (arith, c .rest, ap length (framesBytes-end fs f h), length-bundleOf n fs)

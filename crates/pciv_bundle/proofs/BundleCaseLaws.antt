@@ -21,10 +21,11 @@ use lib.ListN.{length, getD, take}
 use lib.Seq.{sets, getD-take}
 use borrow.Author.Tests.{le-leb, lt-leb, lt-ltb, le-ltb}
 use Rattle.pciv_bytes.proofs.WriteLaws.{sets-front}
-use Rattle.pciv_format.specs.Refusals.{done, refused, refuse}
+use Rattle.pciv_format.specs.Refusals.{done, refused, refuse, andThen}
 use Rattle.pciv_format.specs.Check.{nField}
 use Rattle.pciv_format.specs.declared.Refusal.{Refusal}
 use Rattle.pciv_format.proofs.RefusalsLaws.{andThen-done}
+use Rattle.pciv_format.specs.Read.{itemsInto}
 use Rattle.pciv_format.proofs.ReadLaws.{items-fit, items-short}
 use Rattle.pciv_bundle_records.specs.Records.{frames, slotCount, recordsOutcome, bundleOf}
 use Rattle.pciv_bundle_records.specs.declared.BundleCounts.{BundleCounts}
@@ -143,10 +144,16 @@ module _ (fs : List (List ℕ)) (count : ℕ) where
           | no short ↦ framesOutcome-any n (usedSlots fs) (take count fs) (rw all some) (omega arith)
         ]
 
+    -- what is left to refuse
+    past-count : (capacity : ℕ) → bundleWriteOutcome fs count capacity
+        ≡ andThen (framesOutcome (usedSlots fs) (take count fs))
+        (λ n. itemsInto (length (bundleOf n (take count fs))) capacity)
+    unfolding bundleWriteOutcome
+    past-count capacity = rw (le-ltb count 1 some, le-ltb 8 count few)
+
     pub write-refused : (capacity : ℕ) (r : Refusal) → framesOutcome (usedSlots fs) (take count fs) ≡ refused r
         → bundleWriteOutcome fs count capacity ≡ refused r
-    unfolding bundleWriteOutcome
-    write-refused capacity r e = rw (le-ltb count 1 some, le-ltb 8 count few, e)
+    write-refused capacity r e = past-count capacity ∙ rw e
 
     module _ (n : ℕ) (e : framesOutcome (usedSlots fs) (take count fs) ≡ done n) where
       pub write-n : length (take count fs) ≡ count → n < 2 ^ 32
@@ -157,15 +164,13 @@ module _ (fs : List (List ℕ)) (count : ℕ) where
 
       pub write-short : (capacity : ℕ) → capacity < length (bundleOf n (take count fs))
           → bundleWriteOutcome fs count capacity ≡ refuse 12 0 0
-      unfolding bundleWriteOutcome
       write-short capacity h =
-          rw (le-ltb count 1 some, le-ltb 8 count few, e) (items-short (length (bundleOf n (take count fs))) capacity h)
+          past-count capacity ∙ rw e (items-short (length (bundleOf n (take count fs))) capacity h)
 
       pub write-done : (capacity : ℕ) → length (bundleOf n (take count fs)) ≤ capacity
           → bundleWriteOutcome fs count capacity ≡ done (length (bundleOf n (take count fs)))
-      unfolding bundleWriteOutcome
       write-done capacity h =
-          rw (le-ltb count 1 some, le-ltb 8 count few, e) (items-fit (length (bundleOf n (take count fs))) capacity h)
+          past-count capacity ∙ rw e (items-fit (length (bundleOf n (take count fs))) capacity h)
 
       pub write-buffer : (out : List ℕ) → length (bundleOf n (take count fs)) ≤ length out
           → sets out 0 (bundleOf n (take count fs)) ≡ bundleWriteBuffer fs count out

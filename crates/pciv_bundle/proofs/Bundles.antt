@@ -4,7 +4,7 @@
 --   WrittenRead, bundle-written-read    the writer is done, and what it left is read as those files
 --   rowOfLists xss slot        the distance at a slot in each of eight lists, 0 for those that are absent
 --   row-at, row-absent         its elements; 0 from the number of lists on
---   bundle-row, bundle-row-outside    the row of such a bundle; of a slot that it does not have
+--   bundle-row                 the row of such a bundle
 --   nearestOfLists n xss       the nearest distance of every slot over those lists
 --   NearestWritten, bundle-nearest    the nearest list of such a bundle, and the caller's list afterwards
 -- Axioms: none.
@@ -16,24 +16,23 @@ use native.Mathlib.Decide.{decLe}
 use mathlib.Core.List.{List, [], _∷_, _++_, map}
 use lib.ListN.{length, getD, take, drop, length-map, List·getD-eq-default}
 use lib.Seq.{take-at, drop-at, getD-take}
-use borrow.Author.Tests.{le-ltb, le-leb, lt-leb}
 use Rattle.pciv_bytes.specs.Ranges.{table}
 use Rattle.pciv_bytes.proofs.RangesLaws.{getD-map, getD-table, table-cong}
 use Rattle.pciv_format.specs.Layout.{at, fileOf, Limits}
-use Rattle.pciv_format.specs.Refusals.{done, refuse, written}
+use Rattle.pciv_format.specs.Refusals.{done, written}
 use Rattle.pciv_format.specs.Check.{nField}
-use Rattle.pciv_format.specs.Read.{listOf, itemsInto}
+use Rattle.pciv_format.specs.Read.{itemsInto}
 use Rattle.pciv_format.proofs.Acceptance.{file-read}
-use Rattle.pciv_format.proofs.ReadLaws.{items-fit}
 use Rattle.pciv_bundle_records.specs.Records.{frames, slotCount, bundleOf}
 use Rattle.pciv_bundle_records.proofs.RecordBytesLaws.{bundleOf-frames, bundleOf-sound, bundleOf-slotCount}
 use Rattle.pciv_bundle_frames.specs.Frames.{framesOutcome, rowOf}
 use Rattle.pciv_bundle_frames.proofs.FramesLaws.{frames-checked, frames-small}
 use Rattle.pciv_bundle_frames.proofs.FrameFileLaws.{FrameFile, file-frame, files-done}
-use Rattle.pciv_bundle_frames.proofs.RowLaws.{absent-zero}
+use Rattle.pciv_bundle_frames.proofs.RowLaws.{rowAt, absent-zero}
 use Rattle.pciv_bundle_nearest.specs.Nearest.{nearestOf, distancesAt, nearestAt, nearestList}
 use Rattle.pciv_bundle.specs.Bundle.{bundleOutcome, rowOutcome, nearestOutcome, nearestBuffer, usedSlots}
 use Rattle.pciv_bundle.specs.Bundle.{bundleWriteOutcome, bundleWriteBuffer}
+use Rattle.pciv_bundle.proofs.BundleCaseLaws.{bundle-done, row-inside, write-done}
 
 -- lists that a bundle of n slots can hold
 pub record Bundled (xss : List (List ℕ)) (n : ℕ) : Type 0 where
@@ -125,14 +124,9 @@ module _ (xss : List (List ℕ)) (n : ℕ) (l : Bundled xss n) where
   slots-are = bundleOf-slotCount n files n-small
 
   counts : bundleOutcome b ≡ done (record { slots = n; frames = length xss })
-  unfolding bundleOutcome
   counts =
-      rw (
-        bundleOf-sound n files (λ f h. small f h .1) first (omega (arith, count, l .few)) n-small,
-        frames-are,
-        frames-done,
-        count,
-      )
+      let records = bundleOf-sound n files (λ f h. small f h .1) first (omega (arith, count, l .few)) n-small in
+      bundle-done b _ (rw count at records) n (rw frames-are frames-done)
 
   -- ---- written and read
 
@@ -144,28 +138,22 @@ module _ (xss : List (List ℕ)) (n : ℕ) (l : Bundled xss n) where
         ∙ ap (λ (l : List (List ℕ)). getD l 0 []) given)
         ∙ frames-checked n files n frames-done 0 first .header .nIs
 
-    write-done : (capacity : ℕ) → length b ≤ capacity
-        → bundleWriteOutcome fs (length xss) capacity ≡ done (length b)
-    unfolding bundleWriteOutcome
-    write-done capacity fits =
-        rw (
-          le-ltb (length xss) 1 (l .some),
-          le-ltb 8 (length xss) (l .few),
-          given,
-          used,
-          frames-done,
-        )
-        (items-fit (length b) capacity fits)
+    frames-given : framesOutcome (usedSlots fs) (take (length xss) fs) ≡ done n
+    frames-given = rw (used, given) frames-done
+
+    write-is : (capacity : ℕ) → length b ≤ capacity → bundleWriteOutcome fs (length xss) capacity ≡ done (length b)
+    write-is capacity fits =
+        rw given at (write-done fs (length xss) (l .some) (l .few) n frames-given capacity (rw given fits))
 
     module _ (out : List ℕ) (fits : length (bundleOfLists n xss) ≤ length out) where
       buffer-is : bundleWriteBuffer fs (length xss) out ≡ b ++ drop (length b) out
       unfolding bundleWriteBuffer
-      buffer-is = rw (write-done (length out) fits, given, used)
+      buffer-is = rw (write-is (length out) fits, given, used)
 
       pub bundle-written-read : WrittenRead xss n fs out
       bundle-written-read =
           record {
-            answer = write-done (length out) fits;
+            answer = write-is (length out) fits;
             front = rw buffer-is (take-at b (drop (length b) out) (length b) refl);
             rest = rw buffer-is (drop-at b (drop (length b) out) (length b) refl);
             counts = counts;
@@ -174,7 +162,7 @@ module _ (xss : List (List ℕ)) (n : ℕ) (l : Bundled xss n) where
 
   -- ---- the row of a slot
 
-  row-is : (slot f : ℕ) → at (listOf (getD files f [])) slot ≡ at (getD xss f []) slot
+  row-is : (slot f : ℕ) → rowAt files slot f ≡ at (getD xss f []) slot
   row-is slot f =
       elim (decLe (length xss) f) [
         | yes absent ↦
@@ -186,14 +174,10 @@ module _ (xss : List (List ℕ)) (n : ℕ) (l : Bundled xss n) where
       ]
 
   pub bundle-row : (slot : ℕ) → slot < n → rowOutcome (bundleOfLists n xss) slot ≡ done (rowOfLists xss slot)
-  unfolding rowOutcome rowOf
+  unfolding rowOf
   bundle-row slot inside =
-      rw (counts, lt-leb n slot inside, frames-are)
-      (ap done (table-cong _ _ 0 8 (λ f h. row-is slot f)))
-
-  pub bundle-row-outside : (slot : ℕ) → n ≤ slot → rowOutcome (bundleOfLists n xss) slot ≡ refuse 9 0 0
-  unfolding rowOutcome
-  bundle-row-outside slot outside = rw (counts, le-leb n slot outside)
+      row-inside b _ counts slot inside
+      ∙ ap done (rw frames-are (table-cong _ _ 0 8 (λ f h. row-is slot f)))
 
   -- ---- the nearest distance of every slot
 

@@ -13,25 +13,23 @@ use Prim.Native.Nat.{ℕ, zero, suc, _+_, _≤_, _<_, _^_}
 use native.Mathlib.Nat.{add-zero}
 use native.Mathlib.Numerals.{add-one}
 use native.Mathlib.Omega.{arith}
-use native.Mathlib.Decide.{decLe}
-use mathlib.Core.Bool.{Bool, true, false, not, cond, _&&_}
+use mathlib.Core.Bool.{false}
 use mathlib.Core.List.{List, [], _∷_}
 use lib.ListN.{length, getD, drop, drop-of-length-le}
 use lib.Seq.{drop-cons}
 use lib.Dec.{ltb, eqb}
-use borrow.Author.Tests.{lt-ltb, ltb-false, eqb-true, eqb-false}
+use borrow.Author.Tests.{lt-ltb, ltb-false}
 use Rattle.pciv_bytes.specs.Ranges.{firstBelow}
-use Rattle.pciv_bytes.proofs.RangesLaws.{firstBelow-none, firstBelow-at, firstBelow-le, firstBelow-clear}
-use Rattle.pciv_bytes.proofs.RangesLaws.{firstBelow-has, firstBelow-all}
+use Rattle.pciv_bytes.proofs.RangesLaws.{firstBelow-none, firstBelow-le, firstBelow-all, firstBelow-more}
 use Rattle.pciv_format.specs.Layout.{fileLen, countsOf}
-use Rattle.pciv_format.specs.Refusals.{Outcome, done, refused, refuse, refuseIf, andThen, numberAnswer}
+use Rattle.pciv_format.specs.Refusals.{done, refuse, refuseIf, andThen, numberAnswer}
 use Rattle.pciv_format.specs.Check.{nField, kField, countsFile, checkHeader, checkWith, otherLength, CheckedMap}
 use Rattle.pciv_format.specs.declared.Counts.{Counts}
 use Rattle.pciv_format.specs.declared.Refusal.{Refusal}
 use Rattle.pciv_format.specs.declared.NumberAnswer.{NumberAnswer}
 use Rattle.pciv_format.specs.declared.NumberAnswer.the-variants as InNumber
 use Rattle.pciv_format.proofs.PartsLaws.{not-eqb}
-use Rattle.pciv_format.proofs.RefusalsLaws.{refuseIf-done, andThen-done, numberAnswer-number, numberAnswer-refused}
+use Rattle.pciv_format.proofs.RefusalsLaws.{refuseIf-done, andThen-done, andThen-refused, numberAnswer-number, numberAnswer-refused}
 use Rattle.pciv_format.proofs.LayoutLaws.{fileLen-is, indexLen-le, indexStep-le}
 use Rattle.pciv_format.proofs.CheckLaws.{Accepted, done-countsFile, accepted-length}
 use Rattle.pciv_bundle_frames.specs.Frames.{soundFrames, otherSlots, firstOther, framesOutcome}
@@ -52,47 +50,17 @@ passed-none n fs =
       least = sym (firstBelow-none (otherSlots n fs) 0 (λ j h. absurd (omega arith)));
     }
 
--- the least number below f + 1 with p, from that below f
-least-more : (p : ℕ → Bool) (f : ℕ) (t : Bool) → p f ≡ not t
-    → cond (eqb (firstBelow p f) f && t) (f + 1) (firstBelow p f) ≡ firstBelow p (f + 1)
-least-more p f t e = go (eqb (firstBelow p f) f) t refl e
-  where
-    go : (b t : Bool) → eqb (firstBelow p f) f ≡ b → p f ≡ not t
-        → cond (b && t) (f + 1) (firstBelow p f) ≡ firstBelow p (f + 1)
-    go true true all e =
-        let z : firstBelow p f ≡ f = eqb-true (firstBelow p f) f all in
-        sym (firstBelow-none p (f + 1) (λ j h.
-        elim (decLe f j) [
-          | yes d ↦ (let q : j ≡ f = omega arith in rw (q, e))
-          | no d ↦ firstBelow-all p f j (omega arith) (omega arith)
-        ]))
-    go true false all e =
-        let z : firstBelow p f ≡ f = eqb-true (firstBelow p f) f all in
-        z ∙ sym (firstBelow-at p (f + 1) f (omega arith) (λ j h. firstBelow-all p f j (omega arith) h) e)
-    go false t some e =
-        let below : firstBelow p f < f =
-        elim (decLe f (firstBelow p f)) [
-          | yes d ↦ absurd (eqb-false (firstBelow p f) f some (omega (arith, firstBelow-le p f)))
-          | no d ↦ omega arith
-        ] in
-        sym (firstBelow-at p (f + 1) (firstBelow p f) (omega arith) (firstBelow-clear p f) (firstBelow-has p f below))
-
 -- the counts of a sound frame have its slots
 slots-are : (mp : ℕ) (b : List ℕ) (s : Counts) → countsFile mp b ≡ done s → s .n ≡ nField b
 unfolding countsOf
 slots-are mp b s e = ap (λ (z : Counts). z .n) (done-countsFile mp b s e .counts)
-
-andThen-refused : {A B : Type 0} (o : Outcome A) (f : A → B) (r : Refusal) → andThen o (λ a. done (f a)) ≡ refused r
-    → o ≡ refused r
-andThen-refused (done a) f r e = cc
-andThen-refused (refused x) f r e = cc
 
 module _ {n : ℕ} {fs : List (List ℕ)} {f other : ℕ} (e : Passed n fs f other) where
   next-least : (s : Counts) → countsFile (f + 1) (getD fs f []) ≡ done s
       → nextOther n f other (s .n) ≡ firstBelow (otherSlots n fs) (f + 1)
   next-least s q =
       rw (e .least, slots-are (f + 1) (getD fs f []) s q)
-      (least-more (otherSlots n fs) f (eqb (nField (getD fs f [])) n) refl)
+      (firstBelow-more (otherSlots n fs) f (eqb (nField (getD fs f [])) n) refl)
 
   module _ (more : f < length fs) where
     step : soundFrames 1 fs

@@ -3,7 +3,6 @@
 -- Axioms: none.
 use mathlib.Core.Path.{_≡_, refl, sym, ap, _∙_}
 use Prim.Native.Nat.{ℕ, suc, _+_, _-_, _≤_, _<_, min}
-use native.Mathlib.Nat.{zero-add}
 use native.Mathlib.Omega.{arith}
 use native.Mathlib.Decide.{decLe}
 use mathlib.Core.List.{List, [], _∷_, foldl}
@@ -11,8 +10,7 @@ use lib.ListN.{length}
 use lib.Seq.{sets, ext-getD, length-sets}
 use Rattle.pciv_bytes.specs.LittleEndian.{Bytes}
 use Rattle.pciv_bytes.specs.Ranges.{table}
-use Rattle.pciv_bytes.proofs.RangesLaws.{length-table, getD-table}
-use Rattle.pciv_bytes.proofs.WriteLaws.{getD-sets, getD-sets-above}
+use Rattle.pciv_bytes.proofs.WriteLaws.{sets-table-at, sets-table-above}
 use Rattle.pciv_format.specs.Layout.{maxDistance, at}
 use Rattle.pciv_format.specs.Parts.{Parts, valueOf}
 use Rattle.pciv_format.specs.Check.{kField, fileParts, CheckedMap}
@@ -83,17 +81,6 @@ entries-nearest (b ∷ fs) n i y checked bytes inside =
 
 -- ---- the whole list
 
--- a table at the front of a list
-module _ (g : ℕ → ℕ) (n : ℕ) (d : List ℕ) (long : n ≤ length d) where
-  front-at : (i : ℕ) → i < n → at (sets d 0 (table g 0 n)) i ≡ g i
-  front-at i h =
-      ap (at (sets d 0 (table g 0 n))) (sym (zero-add i))
-      ∙ getD-sets (table g 0 n) d 0 0 i (rw length-table h) (rw length-table (omega arith))
-      ∙ getD-table g 0 0 n i h ∙ ap g (zero-add i)
-
-  front-rest : (i : ℕ) → n ≤ i → at (sets d 0 (table g 0 n)) i ≡ at d i
-  front-rest i h = getD-sets-above (table g 0 n) d 0 i (rw length-table (omega arith))
-
 module _ (fs : List (List ℕ)) (n : ℕ) (checked : CheckedFrames fs n) (bytes : AllBytes fs) where
   nearest-made : (i : ℕ) → i < n → foldl (entryStep n i) (nearestByte fs i) fs ≡ nearestAt fs i
   nearest-made i inside =
@@ -109,12 +96,12 @@ module _ (fs : List (List ℕ)) (n : ℕ) (checked : CheckedFrames fs n) (bytes 
       ext-getD 0 new (sets old 0 (table (nearestAt fs) 0 n)) (c .same ∙ ap length is ∙ simp length-sets)
       (λ i h.
       elim (decLe n i) [
-        | yes past ↦ c .rest i past ∙ ap (λ (l : List ℕ). at l i) is ∙ front-rest (nearestByte fs) n old long i past
-            ∙ sym (front-rest (nearestAt fs) n old long i past)
+        | yes past ↦ c .rest i past ∙ ap (λ (l : List ℕ). at l i) is ∙ sets-table-above (nearestByte fs) n old i past
+            ∙ sym (sets-table-above (nearestAt fs) n old i past)
         | no d ↦ (let inside : i < n = omega arith in
             c .each i inside
             ∙ ap (λ (l : List ℕ). foldl (entryStep n i) (at l i) fs) is
-            ∙ ap (λ (x : ℕ). foldl (entryStep n i) x fs) (front-at (nearestByte fs) n old long i inside)
+            ∙ ap (λ (x : ℕ). foldl (entryStep n i) x fs) (sets-table-at (nearestByte fs) n old long i inside)
             ∙ nearest-made i inside
-            ∙ sym (front-at (nearestAt fs) n old long i inside))
+            ∙ sym (sets-table-at (nearestAt fs) n old long i inside))
       ])

@@ -1,11 +1,12 @@
--- Proves pciv_bundle_frames::row_of. Invariant: the distances of the frames below f stand in the row, and zeros behind
--- them (`Filled`, RowLaws.antt). Falls: count - f.
+-- Proves pciv_bundle_frames::row_of. Invariant: writing the distances of all frames is writing those from frame f on.
+-- Falls: count - f.
 use mathlib.Core.Path.{_≡_, sym, ap, _∙_}
 use Prim.Native.Nat.{ℕ, _≤_, _<_, _-_}
 use native.Mathlib.Omega.{arith}
 use mathlib.Core.List.{List, []}
 use lib.ListN.{length, getD}
 use denote.Ref as R
+use Rattle.pciv_bytes.proofs.WriteLaws.{Left, left-start, left-more, left-end}
 use Rattle.pciv_format.specs.Layout.{at}
 use Rattle.pciv_format.specs.Read.{listOf}
 use Rattle.pciv_format.specs.Check.{kField, CheckedMap}
@@ -14,18 +15,19 @@ use Rattle.pciv_format.proofs.CheckLaws.{checked-length}
 use Rattle.pciv_format.proofs.ReadLaws.{at-list}
 use Rattle.pciv_bundle_records.specs.Records.{frames}
 use Rattle.pciv_bundle_frames.proofs.FramesLaws.{frame-checked}
-use Rattle.pciv_bundle_frames.proofs.RowLaws.{Filled, filled-none, filled-more, filled-end}
+use Rattle.pciv_bundle_frames.proofs.RowLaws.{rowAt, row-filled}
 use Rattle.pciv_bundle_frames.proofs.row_of.Statement.{statement}
 use Rattle.pciv_bundle_frames.proofs.row_of.Tie as tie
 
 abbrev Inv-loop : tie.InvT-loop
-Inv-loop bundle places count n slot row₀ f₀ row f = (f ≤ count) × Filled (frames bundle) slot f row
+Inv-loop bundle places count n slot row₀ f₀ row f =
+    (f ≤ count) × Left (rowAt (frames bundle) slot) (length (frames bundle)) row₀ row f
 
 abbrev μ-loop : tie.MeasureT-loop
 μ-loop bundle places count n slot row₀ f₀ row f = count - f
 
 loop-holds : tie.Need-loop-holds Inv-loop μ-loop
-loop-holds c = (omega arith, filled-none _ _)
+loop-holds c = (omega arith, left-start _ _ _)
 
 -- frame f is there
 there : (c : tie.In-loop Inv-loop μ-loop)
@@ -56,7 +58,7 @@ located c = rw (c .get64 .ensures) (checked (c .before))
 distance : (c : tie.After-locate Inv-loop μ-loop)
     → (let l = c .before .before .before .before in
     let a = l .before .before .args in
-    c .locate .result .distance ≡ at (listOf (getD (frames (a .bundle .now)) (l .loop .f) [])) (a .slot))
+    c .locate .result .distance ≡ rowAt (frames (a .bundle .now)) (a .slot) (l .loop .f))
 distance c =
     let g = c .before .before in
     let s = g .before .before .before .before in
@@ -90,12 +92,13 @@ loop-less c = omega arith
 loop-again : tie.Need-loop-again Inv-loop μ-loop
 loop-again c =
     let l = c .before .before .before in
-    (omega (arith, l .loop-test .taken), filled-more (l .before .loop .inv .1) (array-write-row c) _ (distance c))
+    (omega (arith, l .loop-test .taken), left-more (l .before .loop .inv .1) _ (there l) (distance c))
 
 returns : tie.Need-returns Inv-loop μ-loop
 returns c =
     let s = c .before .before .before in
-    filled-end (c .before .loop .inv .1) (omega (arith, c .loop-test .left, s .pre .0 .1))
+    row-filled (frames (s .args .bundle .now)) (s .args .slot) _ (omega (arith, s .pre .0 .0, s .pre .0 .1))
+    (left-end (c .before .loop .inv .1) (omega (arith, c .loop-test .left, s .pre .0 .1)))
 
 pub row-of-spec : {M : Type 1} → statement M
 row-of-spec =

@@ -1,12 +1,12 @@
 -- Proves pciv_bundle::write::bundle_len. Invariant: the bytes that are counted are those of record 0 and of the first f
 -- frames. Falls: count - f.
-use mathlib.Core.Path.{_≡_, ap}
+use mathlib.Core.Path.{_≡_}
 use Prim.Native.Nat.{ℕ, _+_, _-_, _^_, _<_}
 use native.Mathlib.Omega.{arith}
 use mathlib.Core.List.{List, []}
 use lib.ListN.{length, getD}
-use Rattle.pciv_bundle.proofs.BundleBytesLaws.{Counted, counted-start, counted-more, counted-end}
-use Rattle.pciv_bundle_frames.proofs.LentLaws.{used, used-length, used-at}
+use Rattle.pciv_bundle.proofs.BundleBytesLaws.{Counted, counted-start, counted-more, counted-small, counted-end}
+use Rattle.pciv_bundle_frames.proofs.LentLaws.{noFrame, used, used-length, used-at}
 use Rattle.pciv_bundle.proofs.write.bundle_len.Statement.{statement}
 use Rattle.pciv_bundle.proofs.write.bundle_len.Tie as tie
 
@@ -30,24 +30,26 @@ module _ (c : tie.In-loop Inv-loop μ-loop) where
   abbrev fs : List (List ℕ)
   fs = let a = c .before .before .args in used (a .frames .now) (a .count)
 
+  all : length fs ≡ c .before .before .args .count
+  all = let s = c .before .before in used-length (s .args .frames .now) (s .args .count) (s .pre .1) (s .pre .0)
+
   more : c .before .loop .f < length fs
-  more = let s = c .before .before in rw (used-length _ _ (s .pre .1) (s .pre .0)) (c .loop-test .taken)
+  more = rw all (c .loop-test .taken)
 
-  small : c .before .loop .len + (6 + length (getD fs (c .before .loop .f) [])) < 2 ^ 40
-  small =
-      let s = c .before .before in
-      omega (arith, c .before .loop .inv .small, c .loop-test .taken, s .pre .0, s .pre .2 (c .before .loop .f) more)
-
-  here :
-      getD (c .before .before .args .frames .now) (c .before .loop .f) (record { ptr = (0, 0); name = 0; now = [] }) .now
-      ≡ getD fs (c .before .loop .f) []
+  here : getD (c .before .before .args .frames .now) (c .before .loop .f) noFrame .now ≡ getD fs (c .before .loop .f) []
   here = let a = c .before .before .args in used-at (a .frames .now) (a .count) _ (c .loop-test .taken)
 
+  small : c .before .loop .len
+      + (6 + length (getD (c .before .before .args .frames .now) (c .before .loop .f) noFrame .now)) < 2 ^ 40
+  small =
+      let s = c .before .before in
+      counted-small fs _ _ (c .before .loop .inv) (s .pre .2) more (rw all (s .pre .0)) _ here
+
 add-len : tie.Need-add-len Inv-loop μ-loop
-add-len c = omega (arith, small (c .before), ap length (here (c .before)))
+add-len c = omega (arith, small (c .before))
 
 add-len-2 : tie.Need-add-len-2 Inv-loop μ-loop
-add-len-2 c = omega (arith, small (c .before), ap length (here (c .before)))
+add-len-2 c = omega (arith, small (c .before))
 
 add-f : tie.Need-add-f Inv-loop μ-loop
 add-f c = omega arith

@@ -5,9 +5,9 @@ use native.Mathlib.Omega.{arith}
 use mathlib.Core.List.{List, []}
 use lib.ListN.{length, getD}
 use lib.Seq.{length-sets}
-use Rattle.pciv_bundle.proofs.BundleBytesLaws.{framesBytes, length-bundleOf, sets-bundle}
+use Rattle.pciv_bundle.proofs.BundleBytesLaws.{framesBytes, length-bundleOf, counted-small, sets-bundle}
 use Rattle.pciv_bundle.proofs.BundleBytesLaws.{Putting, putting-start, putting-space, putting-more, putting-end}
-use Rattle.pciv_bundle_frames.proofs.LentLaws.{used, used-length, used-at}
+use Rattle.pciv_bundle_frames.proofs.LentLaws.{noFrame, used, used-length, used-at}
 use Rattle.pciv_bundle.proofs.write.put_bundle.Statement.{statement}
 use Rattle.pciv_bundle.proofs.write.put_bundle.Tie as tie
 
@@ -41,22 +41,25 @@ shared-slice-copy-out-frame c = omega arith
 same : (l : tie.At-loop Inv-loop μ-loop) → length (l .loop .out) ≡ length (entry l .args .out .now)
 same l = l .loop .inv .same ∙ ap length (l .before .before .before .put-header .ensures) ∙ simp length-sets
 
--- frame f is one of those that are used, and with it what is written stays small
+-- all frames that are used are there
+all : (s : tie.Start Inv-loop μ-loop) → length (fs s) ≡ s .args .count
+all s = used-length (s .args .frames .now) (s .args .count) (s .pre .0 .1) (s .pre .0 .0)
+
+-- frame f is one of them, and with it what is written stays small
 module _ (c : tie.In-loop Inv-loop μ-loop) where
+  abbrev frame : List ℕ
+  frame = getD (entry (c .before) .args .frames .now) (c .before .loop .f) noFrame .now
+
   more : c .before .loop .f < length (fs (entry (c .before)))
-  more =
-      let s = entry (c .before) in rw (used-length _ _ (s .pre .0 .1) (s .pre .0 .0)) (c .loop-test .taken)
+  more = rw (all (entry (c .before))) (c .loop-test .taken)
 
-  short : 2 + length (getD (fs (entry (c .before))) (c .before .loop .f) []) < 2 ^ 32
-  short = entry (c .before) .pre .0 .2 (c .before .loop .f) more
-
-  small : c .before .loop .at + (6 + length (getD (fs (entry (c .before))) (c .before .loop .f) [])) < 2 ^ 40
-  small = omega (arith, c .before .loop .inv .counted .small, c .loop-test .taken, entry (c .before) .pre .0 .0, short)
-
-  here :
-      getD (entry (c .before) .args .frames .now) (c .before .loop .f) (record { ptr = (0, 0); name = 0; now = [] }) .now
-      ≡ getD (fs (entry (c .before))) (c .before .loop .f) []
+  here : frame ≡ getD (fs (entry (c .before))) (c .before .loop .f) []
   here = let a = entry (c .before) .args in used-at (a .frames .now) (a .count) _ (c .loop-test .taken)
+
+  small : c .before .loop .at + (6 + length frame) < 2 ^ 40
+  small =
+      let s = entry (c .before) in
+      counted-small (fs s) _ _ (c .before .loop .inv .counted) (s .pre .0 .2) more (rw (all s) (s .pre .0 .0)) _ here
 
 put-frame-requires : tie.Need-put-frame-requires Inv-loop μ-loop
 put-frame-requires c κs =
@@ -65,18 +68,18 @@ put-frame-requires c κs =
     let fits : 12 + length (framesBytes (fs s)) ≤ length (x .before .loop .out) =
     omega (arith, s .pre .1 .1, length-bundleOf (s .args .n) (fs s), same (x .before)) in (
       putting-space _ _ _ _ _ (x .before .loop .inv) (more x) _ (here x) fits,
-      omega (arith, short x, ap length (here x)),
+      omega (arith, s .pre .0 .2 _ (more x), ap length (here x)),
     )
 
 add-at : tie.Need-add-at Inv-loop μ-loop
 add-at c =
     let x = c .before .before .before .before .before in
-    omega (arith, small x, ap length (here x))
+    omega (arith, small x)
 
 add-at-2 : tie.Need-add-at-2 Inv-loop μ-loop
 add-at-2 c =
     let x = c .before .before .before .before .before in
-    omega (arith, small x, ap length (here x))
+    omega (arith, small x)
 
 add-f : tie.Need-add-f Inv-loop μ-loop
 add-f c = omega arith
@@ -97,9 +100,8 @@ returns : tie.Need-returns Inv-loop μ-loop
 returns c =
     let l = c .before in
     let s = entry l in
-    let all = used-length (s .args .frames .now) (s .args .count) (s .pre .0 .1) (s .pre .0 .0) in
-    putting-end _ _ _ _ _ (l .loop .inv) (rw all (c .loop-test .left))
-    ∙ sets-bundle (s .args .n) (fs s) (s .args .out .now) _ (rw all (l .before .before .before .put-header .ensures))
+    putting-end _ _ _ _ _ (l .loop .inv) (rw (all s) (c .loop-test .left))
+    ∙ sets-bundle (s .args .n) (fs s) (s .args .out .now) _ (rw (all s) (l .before .before .before .put-header .ensures))
 
 pub put-bundle-spec : {M : Type 1} → statement M
 put-bundle-spec =
