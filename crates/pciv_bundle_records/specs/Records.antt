@@ -26,7 +26,7 @@ use mathlib.Core.Bool.{Bool, not, cond, _&&_, _||_}
 use mathlib.Core.List.{List, [], _∷_, _++_, map}
 use lib.ListN.{length, getD, take, drop}
 use lib.Dec.{ltb, leb, eqb}
-use Rattle.pciv_bytes.specs.Ranges.{firstBelow, table, positions}
+use Rattle.pciv_bytes.specs.Ranges.{firstBelow, positions}
 use Rattle.pciv_bytes.specs.LittleEndian.{le, get}
 use Rattle.pciv_format.specs.Refusals.{Outcome, done, refused, refuse, refuseIf, refuseFirst}
 use Rattle.pciv_bundle_records.specs.declared.BundleCounts.{BundleCounts}
