@@ -26,9 +26,8 @@ use Rattle.pciv_bundle_records.specs.Records.{Record, recordOf, recordBy
 use Rattle.pciv_bundle_records.specs.declared.BundleCounts.{BundleCounts}
 use Rattle.pciv_bundle_records.proofs.RecordsLaws.{recordAt-next, recordCount-reaches, Right, badRecord-right}
 use Rattle.pciv_bundle_records.proofs.RecordsLaws.{badRecord-later, wrong-right, Accepted, done-accepted}
-use Rattle.pciv_bundle_records.proofs.RecordBytesLaws.{noRecord, AllFit, allFit-rest}
-use Rattle.pciv_bundle_records.proofs.RecordBytesLaws.{recordsBytes-append, recordsBytes-one, framesIn, records-frames}
-use Rattle.pciv_bundle_records.proofs.RecordBytesLaws.{headerOf, SoundRest}
+use Rattle.pciv_bundle_records.proofs.RecordBytesLaws.{noRecord, AllFit, allFit-rest, recordsBytes-append}
+use Rattle.pciv_bundle_records.proofs.RecordBytesLaws.{recordsBytes-one, framesIn, records-frames, headerOf, SoundRest}
 
 abbrev pub recordIn : List ℕ → ℕ → Record
 recordIn b r = recordOf (recordKind b r) (recordPayload b r)

@@ -17,8 +17,9 @@ use Rattle.pciv_bundle_records.specs.Records.{withRecord}
 use Rattle.pciv_bundle_records.specs.declared.BundleCounts.{BundleCounts}
 use Rattle.pciv_bundle_records.proofs.RecordsLaws.{done-counts}
 use Rattle.pciv_bundle_records.proofs.RecordBytesLaws.{noRecord, FitsRecord, AllFit, recordsBytes-append}
-use Rattle.pciv_bundle_records.proofs.RecordBytesLaws.{framesIn, framesIn-append, framesIn-other, records-at, records-rest}
-use Rattle.pciv_bundle_records.proofs.RecordBytesLaws.{headerOf, SoundRest, rest-fit, rest-frames, rest-outcome}
+use Rattle.pciv_bundle_records.proofs.RecordBytesLaws.{framesIn, framesIn-append, framesIn-other}
+use Rattle.pciv_bundle_records.proofs.RecordBytesLaws.{records-at, records-rest, headerOf, SoundRest}
+use Rattle.pciv_bundle_records.proofs.RecordBytesLaws.{rest-fit, rest-frames, rest-outcome}
 use Rattle.pciv_bundle_records.proofs.RecordListLaws.{length-recordsOf, whole-list, frames-list, sound-list}
 
 -- ---- lists of records
