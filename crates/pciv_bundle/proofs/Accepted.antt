@@ -1,6 +1,6 @@
 -- Which bundles are accepted (docs/FORMAT.md, "Bundles").
 --   AcceptedBundle b c     b is its records one after another; record 0 is the header with the counts c, and no other
---                          has its kind; c .frames of them are frames, each a file of c .slots slots
+--                          has its kind; c .frames of them are frames, each a file of c .slots slots (`FrameFile`)
 --   BundleRest c rest      the same of a list of records behind the header
 --   bundle-accepted        accepted bytes are such a bundle
 --   bundle-accepted-iff    bytes are accepted exactly when they are the header and such records behind it
@@ -24,7 +24,7 @@ use Rattle.pciv_bundle_records.proofs.RecordListLaws.{records-whole, records-fi
 use Rattle.pciv_bundle_records.proofs.RecordListLaws.{whole-list, frames-list, sound-list}
 use Rattle.pciv_bundle_frames.proofs.FrameFileLaws.{FrameFile, done-file, files-done}
 use Rattle.pciv_bundle.specs.Bundle.{bundleOutcome}
-use Rattle.pciv_bundle.proofs.BundleCaseLaws.{records-accepted, frames-accepted}
+use Rattle.pciv_bundle.proofs.BundleCaseLaws.{bundle-done, records-accepted, frames-accepted}
 
 -- ---- what an accepted bundle is
 
@@ -93,15 +93,12 @@ module _ (b : List ℕ) (c : BundleCounts) (accepted : bundleOutcome b ≡ done 
 
 accepts : (c : BundleCounts) (rest : List Record) → BundleRest c rest
     → bundleOutcome (recordsBytes (headerOf (c .slots) (c .frames) ∷ rest)) ≡ done c
-unfolding bundleOutcome
 accepts c rest q =
     let first = q .each 0 (q .sound .some) in
     let few : c .slots < 4294967296 = omega (arith, first .slots, first .limits .count) in
-    rw (
-      rest-outcome (c .slots) (c .frames) rest (q .sound) few,
-      rest-frames (c .slots) (c .frames) rest (q .sound),
-      files-done (c .slots) (framesIn rest) (λ f h. q .each f (omega (arith, q .sound .many))),
-    )
+    let files = files-done (c .slots) (framesIn rest) (λ f h. q .each f (omega (arith, q .sound .many))) in
+    bundle-done _ c (rest-outcome (c .slots) (c .frames) rest (q .sound) few) (c .slots)
+    (rw (rest-frames (c .slots) (c .frames) rest (q .sound)) files)
 
 pub bundle-accepted-iff : (b : List ℕ) → Bytes b → (c : BundleCounts) → (bundleOutcome b ≡ done c)
     ↔ ((rest : List Record) × BundleRest c rest × (b ≡ recordsBytes (headerOf (c .slots) (c .frames) ∷ rest)))

@@ -29,7 +29,8 @@ use Rattle.pciv_format.specs.declared.Refusal.{Refusal}
 use Rattle.pciv_format.specs.declared.NumberAnswer.{NumberAnswer}
 use Rattle.pciv_format.specs.declared.NumberAnswer.the-variants as InNumber
 use Rattle.pciv_format.proofs.PartsLaws.{not-eqb}
-use Rattle.pciv_format.proofs.RefusalsLaws.{refuseIf-done, andThen-done, andThen-refused, numberAnswer-number, numberAnswer-refused}
+use Rattle.pciv_format.proofs.RefusalsLaws.{refuseIf-done, andThen-done, andThen-refused}
+use Rattle.pciv_format.proofs.RefusalsLaws.{numberAnswer-number, numberAnswer-refused}
 use Rattle.pciv_format.proofs.LayoutLaws.{fileLen-is, indexLen-le, indexStep-le}
 use Rattle.pciv_format.proofs.CheckLaws.{Accepted, done-countsFile, accepted-length}
 use Rattle.pciv_bundle_frames.specs.Frames.{soundFrames, otherSlots, firstOther, framesOutcome}
@@ -84,7 +85,8 @@ module _ {n : ℕ} {fs : List (List ℕ)} {f other : ℕ} (e : Passed n fs f oth
       pub passed-more : (least : ℕ) → answer ≡ InNumber.Number least → Passed n fs (f + 1) least
       passed-more least q =
           let passes = numberAnswer-number (nextFrame n f other (getD fs f [])) least (sym q ∙ found) in
-          let h = andThen-done (countsFile (f + 1) (getD fs f [])) (λ s. done (nextOther n f other (s .n))) least passes in
+          let h =
+          andThen-done (countsFile (f + 1) (getD fs f [])) (λ s. done (nextOther n f other (s .n))) least passes in
           let next : nextOther n f other (h .0 .n) ≡ least = cc (h .2) in
           record { inside = omega arith; rest = step ∙ rw (h .1); least = sym next ∙ next-least (h .0) (h .1) }
 

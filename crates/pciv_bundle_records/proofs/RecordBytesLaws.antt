@@ -3,7 +3,8 @@
 --   length-recordBytes         a record has 6 bytes before its payload
 --   recordsBytes-append, -one  the bytes of two lists of records, and of one record
 --   records-rest               what stands from record i on
---   framesIn-append, -other, -of    the frames of two lists of records; behind one that is no frame; of frames, each a record of kind 1
+--   framesIn-append, -other, -of    the frames of two lists of records; behind one that is no frame; of frames, each a
+--                              record
 --   records-at, records-count  where record i starts; how many there are
 --   records-len, records-kind, records-payload    what is read of record i
 --   records-frames, records-before    the frames; how many of them stand before record i
@@ -313,9 +314,11 @@ module _ (n c : ℕ) (rest : List Record) (sound : SoundRest c rest) where
   pub rest-outcome : n < 4294967296
       → recordsOutcome (recordsBytes (headerOf n c ∷ rest)) ≡ done (record { slots = n; frames = c })
   rest-outcome few =
-      let found = records-before rs rest-fit (length rs) (omega arith) ∙ ap (λ (l : List Record). length (framesIn l)) (take-length rs) in
-      records-done b (length rs) clear (records-end rs rest-fit) (omega arith) (omega (arith, found, framesIn-all, count))
-      ∙ ap₂ (λ (slots frames : ℕ). done (record { slots = slots; frames = frames })) (records-slotCount n c rest few) count
+      let found = records-before rs rest-fit (length rs) (omega arith) in
+      let whole = ap (λ (l : List Record). length (framesIn l)) (take-length rs) in
+      records-done b (length rs) clear (records-end rs rest-fit) (omega arith)
+      (omega (arith, found, whole, framesIn-all, count))
+      ∙ ap₂ (λ (x y : ℕ). done (record { slots = x; frames = y })) (records-slotCount n c rest few) count
 
 -- ---- the bundle of frames
 

@@ -1,7 +1,7 @@
 -- Laws of the records of a bundle: where they start, how many there are, what a right one says, and each outcome.
 --   recordAt-first, -next, -rise, -low    where records start
---   recordCount-end, -reaches, -past    how many there are, where the next would start at the end; it starts there or past
---                             it; more than a record before the end
+--   recordCount-end, -reaches, -past    how many there are, where the next would start at the end; the next starts there or
+--                             past it; more than a record before the end
 --   framesTo b r              the frames among the records below r
 --   length-framesTo, frames-all, frames-bytes    how many they are; all of them; they are bytes
 --   framesTo-zero, -frame, -other    none, and those below the next record, where record r is a frame or is not
@@ -252,25 +252,21 @@ module _ (b : List ℕ) (at found count : ℕ) where
       rw (eq-eqb (get 2 b (at + 4)) 0 e, or-true (ltb (length b) (behindRecord b at) || ltb (get 4 b at) 2))
 
   module _ (inside : behindRecord b at ≤ length b) (long : 2 ≤ get 4 b at) (later : get 2 b (at + 4) ≡ 0 → ⊥) where
-    pub wrong-other : (get 2 b (at + 4) ≡ 1 → ⊥) → wrongRecord b at found count ≡ false
+    -- then it is wrong where it is a frame too many
+    wrong-extra : wrongRecord b at found count ≡ eqb (get 2 b (at + 4)) 1 && leb count found
     unfolding wrongRecord
-    wrong-other other =
+    wrong-extra =
         rw (
           le-ltb (length b) (behindRecord b at) inside,
           le-ltb (get 4 b at) 2 long,
           ne-eqb (get 2 b (at + 4)) 0 later,
-          ne-eqb (get 2 b (at + 4)) 1 other,
         )
 
+    pub wrong-other : (get 2 b (at + 4) ≡ 1 → ⊥) → wrongRecord b at found count ≡ false
+    wrong-other other = wrong-extra ∙ rw (ne-eqb (get 2 b (at + 4)) 1 other)
+
     pub wrong-frame : get 2 b (at + 4) ≡ 1 → wrongRecord b at found count ≡ leb count found
-    unfolding wrongRecord
-    wrong-frame e =
-        rw (
-          le-ltb (length b) (behindRecord b at) inside,
-          le-ltb (get 4 b at) 2 long,
-          ne-eqb (get 2 b (at + 4)) 0 later,
-          eq-eqb (get 2 b (at + 4)) 1 e,
-        )
+    wrong-frame e = wrong-extra ∙ rw (eq-eqb (get 2 b (at + 4)) 1 e)
 
   pub wrong-right : wrongRecord b at found count ≡ false → Later b at found count
   unfolding wrongRecord

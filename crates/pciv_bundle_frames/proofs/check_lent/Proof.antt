@@ -32,9 +32,9 @@ there c = omega (arith, c .loop-test .taken, many (c .before .before))
 
 -- and its bytes are those that are checked
 here : (c : tie.In-loop Inv-loop μ-loop)
-    → (let l = c .before in
-    let a = l .before .before .args in
-    R.now (getD (a .frames .now) (l .loop .passed) noFrame) ≡ getD (used (a .frames .now) (a .count)) (l .loop .passed) [])
+    → (let f = c .before .loop .passed in
+    let a = c .before .before .before .args in
+    R.now (getD (a .frames .now) f noFrame) ≡ getD (used (a .frames .now) (a .count)) f [])
 here c =
     let a = c .before .before .before .args in
     used-at (a .frames .now) (a .count) (c .before .loop .passed) (c .loop-test .taken)

@@ -51,7 +51,8 @@ checked c =
     frame-checked (frames (s .args .bundle .now)) (s .args .n) (s .pre .1 .1) (l .loop .f) (there (c .before)) _ (this c)
 
 located : (c : tie.After-get64 Inv-loop μ-loop)
-    → CheckedMap (R.now (c .before .frame-at .result)) (c .before .before .before .before .before .args .n) (c .get64 .result)
+    → (let g = c .before in
+    CheckedMap (R.now (g .frame-at .result)) (g .before .before .before .before .args .n) (c .get64 .result))
 located c = rw (c .get64 .ensures) (checked (c .before))
 
 -- its distance at the slot
