@@ -4,7 +4,7 @@
 --   WrittenRead, bundle-written-read    the writer is done, and what it left is read as those files
 --   rowOfLists xss slot        the distance at a slot in each of eight lists, 0 for those that are absent
 --   row-at, row-absent         its elements; 0 from the number of lists on
---   bundle-row                 the row of such a bundle
+--   bundle-row, bundle-row-outside    the row of such a bundle; of a slot that it does not have
 --   nearestOfLists n xss       the nearest distance of every slot over those lists
 --   NearestWritten, bundle-nearest    the nearest list of such a bundle, and the caller's list afterwards
 -- Axioms: none.
@@ -19,7 +19,7 @@ use lib.Seq.{take-at, drop-at, getD-take}
 use Rattle.pciv_bytes.specs.Ranges.{table}
 use Rattle.pciv_bytes.proofs.RangesLaws.{getD-map, getD-table, table-cong}
 use Rattle.pciv_format.specs.Layout.{at, fileOf, Limits}
-use Rattle.pciv_format.specs.Refusals.{done, written}
+use Rattle.pciv_format.specs.Refusals.{done, refuse, written}
 use Rattle.pciv_format.specs.Check.{nField}
 use Rattle.pciv_format.specs.Read.{itemsInto}
 use Rattle.pciv_format.proofs.Acceptance.{file-read}
@@ -32,7 +32,7 @@ use Rattle.pciv_bundle_frames.proofs.RowLaws.{rowAt, absent-zero}
 use Rattle.pciv_bundle_nearest.specs.Nearest.{nearestOf, distancesAt, nearestAt, nearestList}
 use Rattle.pciv_bundle.specs.Bundle.{bundleOutcome, rowOutcome, nearestOutcome, nearestBuffer, usedSlots}
 use Rattle.pciv_bundle.specs.Bundle.{bundleWriteOutcome, bundleWriteBuffer}
-use Rattle.pciv_bundle.proofs.BundleCaseLaws.{bundle-done, row-inside, write-done}
+use Rattle.pciv_bundle.proofs.BundleCaseLaws.{bundle-done, row-inside, row-outside, write-done}
 
 -- lists that a bundle of n slots can hold
 pub record Bundled (xss : List (List ℕ)) (n : ℕ) : Type 0 where
@@ -178,6 +178,9 @@ module _ (xss : List (List ℕ)) (n : ℕ) (l : Bundled xss n) where
   bundle-row slot inside =
       row-inside b _ counts slot inside
       ∙ ap done (rw frames-are (table-cong _ _ 0 8 (λ f h. row-is slot f)))
+
+  pub bundle-row-outside : (slot : ℕ) → n ≤ slot → rowOutcome (bundleOfLists n xss) slot ≡ refuse 9 0 0
+  bundle-row-outside = row-outside b _ counts
 
   -- ---- the nearest distance of every slot
 
