@@ -1,5 +1,5 @@
 /*
- * pciv.h - reading, writing, combining, editing and repairing PCIV depth maps
+ * pciv.h - reading, writing, combining, editing, repairing and bundling PCIV depth maps
  *
  * A PCIV file stores a map: a list of 0 to 1,048,576 distances in whole centimetres, 32 bits each,
  * one for each slot. A file has no width or height; the caller keeps them. docs/FORMAT.md describes
@@ -8,9 +8,10 @@
  * Conventions of every call; pciv_primary_span has no refusal and says so, and pciv_report tells a
  * file's refusal in its text:
  *
- *   - A slice is a pointer and its number of elements. The pointer must be aligned for its type and
- *     valid for that many elements. Where the number is 0 nothing is read or written through it, and
- *     it may be null, as data() of an empty std::vector may be. All other pointers must be non-null.
+ *   - A slice is a pointer and its number of elements, and so is a pciv_part. The pointer must be
+ *     aligned for its type and valid for that many elements. Where the number is 0 nothing is read or
+ *     written through it, and it may be null, as data() of an empty std::vector may be. All other
+ *     pointers must be non-null.
  *   - What a call writes must not overlap anything else that it is given: buffers, results, refusal.
  *     What it only reads may overlap: a file may be combined with itself.
  *   - Nothing that a call is given may be changed by others while it runs: another thread, or a program
@@ -23,7 +24,8 @@
  *     longer buffer is unchanged too, and so is what a call only reads.
  *   - A call checks each whole file it is given, which must be exactly as long as its header says;
  *     bytes may follow it only in a buffer to be edited. A fault of a file is refused before a fault
- *     of the call. pciv_repair alone takes files that are not sound.
+ *     of the call, but for the count of pciv_bundle_write. pciv_repair alone takes files that are not
+ *     sound.
  *   - Nothing is allocated or kept between calls; calls may run in parallel.
  *
  * For x86-64 only (System V calling convention): size_t has 64 bits.
@@ -42,9 +44,9 @@
    with 1,000 for each MINOR and 1,000,000 for each MAJOR, and is for comparisons by #if. */
 #define PCIV_VERSION_MAJOR 0
 #define PCIV_VERSION_MINOR 6
-#define PCIV_VERSION_PATCH 1
-#define PCIV_VERSION_NUMBER 6001
-#define PCIV_VERSION "0.6.1"
+#define PCIV_VERSION_PATCH 2
+#define PCIV_VERSION_NUMBER 6002
+#define PCIV_VERSION "0.6.2"
 
 #ifdef __cplusplus
 extern "C" {
@@ -53,9 +55,9 @@ extern "C" {
 /* ---- Refusals --------------------------------------------------------------------------------
  *
  * Numbers 1 to 8 are faults of a file, or of the parts that a file is made of, and have map 1 (2
- * for the second file of a call). All others have map 0. The place is 0 unless stated. Where
- * several apply, the first file's 1 to 8 come first in rising order, then the second file's, then
- * 10, 13, 9, 11, 12.
+ * for the second file of a call, and for a bundle the number of the frame, 1 to 8). All others have
+ * map 0. The place is 0 unless stated. Where several apply, 14 comes first, then the first file's 1
+ * to 8 in rising order, then those of the second file, or of each later frame, then 10, 13, 9, 11, 12.
  */
 enum pciv_refusal_number {
     PCIV_OK = 0,                     /* done */
@@ -77,7 +79,9 @@ enum pciv_refusal_number {
     PCIV_SLOT_OUT_OF_RANGE = 9,      /* a slot asked for is n or more, or the two lists of
                                         pciv_edit_list differ in length; place: for a list the
                                         least such position in it, else 0 */
-    PCIV_SIZE_MISMATCH = 10,         /* two maps differ in n */
+    PCIV_SIZE_MISMATCH = 10,         /* two maps differ in n; for a bundle, a frame's n is not the
+                                        slot count, or frame 1's n where it is written; place: the
+                                        least such frame, from 1 */
     PCIV_DISTANCE_OVERFLOW = 11,     /* a resulting distance is above 4,294,967,295; place: the
                                         least such slot */
     PCIV_BUFFER_TOO_SMALL = 12,      /* the result does not fit into the caller's buffer, or the
@@ -85,14 +89,21 @@ enum pciv_refusal_number {
                                         file PCIV_LONGEST_FILE(n) bytes are always enough, and
                                         pciv_file_len(n, k) are what it takes; each call that
                                         writes something else says what it needs */
-    PCIV_BAD_MASK = 13               /* a mask has another number of words than n needs, or a bit
+    PCIV_BAD_MASK = 13,              /* a mask has another number of words than n needs, or a bit
                                         set past n */
+    PCIV_BAD_BUNDLE = 14             /* a record of a bundle is cut short, has a length below 2,
+                                        stands first without kind 0, length 8 and a frame count of
+                                        1 to 8, has kind 0 later, or is a frame too many; place: the
+                                        least such record, from 0. Where no record is at fault and
+                                        records or frames are missing; place: the number of records.
+                                        For pciv_bundle_write, count is not 1 to 8 */
 };
 
 /* Why a call was refused; all zero when it was done. */
 typedef struct {
     uint64_t number; /* of enum pciv_refusal_number */
-    uint64_t map;    /* the file at fault, counted from 1; 0 for a fault of the call */
+    uint64_t map;    /* the file or the frame at fault, counted from 1; 0 for a fault of the call or
+                        of a bundle as a whole */
     uint64_t place;
 } pciv_refusal;
 
@@ -124,13 +135,17 @@ static inline const char *pciv_refusal_text(uint64_t number)
         return "the slot asked for, of a list the one at that place, is n or more, "
                "or only one of two lists has that place";
     case PCIV_SIZE_MISMATCH:
-        return "the two maps differ in their number of slots";
+        return "the two maps, or the frame at that place and its bundle, "
+               "differ in their number of slots";
     case PCIV_DISTANCE_OVERFLOW:
         return "the distance at that place would be above 4,294,967,295";
     case PCIV_BUFFER_TOO_SMALL:
         return "the result does not fit into the buffer";
     case PCIV_BAD_MASK:
         return "the mask has a wrong number of words or a bit set past n";
+    case PCIV_BAD_BUNDLE:
+        return "the record at that place of the bundle is wrong or missing, "
+               "or the frames to be written are not one to eight";
     default:
         return "unknown refusal";
     }
@@ -542,6 +557,64 @@ static inline uint64_t pciv_repair_all(const uint8_t *file, size_t file_len, uin
     return pciv_repair(file, file_len, n, k, out, out_len, (uint64_t *)corrections,
                        PCIV_CORRECTION_LEN * corrections_len, summary, count, refusal);
 }
+
+/* ---- Bundles ----------------------------------------------------------------------------------
+ *
+ * A bundle holds a burst: one to eight maps of the same n, its frames, in one file. It is a sequence of
+ * records. Each has a length (4 bytes), a kind (2 bytes) and a payload; the length counts kind and
+ * payload. Record 0 has kind 0, and as payload the slot count (4 bytes), which is the n of every
+ * frame, and the frame count (2 bytes). The frames follow in their order, each a record of kind 1 with
+ * a file as payload. Records of other kinds may stand anywhere behind record 0; they are passed over
+ * where a bundle is read, and none is written. Records count from 0, frames from 1.
+ *
+ * Each call that takes a bundle checks all of it first. Refusals: 14 with the record as place; 1 to 8
+ * of each frame, with its number as map; 10 with the least frame as place whose n is not the slot
+ * count; then what the call itself names.
+ */
+
+/* How many frames a bundle has at most. */
+#define PCIV_MAX_FRAMES 8
+
+/* Checks a whole bundle. Refusals as above.
+   When done *slots is the slot count and *frames the frame count, 1 to 8; after a refusal both are
+   unchanged. */
+uint64_t pciv_bundle_read(const uint8_t *bundle, size_t bundle_len, uint64_t *slots,
+                          uint64_t *frames, pciv_refusal *refusal);
+
+/* The distances at one slot, by frame. Refusals as above, then 9.
+   When done row[0] is the distance in frame 1, row[1] that in frame 2 and so on, with 0 for frames
+   that the bundle has not. After a refusal row is unchanged. */
+uint64_t pciv_bundle_row(const uint8_t *bundle, size_t bundle_len, uint64_t slot, uint32_t row[8],
+                         pciv_refusal *refusal);
+
+/* The nearest distance at each slot: the least of all frames' distances that is not 0, or 0 where all
+   of them are 0. Refusals as above, then 12 where distances_len is below the slot count.
+   When done the first elements of distances, as many as the slot count, hold them in order of their
+   slots, the elements behind them are unchanged, and *count is the slot count. After a refusal
+   distances and *count are unchanged. */
+uint64_t pciv_bundle_nearest(const uint8_t *bundle, size_t bundle_len, uint32_t *distances,
+                             size_t distances_len, uint64_t *count, pciv_refusal *refusal);
+
+/* The length of the bundle of the first `count` frames, of which there are eight at most: 12, and for
+   each frame 6 more than the length of its file. */
+static inline size_t pciv_bundle_len(const pciv_part frames[8], size_t count)
+{
+    size_t len = 12;
+    size_t frame;
+    for (frame = 0; frame < count && frame < PCIV_MAX_FRAMES; frame++)
+        len += 6 + frames[frame].len;
+    return len;
+}
+
+/* The bundle of the first `count` of eight parts, each a file, in this order. The parts behind them
+   are not looked at, but must be valid slices too; { NULL, 0 } will do.
+   Refusals: 14 with place 0 where count is not 1 to 8; 1 to 8 of each frame, with its number as map;
+   10 with the least frame as place whose n is not that of frame 1; then 12 where the bundle is longer
+   than out_len, which pciv_bundle_len(frames, count) bytes are enough for.
+   When done the first *written bytes of out are the bundle, and the bytes behind it are unchanged.
+   After a refusal out and *written are unchanged. */
+uint64_t pciv_bundle_write(const pciv_part frames[8], size_t count, uint8_t *out, size_t out_len,
+                           uint64_t *written, pciv_refusal *refusal);
 
 /* ---- Report ----------------------------------------------------------------------------------- */
 

@@ -1,10 +1,12 @@
 /* Calls every function of pciv.h on maps built by hand and on refused input. If it fails, the
    library, the header or the way they are linked is wrong for C programs. */
+#define _DEFAULT_SOURCE
 #include "pciv.h"
 
 #include <stdio.h>
 #include <stdlib.h>
 #include <string.h>
+#include <sys/mman.h>
 
 /* Unlike assert, also checks in release builds. */
 #define EXPECT(condition)                                                                  \
@@ -17,6 +19,7 @@
 
 #define MAP_LEN 68
 #define OTHER_LEN 56
+#define BUNDLE_LEN (12 + 6 + MAP_LEN + 6 + OTHER_LEN)
 #define N 4
 #define DIRTY 0xA5
 
@@ -729,6 +732,185 @@ static void test_repair_all(const uint8_t *file)
     EXPECT(is_summary(&summary, N, 1, 56, 763) && is_file_of(out, 56, &summary, expected));
 }
 
+/* The bundle of the map and the other one. */
+static void build_bundle(uint8_t bundle[BUNDLE_LEN])
+{
+    static const uint8_t records[][6] = {
+        {8, 0, 0, 0, 0, 0}, {N, 0, 0, 0, 2, 0}, /* record 0: slots, frames */
+        {MAP_LEN + 2, 0, 0, 0, 1, 0},           /* record 1 */
+        {OTHER_LEN + 2, 0, 0, 0, 1, 0}          /* record 2 */
+    };
+    memcpy(bundle, records, 18);
+    build_map(bundle + 18);
+    memcpy(bundle + 18 + MAP_LEN, records[3], 6);
+    build_other(bundle + 24 + MAP_LEN);
+}
+
+/* The refusal of each call on a bundle, before those of slot and list, which changes nothing else. */
+static void test_bundle_refused(const uint8_t *bundle, size_t len, uint64_t number, uint64_t map,
+                                uint64_t place)
+{
+    uint64_t slots, frames, count;
+    uint32_t row[PCIV_MAX_FRAMES], distances[N];
+    pciv_refusal refusal;
+    memset(&slots, DIRTY, sizeof slots);
+    memset(&frames, DIRTY, sizeof frames);
+    memset(row, DIRTY, sizeof row);
+    memset(distances, DIRTY, sizeof distances);
+    memset(&count, DIRTY, sizeof count);
+    EXPECT(pciv_bundle_read(bundle, len, &slots, &frames, &refusal) == number);
+    EXPECT(is_refusal(&refusal, number, map, place));
+    EXPECT(pciv_bundle_row(bundle, len, UINT64_MAX, row, &refusal) == number);
+    EXPECT(is_refusal(&refusal, number, map, place));
+    EXPECT(pciv_bundle_nearest(bundle, len, distances, 0, &count, &refusal) == number);
+    EXPECT(is_refusal(&refusal, number, map, place));
+    EXPECT(is_dirty(&slots, sizeof slots) && is_dirty(&frames, sizeof frames));
+    EXPECT(is_dirty(row, sizeof row) && is_dirty(distances, sizeof distances));
+    EXPECT(is_dirty(&count, sizeof count));
+}
+
+/* The same for a bundle with one byte changed. */
+static void test_bundle_damage(const uint8_t *sound, size_t at, uint8_t byte, uint64_t number,
+                               uint64_t map, uint64_t place)
+{
+    uint8_t bundle[BUNDLE_LEN];
+    memcpy(bundle, sound, BUNDLE_LEN);
+    bundle[at] = byte;
+    test_bundle_refused(bundle, BUNDLE_LEN, number, map, place);
+}
+
+static void test_bundle_faults(void)
+{
+    uint8_t bundle[BUNDLE_LEN + 3] = {0};
+    build_bundle(bundle);
+    test_bundle_refused(bundle, 0, PCIV_BAD_BUNDLE, 0, 0);
+    test_bundle_refused(bundle, 11, PCIV_BAD_BUNDLE, 0, 0);
+    test_bundle_refused(bundle, 12, PCIV_BAD_BUNDLE, 0, 1);
+    test_bundle_refused(bundle, 85, PCIV_BAD_BUNDLE, 0, 1);
+    test_bundle_refused(bundle, 86, PCIV_BAD_BUNDLE, 0, 2);
+    test_bundle_refused(bundle, BUNDLE_LEN - 1, PCIV_BAD_BUNDLE, 0, 2);
+    test_bundle_refused(bundle, BUNDLE_LEN + 1, PCIV_BAD_BUNDLE, 0, 3);
+    test_bundle_refused(bundle, BUNDLE_LEN + 3, PCIV_BAD_BUNDLE, 0, 3);
+    test_bundle_damage(bundle, 0, 9, PCIV_BAD_BUNDLE, 0, 0);
+    test_bundle_damage(bundle, 4, 1, PCIV_BAD_BUNDLE, 0, 0);
+    test_bundle_damage(bundle, 10, 0, PCIV_BAD_BUNDLE, 0, 0);
+    test_bundle_damage(bundle, 10, 9, PCIV_BAD_BUNDLE, 0, 0);
+    test_bundle_damage(bundle, 10, 1, PCIV_BAD_BUNDLE, 0, 2);
+    test_bundle_damage(bundle, 10, 3, PCIV_BAD_BUNDLE, 0, 3);
+    test_bundle_damage(bundle, 12, 1, PCIV_BAD_BUNDLE, 0, 1);
+    test_bundle_damage(bundle, 16, 0, PCIV_BAD_BUNDLE, 0, 1);
+    test_bundle_damage(bundle, 90, 0, PCIV_BAD_BUNDLE, 0, 2);
+    test_bundle_damage(bundle, 18, 'p', PCIV_BAD_MAGIC, 1, 0);
+    test_bundle_damage(bundle, 74, 2, PCIV_BAD_OVERFLOW_ENTRY, 1, 1);
+    test_bundle_damage(bundle, 133, 255, PCIV_MISSING_OVERFLOW_ENTRY, 2, 1);
+    test_bundle_damage(bundle, 6, N + 1, PCIV_SIZE_MISMATCH, 0, 1);
+}
+
+static void test_bundle(void)
+{
+    static const uint32_t rows[N][2] = {{0, 1}, {254, 1}, {255, 1}, {300, 4294967295}};
+    uint8_t bundle[BUNDLE_LEN];
+    uint64_t slots, frames, count;
+    uint32_t row[PCIV_MAX_FRAMES], distances[N + 1];
+    pciv_refusal refusal;
+    build_bundle(bundle);
+    EXPECT(pciv_bundle_read(bundle, BUNDLE_LEN, &slots, &frames, &refusal) == PCIV_OK);
+    EXPECT(is_refusal(&refusal, PCIV_OK, 0, 0) && slots == N && frames == 2);
+    for (uint64_t slot = 0; slot < N; slot++) {
+        memset(row, DIRTY, sizeof row);
+        EXPECT(pciv_bundle_row(bundle, BUNDLE_LEN, slot, row, &refusal) == PCIV_OK);
+        EXPECT(is_refusal(&refusal, PCIV_OK, 0, 0));
+        EXPECT(row[0] == rows[slot][0] && row[1] == rows[slot][1]);
+        for (size_t absent = 2; absent < PCIV_MAX_FRAMES; absent++)
+            EXPECT(row[absent] == 0);
+    }
+    memset(row, DIRTY, sizeof row);
+    EXPECT(pciv_bundle_row(bundle, BUNDLE_LEN, N, row, &refusal) == PCIV_SLOT_OUT_OF_RANGE);
+    EXPECT(is_refusal(&refusal, PCIV_SLOT_OUT_OF_RANGE, 0, 0) && is_dirty(row, sizeof row));
+    memset(distances, DIRTY, sizeof distances);
+    memset(&count, DIRTY, sizeof count);
+    EXPECT(pciv_bundle_nearest(bundle, BUNDLE_LEN, distances, N - 1, &count, &refusal) ==
+           PCIV_BUFFER_TOO_SMALL);
+    EXPECT(is_refusal(&refusal, PCIV_BUFFER_TOO_SMALL, 0, 0));
+    EXPECT(is_dirty(distances, sizeof distances) && is_dirty(&count, sizeof count));
+    EXPECT(pciv_bundle_nearest(bundle, BUNDLE_LEN, distances, N + 1, &count, &refusal) == PCIV_OK);
+    EXPECT(is_refusal(&refusal, PCIV_OK, 0, 0) && count == N);
+    EXPECT(distances[0] == 1 && distances[1] == 1 && distances[2] == 1 && distances[3] == 300);
+    EXPECT(is_dirty(&distances[N], sizeof distances[N]));
+}
+
+/* A refusal of the writer, which changes nothing else. */
+static void test_bundle_not_written(const pciv_part *frames, size_t count, size_t out_len,
+                                    uint64_t number, uint64_t map, uint64_t place)
+{
+    uint8_t out[BUNDLE_LEN];
+    uint64_t written;
+    pciv_refusal refusal;
+    memset(out, DIRTY, sizeof out);
+    memset(&written, DIRTY, sizeof written);
+    EXPECT(pciv_bundle_write(frames, count, out, out_len, &written, &refusal) == number);
+    EXPECT(is_refusal(&refusal, number, map, place));
+    EXPECT(is_dirty(out, sizeof out) && is_dirty(&written, sizeof written));
+}
+
+/* Frames behind the count are not looked at: here they lie where nothing can be read. */
+static void test_bundle_unread(const uint8_t *file)
+{
+    const size_t page = 4096;
+    void *closed = mmap(NULL, page, PROT_NONE, MAP_PRIVATE | MAP_ANONYMOUS, -1, 0);
+    uint8_t out[12 + 6 + MAP_LEN];
+    uint64_t written;
+    pciv_part frames[PCIV_MAX_FRAMES];
+    pciv_refusal refusal;
+    EXPECT(closed != MAP_FAILED);
+    for (size_t i = 0; i < PCIV_MAX_FRAMES; i++) {
+        frames[i].bytes = closed;
+        frames[i].len = page;
+    }
+    EXPECT(pciv_bundle_write(frames, 0, out, sizeof out, &written, &refusal) == PCIV_BAD_BUNDLE);
+    EXPECT(pciv_bundle_write(frames, 9, out, sizeof out, &written, &refusal) == PCIV_BAD_BUNDLE);
+    frames[0].bytes = file;
+    frames[0].len = MAP_LEN;
+    EXPECT(pciv_bundle_write(frames, 1, out, sizeof out, &written, &refusal) == PCIV_OK);
+    EXPECT(written == sizeof out);
+    EXPECT(munmap(closed, page) == 0);
+}
+
+static void test_bundle_write(const uint8_t *file, const uint8_t *other)
+{
+    static const uint8_t empty[40] = "PCIV";
+    uint8_t bundle[BUNDLE_LEN], out[PCIV_MAX_FRAMES * (6 + MAP_LEN) + 20];
+    uint64_t written;
+    pciv_part frames[PCIV_MAX_FRAMES] = {{file, MAP_LEN}, {other, OTHER_LEN}, {file, 39}};
+    pciv_refusal refusal;
+    EXPECT(sizeof frames == 128 && offsetof(pciv_part, len) == 8);
+    EXPECT(pciv_bundle_len(frames, 2) == BUNDLE_LEN && pciv_bundle_len(frames, 0) == 12);
+    test_bundle_not_written(frames, 0, BUNDLE_LEN, PCIV_BAD_BUNDLE, 0, 0);
+    test_bundle_not_written(frames, 9, BUNDLE_LEN, PCIV_BAD_BUNDLE, 0, 0);
+    test_bundle_not_written(frames, SIZE_MAX, 0, PCIV_BAD_BUNDLE, 0, 0);
+    test_bundle_not_written(frames, 2, BUNDLE_LEN - 1, PCIV_BUFFER_TOO_SMALL, 0, 0);
+    test_bundle_not_written(frames, 3, 0, PCIV_TRUNCATED_HEADER, 3, 0);
+    frames[2].bytes = empty;
+    frames[2].len = sizeof empty;
+    test_bundle_not_written(frames, 3, 0, PCIV_SIZE_MISMATCH, 0, 3);
+    frames[2].bytes = file;
+    frames[2].len = 39;
+    memset(out, DIRTY, sizeof out);
+    EXPECT(pciv_bundle_write(frames, 2, out, sizeof out, &written, &refusal) == PCIV_OK);
+    EXPECT(is_refusal(&refusal, PCIV_OK, 0, 0) && written == BUNDLE_LEN);
+    build_bundle(bundle);
+    EXPECT(memcmp(out, bundle, BUNDLE_LEN) == 0);
+    EXPECT(is_dirty(out + BUNDLE_LEN, sizeof out - BUNDLE_LEN));
+    for (size_t i = 0; i < PCIV_MAX_FRAMES; i++) {
+        frames[i].bytes = file;
+        frames[i].len = MAP_LEN;
+    }
+    EXPECT(pciv_bundle_len(frames, 8) == sizeof out - 8);
+    EXPECT(pciv_bundle_len(frames, 9) == sizeof out - 8);
+    EXPECT(pciv_bundle_write(frames, 8, out, sizeof out, &written, &refusal) == PCIV_OK);
+    EXPECT(written == sizeof out - 8 && is_dirty(out + written, 8));
+}
+
 static void test_report(const uint8_t *file)
 {
     const size_t len = strlen(REPORT);
@@ -762,8 +944,8 @@ static void test_damage(const uint8_t *map, size_t at, uint8_t byte, uint64_t nu
 /* The string and the number say what the three numbers say; #if can compare them. */
 static void test_version(void)
 {
-#if PCIV_VERSION_NUMBER < 6001
-#error "this header is older than 0.6.1"
+#if PCIV_VERSION_NUMBER < 6002
+#error "this header is older than 0.6.2"
 #endif
     char text[32];
     snprintf(text, sizeof text, "%d.%d.%d", PCIV_VERSION_MAJOR, PCIV_VERSION_MINOR,
@@ -811,10 +993,10 @@ static void test_refusal_text(void)
     EXPECT(strcmp(pciv_refusal_text(PCIV_OK), "not refused") == 0);
     EXPECT(strcmp(pciv_refusal_text(PCIV_BUFFER_TOO_SMALL),
                   "the result does not fit into the buffer") == 0);
-    EXPECT(strcmp(pciv_refusal_text(14), "unknown refusal") == 0);
+    EXPECT(strcmp(pciv_refusal_text(15), "unknown refusal") == 0);
     EXPECT(strcmp(pciv_refusal_text(UINT64_MAX), "unknown refusal") == 0);
-    for (uint64_t a = 0; a < 14; a++)
-        for (uint64_t b = a + 1; b < 15; b++)
+    for (uint64_t a = 0; a < 15; a++)
+        for (uint64_t b = a + 1; b < 16; b++)
             EXPECT(strcmp(pciv_refusal_text(a), pciv_refusal_text(b)) != 0);
 }
 
@@ -958,6 +1140,29 @@ static void test_null_write(const uint8_t *file)
     EXPECT(count == 0 && memcmp(out, file, MAP_LEN) == 0);
 }
 
+/* The same for bundles, and for parts that are null. */
+static void test_null_bundles(const uint8_t *file)
+{
+    static const uint8_t empty[40] = "PCIV";
+    pciv_part frames[PCIV_MAX_FRAMES] = {{empty, sizeof empty}};
+    uint8_t out[100];
+    uint32_t row[PCIV_MAX_FRAMES], distance;
+    uint64_t slots, count = 7, written;
+    pciv_refusal why;
+    EXPECT(pciv_bundle_read(NULL, 0, &slots, &count, &why) == PCIV_BAD_BUNDLE);
+    EXPECT(pciv_bundle_row(NULL, 0, 0, row, &why) == PCIV_BAD_BUNDLE);
+    EXPECT(pciv_bundle_nearest(NULL, 0, &distance, 1, &count, &why) == PCIV_BAD_BUNDLE);
+    EXPECT(pciv_bundle_write(frames, 1, NULL, 0, &written, &why) == PCIV_BUFFER_TOO_SMALL);
+    EXPECT(pciv_bundle_write(frames, 1, out, 58, &written, &why) == PCIV_OK && written == 58);
+    EXPECT(pciv_bundle_nearest(out, 58, NULL, 0, &count, &why) == PCIV_OK && count == 0);
+    EXPECT(pciv_bundle_write(frames, 2, out, 99, &written, &why) == PCIV_TRUNCATED_HEADER);
+    EXPECT(why.map == 2);
+    frames[0].bytes = file;
+    frames[0].len = MAP_LEN;
+    EXPECT(pciv_bundle_write(frames, 1, out, 86, &written, &why) == PCIV_OK && written == 86);
+    EXPECT(pciv_bundle_nearest(out, 86, NULL, 0, &count, &why) == PCIV_BUFFER_TOO_SMALL);
+}
+
 /* The same for masks: a mask of no slots has no words. */
 static void test_null_masks(const uint8_t *file)
 {
@@ -1023,6 +1228,10 @@ int main(void)
     test_edit_list(file);
     test_repair(file);
     test_repair_all(file);
+    test_bundle_faults();
+    test_bundle();
+    test_bundle_write(file, other);
+    test_bundle_unread(file);
     test_report(file);
     test_version();
     test_lengths();
@@ -1030,6 +1239,7 @@ int main(void)
     test_edit_all(file);
     test_null_read(file);
     test_null_write(file);
+    test_null_bundles(file);
     test_null_masks(file);
     test_damage(file, 0, 'p', PCIV_BAD_MAGIC, 0);
     test_damage(file, 15, 1, PCIV_TOO_MANY_SLOTS, 0);

@@ -1,5 +1,5 @@
-// Writes, checks, reads and repairs a map from C++, and passes empty vectors. If it fails, the header or the way that the library
-// is linked is wrong for C++ programs.
+// Writes, checks, reads, repairs and bundles a map from C++, and passes empty vectors. If it fails, the header or the way that
+// the library is linked is wrong for C++ programs.
 #include "pciv.h"
 
 #include <algorithm>
@@ -56,6 +56,39 @@ static bool repairs(std::array<uint8_t, 68> spoiled)
            summary.len == file.size() && std::equal(file.begin(), file.end(), out.begin());
 }
 
+// A bundle of the map and of the same 250 cm nearer. The parts behind them are null, and so may be a bundle of no bytes.
+static bool bundles(const std::array<uint8_t, 68> &file)
+{
+    std::vector<uint8_t> nearer(PCIV_LONGEST_FILE(4));
+    pciv_summary summary{};
+    pciv_refusal refusal{};
+    uint64_t slots = 0, count = 0, written = 0;
+    if (pciv_shift(file.data(), file.size(), -250, nearer.data(), nearer.size(), &summary,
+                   &refusal) != PCIV_OK)
+        return false;
+    nearer.resize(summary.len);
+    const std::array<pciv_part, PCIV_MAX_FRAMES> frames{
+        {{file.data(), file.size()}, {nearer.data(), nearer.size()}}};
+    std::vector<uint8_t> bundle(pciv_bundle_len(frames.data(), 2)), none;
+    std::array<uint32_t, PCIV_MAX_FRAMES> row{};
+    std::vector<uint32_t> distances(4);
+    return pciv_bundle_write(frames.data(), 2, bundle.data(), bundle.size(), &written, &refusal) ==
+               PCIV_OK &&
+           written == bundle.size() &&
+           pciv_bundle_read(bundle.data(), bundle.size(), &slots, &count, &refusal) == PCIV_OK &&
+           slots == 4 && count == 2 &&
+           pciv_bundle_row(bundle.data(), bundle.size(), 3, row.data(), &refusal) == PCIV_OK &&
+           row == std::array<uint32_t, PCIV_MAX_FRAMES>{{300, 50}} &&
+           pciv_bundle_nearest(bundle.data(), bundle.size(), distances.data(), distances.size(),
+                               &count, &refusal) == PCIV_OK &&
+           count == 4 && distances == std::vector<uint32_t>{0, 4, 5, 50} &&
+           pciv_bundle_read(none.data(), none.size(), &slots, &count, &refusal) ==
+               PCIV_BAD_BUNDLE &&
+           pciv_bundle_write(frames.data(), 3, bundle.data(), bundle.size(), &written, &refusal) ==
+               PCIV_TRUNCATED_HEADER &&
+           refusal.map == 3;
+}
+
 int main()
 {
     const std::vector<uint32_t> distances{0, 254, 255, 300};
@@ -73,7 +106,7 @@ int main()
             PCIV_OK &&
         count == read.size() && read == distances &&
         pciv_check(file.data(), file.size() - 1, &summary, &refusal) == PCIV_BAD_LENGTH &&
-        refusal.map == 1 && empty_vectors() && repairs(file);
+        refusal.map == 1 && empty_vectors() && repairs(file) && bundles(file);
     std::puts(done ? "cpp_smoke: passed" : "cpp_smoke: FAILED");
     return done ? 0 : 1;
 }

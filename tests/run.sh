@@ -1,6 +1,6 @@
 #!/bin/sh
-# Builds and runs the C and Rust side: header, C and C++ programs, what make shows and ships, Rust tests, the program
-# that repairs maps, interface, vectorised loops, comparison, test vectors, the fuzzer's corpus, the names in docs/PROMISES.md, report program.
+# Builds and runs the C and Rust side: header, C and C++ programs, what make shows and ships, Rust tests, the programs
+# that repair and bundle maps, interface, vectorised loops, comparison, test vectors, the fuzzer's corpus, the names in docs/PROMISES.md, report program.
 # Wants libpciv_c.a in PCIV_LIB_DIR (default target/staticlib) and the report program at PCIV_REPORT
 # (default target/bin/report); relative paths start at the repository's root.
 set -u
@@ -326,6 +326,118 @@ repair_program() {
     echo 'C and Rust agree, and README.md has what they print'
 }
 
+# bundled PROGRAM BUNDLE LINE..: it packs the maps of $maps into a new bundle, and reads it, and says these lines both times.
+bundled() {
+    program=$1
+    bundle=$2
+    shift 2
+    # several words
+    "$program" "$bundle" $maps >"$work/said" 2>&1 && printf '%s\n' "$@" | cmp - "$work/said" &&
+        "$program" "$bundle" >"$work/said" 2>&1 && printf '%s\n' "$@" | cmp - "$work/said" ||
+        { echo "$program $bundle $maps: not so, it said"; cat "$work/said"; return 1; }
+}
+
+# bundle_packs PROGRAM: the sample map twice, the worked examples, eight frames, no readings, no slots.
+bundle_packs() {
+    folder=$work/bundles
+    sample=examples/portrait-160x120.pciv
+    a=examples/map-a.pciv
+    rm -rf "$folder" && mkdir "$folder" &&
+        { printf '\010\0\0\0\0\0\0\113\0\0\002\0' && printf '\306\362\0\0\001\0' && cat "$sample" &&
+            printf '\306\362\0\0\001\0' && cat "$sample"; } >"$folder/wanted" &&
+        maps="$sample $sample" bundled "$1" "$folder/burst" '2 frames of 19200 slots, 124320 bytes' \
+            'nearest readings: 19028 slots, mean 222.1 cm' 'nearest slot: 8068, by frame 82 82 cm' &&
+        cmp "$folder/burst" "$folder/wanted" &&
+        while IFS= read -r line; do
+            grep -qxF -e "$line" README.md || { echo "README.md does not have: $line"; return 1; }
+        done <"$work/said" || return 1
+    # the map 1, 1, 1, 4294967295, one of four zeros, and one of no slots
+    { printf 'PCIV' && head -c 36 /dev/zero && printf '\001\001\001\377\003\0\0\0\0\0\0\0\377\377\377\377'; } >"$folder/b" &&
+        put "$folder/b" 8 '\004' && put "$folder/b" 16 '\001' &&
+        { printf 'PCIV' && head -c 40 /dev/zero; } >"$folder/zeros" && put "$folder/zeros" 8 '\004' &&
+        { printf 'PCIV' && head -c 36 /dev/zero; } >"$folder/empty" &&
+        maps="$a $folder/b" bundled "$1" "$folder/a-b" '2 frames of 4 slots, 148 bytes' \
+            'nearest readings: 4 slots, mean 75.8 cm' 'nearest slot: 0, by frame 0 1 cm' &&
+        maps="$a $folder/zeros $a $a $a $a $a $a" bundled "$1" "$folder/eight" '8 frames of 4 slots, 580 bytes' \
+            'nearest readings: 3 slots, mean 269.7 cm' 'nearest slot: 1, by frame 254 0 254 254 254 254 254 254 cm' &&
+        maps="$folder/zeros $folder/zeros" bundled "$1" "$folder/two" '2 frames of 4 slots, 112 bytes' 'no readings' &&
+        maps="$folder/empty" bundled "$1" "$folder/one" '1 frames of 0 slots, 58 bytes' 'no readings' &&
+        printf '\003\0\0\0\002\0.' >>"$folder/a-b" &&
+        expect 0 'nearest slot: 0, by frame 0 1 cm' "$1" "$folder/a-b" &&
+        grep -qx '2 frames of 4 slots, 155 bytes' "$work/said"
+}
+
+# bundle_keeps PROGRAM: where it fails it says why, and makes and changes nothing.
+bundle_keeps() {
+    folder=$work/bundles
+    map=$folder/map
+    usage='usage: bundle BUNDLE MAP.., to pack one to eight maps; bundle BUNDLE, to read it'
+    rm -rf "$folder" && mkdir "$folder" "$folder/inner" && cp examples/portrait-160x120.pciv "$map" &&
+        head -c 62147 "$map" >"$folder/short" && cp examples/map-a.pciv "$folder/small" &&
+        "$1" "$folder/burst" "$map" "$map" >"$work/said" && cp "$folder/burst" "$folder/spoiled" &&
+        put "$folder/spoiled" 62172 p && head -c 100000 "$folder/burst" >"$folder/cut" || return 1
+    expect 2 "$usage" "$1" &&
+        expect 2 "$usage" "$1" "$folder/out" "$map" "$map" "$map" "$map" "$map" "$map" "$map" "$map" "$map" &&
+        expect 1 'none: No such file or directory' "$1" "$folder/out" "$map" "$folder/none" &&
+        expect 1 'inner: Is a directory' "$1" "$folder/out" "$folder/inner" &&
+        expect 1 'none: No such file or directory' "$1" "$folder/none" &&
+        expect 1 'none/out: No such file or directory' "$1" "$folder/none/out" "$map" &&
+        expect 1 'inner: File exists' "$1" "$folder/inner" "$map" &&
+        expect 1 'burst: File exists' "$1" "$folder/burst" "$map" &&
+        expect 1 'map: File exists' "$1" "$map" "$map" &&
+        expect 1 'small: File exists' "$1" "$folder/small" "$map" "$map" &&
+        expect 1 'File too large' limited "$1" "$folder/out" "$map" "$map" &&
+        expect 1 'standard output: ' sh -c '"$@" >/dev/full' sh "$1" "$folder/out" "$map" || return 1
+    # the refusal, the file or frame at fault, and the program's arguments
+    while IFS=: read -r refusal what arguments; do
+        # several words
+        expect 3 "bundle: $folder/$what: " "$1" $arguments && head -n 1 "$work/said" | grep -qxF "refused $refusal" ||
+            { echo "$arguments: not refused $refusal"; return 1; }
+    done <<END
+5 map 1 place 0:short:$folder/out $folder/short $map
+5 map 3 place 0:short:$folder/out $map $folder/small $folder/short
+10 map 0 place 2:small:$folder/out $map $folder/small
+10 map 0 place 2:map:$folder/out $folder/small $map
+14 map 0 place 2:cut:$folder/cut
+14 map 0 place 0:map:$map
+2 map 2 place 0:spoiled, frame 2:$folder/spoiled
+END
+    cmp "$map" examples/portrait-160x120.pciv && cmp "$folder/small" examples/map-a.pciv &&
+        expect 0 '2 frames of 19200 slots' "$1" "$folder/burst" || return 1
+    left=$(cd "$folder" && echo * inner/*)
+    [ "$left" = 'burst cut inner map short small spoiled inner/*' ] || { echo "$1: left $left"; return 1; }
+}
+
+# bundles_agree MAP..: C and Rust exit alike, say the same and write the same, a refusal included.
+bundles_agree() {
+    rm -f "$work/bundle.c.out" "$work/bundle.rust.out"
+    "$work/bundle" "$work/bundle.c.out" "$@" >"$work/c.txt" 2>&1
+    status=$?
+    "$programs/examples/bundle" "$work/bundle.rust.out" "$@" >"$work/rust.txt" 2>&1
+    [ $? -eq "$status" ] && cmp "$work/c.txt" "$work/rust.txt" || return 1
+    case $status in
+    0) cmp "$work/bundle.c.out" "$work/bundle.rust.out" ;;
+    3) grep -q '^refused ' "$work/c.txt" && [ ! -e "$work/bundle.c.out" ] && [ ! -e "$work/bundle.rust.out" ] ;;
+    *) return 1 ;;
+    esac
+}
+
+# The program that packs maps into a bundle and reads it, in C and in Rust.
+bundle_program() {
+    gcc -std=c11 -pedantic -Wall -Wextra -Werror -O2 -Iinclude -o "$work/bundle" \
+        examples/bundle.c "$PCIV_LIB_DIR/libpciv_c.a" &&
+        cargo build --release --offline -p pciv --examples &&
+        "$programs/make_report_inputs" "$work/report" || return 1
+    for input in "$work"/report/*.pciv; do
+        bundles_agree "$input" "$input" && bundles_agree examples/portrait-160x120.pciv "$input" ||
+            { echo "$input: C and Rust differ"; return 1; }
+    done
+    for program in "$work/bundle" "$programs/examples/bundle"; do
+        bundle_packs "$program" && bundle_keeps "$program" || return 1
+    done
+    echo 'C and Rust agree, and README.md has what they print'
+}
+
 rust_doc() {
     RUSTDOCFLAGS='-D warnings' cargo doc --offline --no-deps -p pciv && echo 'no warnings'
 }
@@ -399,6 +511,7 @@ part cargo-build build
 part cargo-test rust_tests
 part examples examples
 part repair repair_program
+part bundle bundle_program
 part cargo-doc rust_doc
 part readme readme
 part interface interface

@@ -20,6 +20,10 @@
 #define repair_tells_given_count 14
 #define repair_index_by_length 15
 #define repair_list_rounded_up 16
+#define bundle_read_place_of_missing 17
+#define bundle_row_past_count 18
+#define bundle_nearest_takes_zeros 19
+#define bundle_write_looks_further 20
 
 static uint64_t field(const uint8_t *file, size_t at)
 {
@@ -41,6 +45,28 @@ static uint64_t sum_of(const uint8_t *file)
         sum += distance;
     }
     return sum;
+}
+
+/* The frame count of a bundle. */
+static size_t frame_count(const uint8_t *bundle)
+{
+    return bundle[10];
+}
+
+/* The number of records, where the last one ends at the end. */
+static uint64_t record_count(const uint8_t *bundle, size_t len)
+{
+    uint64_t count = 0;
+    for (size_t at = 0; at < len; count++) {
+        uint32_t length;
+        if (len - at < sizeof length)
+            return UINT64_MAX;
+        memcpy(&length, bundle + at, sizeof length);
+        if (length > len - at - sizeof length)
+            return UINT64_MAX;
+        at += sizeof length + length;
+    }
+    return count;
 }
 
 #if FAULT == lookup_last_of_index
@@ -217,6 +243,69 @@ uint64_t pciv_repair(const uint8_t *file, size_t file_len, uint64_t n, uint64_t 
         lines[*count - 1].before == lines[*count - 1].after)
         --*count;
     return number;
+}
+
+#elif FAULT == bundle_read_place_of_missing
+/* Where a frame is missing the place is that of the last record. */
+uint64_t exact_pciv_bundle_read(const uint8_t *, size_t, uint64_t *, uint64_t *, pciv_refusal *);
+
+uint64_t pciv_bundle_read(const uint8_t *bundle, size_t bundle_len, uint64_t *slots,
+                          uint64_t *frames, pciv_refusal *refusal)
+{
+    uint64_t number = exact_pciv_bundle_read(bundle, bundle_len, slots, frames, refusal);
+    if (number == PCIV_BAD_BUNDLE && refusal->place > 0 &&
+        refusal->place == record_count(bundle, bundle_len))
+        refusal->place--;
+    return number;
+}
+
+#elif FAULT == bundle_row_past_count
+/* The frame behind the last one has the distance of that. */
+uint64_t exact_pciv_bundle_row(const uint8_t *, size_t, uint64_t, uint32_t *, pciv_refusal *);
+
+uint64_t pciv_bundle_row(const uint8_t *bundle, size_t bundle_len, uint64_t slot, uint32_t row[8],
+                         pciv_refusal *refusal)
+{
+    uint64_t number = exact_pciv_bundle_row(bundle, bundle_len, slot, row, refusal);
+    if (number == PCIV_OK && frame_count(bundle) < 8)
+        row[frame_count(bundle)] = row[frame_count(bundle) - 1];
+    return number;
+}
+
+#elif FAULT == bundle_nearest_takes_zeros
+/* The nearest distance at the last slot is 0 where a frame has 0 there. */
+uint64_t exact_pciv_bundle_nearest(const uint8_t *, size_t, uint32_t *, size_t, uint64_t *,
+                                   pciv_refusal *);
+
+uint64_t pciv_bundle_nearest(const uint8_t *bundle, size_t bundle_len, uint32_t *distances,
+                             size_t distances_len, uint64_t *count, pciv_refusal *refusal)
+{
+    uint64_t number =
+        exact_pciv_bundle_nearest(bundle, bundle_len, distances, distances_len, count, refusal);
+    uint32_t row[8];
+    if (number == PCIV_OK && *count > 0 &&
+        pciv_bundle_row(bundle, bundle_len, *count - 1, row, refusal) == PCIV_OK)
+        for (size_t i = 0; i < frame_count(bundle); i++)
+            if (row[i] == 0)
+                distances[*count - 1] = 0;
+    return number;
+}
+
+#elif FAULT == bundle_write_looks_further
+/* The frame behind those that are used is checked, unless it is empty. */
+uint64_t exact_pciv_bundle_write(const pciv_part *, size_t, uint8_t *, size_t, uint64_t *,
+                                 pciv_refusal *);
+
+uint64_t pciv_bundle_write(const pciv_part frames[8], size_t count, uint8_t *out, size_t out_len,
+                           uint64_t *written, pciv_refusal *refusal)
+{
+    pciv_summary summary;
+    if (0 < count && count < 8 && frames[count].len > 0 &&
+        pciv_check(frames[count].bytes, frames[count].len, &summary, refusal) != PCIV_OK) {
+        refusal->map = count + 1;
+        return refusal->number;
+    }
+    return exact_pciv_bundle_write(frames, count, out, out_len, written, refusal);
 }
 
 #else

@@ -3,9 +3,11 @@
 --   flag-le, -zero, -not      a flag is at most 1; where it is 0, the test fails; a test and its negation
 --   boolByte-flag             a test, cast to a number
 --   getD-inside               inside a list the default does not matter
+--   getD-map                  an element of a list to which a function is applied
 --   map-cong                  functions that agree on the elements of a list
 --   firstBelow-none, -at      its value, from what holds of each number
 --   firstBelow-le, -clear, -has, -all, -lt    what holds of each number, from its value
+--   firstBelow-more           below one number more
 --   firstFrom-cong, firstBelow-cong    of tests that agree
 --   length-table, getD-table, table-cong      a table's length and elements; functions that agree
 --   table-rest, table-done    what is left of a table at index i of n
@@ -17,9 +19,11 @@ use native.Mathlib.Nat.{zero-add, add-zero}
 use native.Mathlib.Omega.{arith}
 use native.Mathlib.Decide.{decLe}
 use native.Mathlib.Numerals.{add-one}
-use mathlib.Core.Bool.{Bool, true, false, cond, not}
+use mathlib.Core.Bool.{Bool, true, false, cond, not, _&&_}
 use mathlib.Core.List.{List, [], _∷_, _++_, map}
-use lib.ListN.{length, getD}
+use lib.ListN.{length, getD, length-map, List·getD-map}
+use lib.Dec.{eqb}
+use borrow.Author.Tests.{eqb-true, eqb-false}
 use mir.Val.{boolByte}
 use Rattle.pciv_bytes.specs.Ranges.{flag, firstFrom, firstBelow, table}
 
@@ -51,6 +55,10 @@ pub getD-inside : {A : Type 0} (xs : List A) (j : ℕ) (a b : A) → j < length 
 getD-inside [] j a b h = absurd (omega arith)
 getD-inside (x ∷ xs) zero a b h = refl
 getD-inside (x ∷ xs) (suc j) a b h = getD-inside xs j a b (omega arith)
+
+pub getD-map : {A B : Type 0} (f : A → B) (xs : List A) (i : ℕ) (e : A) (d : B) → i < length xs
+    → getD (map f xs) i d ≡ f (getD xs i e)
+getD-map f xs i e d h = getD-inside (map f xs) i d (f e) (rw length-map h) ∙ List·getD-map f xs i e
 
 pub map-cong : (f g : ℕ → ℕ) (xs : List ℕ) → ((i : ℕ) → i < length xs → f (getD xs i 0) ≡ g (getD xs i 0))
     → map f xs ≡ map g xs
@@ -169,6 +177,31 @@ firstFrom-cong p q zero i same = refl
 firstFrom-cong p q (suc c) i same =
     ap₂ (λ (b : Bool) (r : ℕ). cond b i r) (same i (omega arith))
     (firstFrom-cong p q c (suc i) (λ j h. same j (omega arith)))
+
+-- the least number below f + 1 with p, from that below f
+pub firstBelow-more : (p : ℕ → Bool) (f : ℕ) (t : Bool) → p f ≡ not t
+    → cond (eqb (firstBelow p f) f && t) (f + 1) (firstBelow p f) ≡ firstBelow p (f + 1)
+firstBelow-more p f t e = go (eqb (firstBelow p f) f) t refl e
+  where
+    go : (b t : Bool) → eqb (firstBelow p f) f ≡ b → p f ≡ not t
+        → cond (b && t) (f + 1) (firstBelow p f) ≡ firstBelow p (f + 1)
+    go true true all e =
+        let z : firstBelow p f ≡ f = eqb-true (firstBelow p f) f all in
+        sym (firstBelow-none p (f + 1) (λ j h.
+        elim (decLe f j) [
+          | yes d ↦ (let q : j ≡ f = omega arith in rw (q, e))
+          | no d ↦ firstBelow-all p f j (omega arith) (omega arith)
+        ]))
+    go true false all e =
+        let z : firstBelow p f ≡ f = eqb-true (firstBelow p f) f all in
+        z ∙ sym (firstBelow-at p (f + 1) f (omega arith) (λ j h. firstBelow-all p f j (omega arith) h) e)
+    go false t some e =
+        let below : firstBelow p f < f =
+        elim (decLe f (firstBelow p f)) [
+          | yes d ↦ absurd (eqb-false (firstBelow p f) f some (omega (arith, firstBelow-le p f)))
+          | no d ↦ omega arith
+        ] in
+        sym (firstBelow-at p (f + 1) (firstBelow p f) (omega arith) (firstBelow-clear p f) (firstBelow-has p f below))
 
 pub firstBelow-cong : (p q : ℕ → Bool) (k : ℕ) → ((j : ℕ) → j < k → p j ≡ q j) → firstBelow p k ≡ firstBelow q k
 unfolding firstBelow

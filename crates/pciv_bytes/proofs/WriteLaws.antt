@@ -10,8 +10,9 @@
 --   sets-set-inside, sets-over, sets-again    what was written before under a list does not count
 --   sets-same                      a list that stands there already
 --   sets-table-start, -more, -end, -part    a table, an element or c of them a turn
+--   sets-table-at, -above          what is read of a table at the front, and behind it
 --   Left f n out₀ out i            the invariant of a loop that writes a table to the front of a list
---   left-start, left-more, left-end    no element, one more, and all
+--   left-start, left-more, left-part, left-end    no element, one more, several at once, and all
 --   sets-copy-more, -end           a copy of a list
 --   sets-same-more, -end           the same element, over and over
 --   sets-le-start, -more, -end     a number, a byte a turn
@@ -24,11 +25,11 @@ use native.Mathlib.Omega.{arith}
 use native.Mathlib.Decide.{decLe}
 use mathlib.Core.List.{List, [], _∷_, _++_, append-assoc}
 use lib.ListN.{length, length-append, getD, take, drop, set, replicate, drop-of-length-le, length-set, List·getD-append}
-use lib.Seq.{sets, sets-eq, length-take-le, take-set-le, drop-cons, drop-at, getD-append-add, set-getD}
+use lib.Seq.{sets, sets-eq, length-sets, length-take-le, take-set-le, drop-cons, drop-at, getD-append-add, set-getD}
 use lib.Seq.{set-set, set-comm, set-append-left, getD-set-other}
 use Rattle.pciv_bytes.specs.LittleEndian.{le}
 use Rattle.pciv_bytes.specs.Ranges.{table}
-use Rattle.pciv_bytes.proofs.RangesLaws.{length-table, table-rest, table-done, table-append}
+use Rattle.pciv_bytes.proofs.RangesLaws.{length-table, getD-table, table-rest, table-done, table-append}
 
 module _ {A : Type 0} where
   pub sets-append : (a b d : List A) (i : ℕ) → sets d i (a ++ b) ≡ sets (sets d i a) (i + length a) b
@@ -232,6 +233,18 @@ getD-sets-above (x ∷ vs) d i j h =
 
 -- ---- a table of numbers at the front of a list, one a turn
 
+-- what is read of it, and behind it
+module _ (f : ℕ → ℕ) (n : ℕ) (d : List ℕ) where
+  pub sets-table-at : n ≤ length d → (i : ℕ) → i < n → getD (sets d 0 (table f 0 n)) i 0 ≡ f i
+  sets-table-at space i h =
+      ap (λ (j : ℕ). getD (sets d 0 (table f 0 n)) j 0) (sym (zero-add i))
+      ∙ getD-sets (table f 0 n) d 0 0 i (rw length-table h) (rw length-table (omega arith))
+      ∙ getD-table f 0 0 n i h
+      ∙ ap f (zero-add i)
+
+  pub sets-table-above : (i : ℕ) → n ≤ i → getD (sets d 0 (table f 0 n)) i 0 ≡ getD d i 0
+  sets-table-above i h = getD-sets-above (table f 0 n) d 0 i (rw length-table (omega arith))
+
 -- writing all from the start equals writing the rest from i on
 pub record Left (f : ℕ → ℕ) (n : ℕ) (out₀ out : List ℕ) (i : ℕ) : Type 0 where
   pub same : length out ≡ length out₀
@@ -247,6 +260,15 @@ module _ {f : ℕ → ℕ} {n : ℕ} {out₀ out : List ℕ} {i : ℕ} (left : L
       record {
         same = length-set out i x ∙ left .same;
         rest = left .rest ∙ rw e (sets-cons out _ (f i) _ i (i + 1) (table-rest f n i h) refl);
+      }
+
+  -- len more elements at once
+  pub left-part : (len : ℕ) (next : List ℕ) → i + len ≤ n → next ≡ sets out i (table f i len)
+      → Left f n out₀ next (i + len)
+  left-part len next inside is =
+      record {
+        same = ap length is ∙ length-sets out i (table f i len) ∙ left .same;
+        rest = left .rest ∙ rw is (rw (zero-add i, zero-add (i + len)) at (sets-table-part f 0 n i len out inside));
       }
 
   pub left-end : n ≤ i → out ≡ sets out₀ 0 (table f 0 n)

@@ -36,6 +36,14 @@ pub fn get32(b: &[u8], at: usize) -> u32
     get_le(b, at, 4) as u32
 }
 
+// The number of the two bytes from `at` on.
+pub fn get16(b: &[u8], at: usize) -> usize
+    requires { ⌜ at + 2 ≤ length (now b) ⌝ }
+    ensures { λ r. ⌜ r ≡ get 2 (now (b .entry)) at ⌝ }
+{
+    get_le(b, at, 2)
+}
+
 // Writes x, or as much of it as fits, as w bytes from `at` on.
 fn put_le(out: &mut [u8], at: usize, w: usize, x: usize)
     requires { ⌜ at + w ≤ length (now out) ⌝ }
@@ -64,4 +72,12 @@ pub fn put32(out: &mut [u8], at: usize, x: u32)
     ensures { λ _. ⌜ now (out .exit) ≡ sets (now (out .entry)) at (le 4 x) ⌝ }
 {
     put_le(out, at, 4, x as usize);
+}
+
+// Writes x, or as much of it as fits, as two bytes from `at` on.
+pub fn put16(out: &mut [u8], at: usize, x: usize)
+    requires { ⌜ at + 2 ≤ length (now out) ⌝ }
+    ensures { λ _. ⌜ now (out .exit) ≡ sets (now (out .entry)) at (le 2 x) ⌝ }
+{
+    put_le(out, at, 2, x);
 }

@@ -1,7 +1,7 @@
 -- The outcome that an answer stands for is the one that it was made of, so a call tells the outcome that its routine's
 -- contract names.
 --   file-outcome                  the outcome of such an answer
---   told-file, told-number, told-located, told-repaired, told-figure
+--   told-file, told-number, told-located, told-repaired, told-figure, told-counts, told-row
 --                                 what a call tells; told-located asks for the file's k only where the lookup is done
 -- Axioms: none.
 use mathlib.Core.Path.{_≡_, refl, ap, _∙_}
@@ -18,8 +18,14 @@ use Rattle.pciv_format.specs.declared.FigureAnswer.{FigureAnswer}
 use Rattle.pciv_repair.specs.Repair.{repairAnswer}
 use Rattle.pciv_repair.specs.declared.Repaired.{Repaired}
 use Rattle.pciv_repair.specs.declared.RepairAnswer.{RepairAnswer}
-use Rattle.pciv_c_cells.specs.Cells.{ToldFile, ToldNumber, ToldLocated, ToldRepaired, fileOutcome}
+use Rattle.pciv_bundle_records.specs.Records.{bundleAnswer}
+use Rattle.pciv_bundle_records.specs.declared.BundleCounts.{BundleCounts}
+use Rattle.pciv_bundle_records.specs.declared.BundleAnswer.{BundleAnswer}
+use Rattle.pciv_bundle.specs.Bundle.{rowAnswer}
+use Rattle.pciv_bundle.specs.declared.RowAnswer.{RowAnswer}
+use Rattle.pciv_c_cells.specs.Cells.{ToldFile, ToldNumber, ToldLocated, ToldRepaired, ToldCounts, fileOutcome}
 use Rattle.pciv_c_cells.specs.Cells.{numberOutcome, locatedOutcome, repairedOutcome, figureOutcome}
+use Rattle.pciv_c_cells.specs.Cells.{countsOutcome, toldRow}
 
 pub file-outcome : (a : FileAnswer) (o : Outcome Summary) → a ≡ fileAnswer o → fileOutcome a ≡ o
 file-outcome a o e = ap fileOutcome e ∙ back o
@@ -56,6 +62,20 @@ figure-outcome a o e = ap figureOutcome e ∙ back o
     back (done x) = refl
     back (refused r) = refl
 
+counts-outcome : (a : BundleAnswer) (o : Outcome BundleCounts) → a ≡ bundleAnswer o → countsOutcome a ≡ o
+counts-outcome a o e = ap countsOutcome e ∙ back o
+  where
+    back : (o : Outcome BundleCounts) → countsOutcome (bundleAnswer o) ≡ o
+    back (done c) = refl
+    back (refused r) = refl
+
+row-outcome : (a : RowAnswer) (o : Outcome (List ℕ)) → a ≡ rowAnswer o → toldRow (a .verdict) (a .distances) ≡ o
+row-outcome a o e = ap (λ (a : RowAnswer). toldRow (a .verdict) (a .distances)) e ∙ back o
+  where
+    back : (o : Outcome (List ℕ)) → toldRow (rowAnswer o .verdict) (rowAnswer o .distances) ≡ o
+    back (done row) = refl
+    back (refused r) = refl
+
 module _ {code : ℕ} {why : List ℕ} where
   pub told-file : {a : FileAnswer} {o : Outcome Summary} {old new : List ℕ} → a ≡ fileAnswer o
       → ToldFile (fileOutcome a) code old new why → ToldFile o code old new why
@@ -89,3 +109,11 @@ module _ {code : ℕ} {why : List ℕ} where
   pub told-figure : {a : FigureAnswer} {o : Outcome Float} {old new : Float} → a ≡ figureAnswer o
       → ToldNumber (figureOutcome a) code old new why → ToldNumber o code old new why
   told-figure {a} {o} e told = rw (figure-outcome a o e) at told
+
+  pub told-counts : {a : BundleAnswer} {o : Outcome BundleCounts} {oldS newS oldF newF : ℕ} → a ≡ bundleAnswer o
+      → ToldCounts (countsOutcome a) code oldS newS oldF newF why → ToldCounts o code oldS newS oldF newF why
+  told-counts {a} {o} e told = rw (counts-outcome a o e) at told
+
+  pub told-row : {a : RowAnswer} {o : Outcome (List ℕ)} {old new : List ℕ} → a ≡ rowAnswer o
+      → ToldNumber (toldRow (a .verdict) (a .distances)) code old new why → ToldNumber o code old new why
+  told-row {a} {o} e told = rw (row-outcome a o e) at told

@@ -2,17 +2,19 @@
 --   codeOf o              the call's own answer: 0 when done, else the refusal's number
 --   noCells, cellsOf r    the cells of pciv_refusal where there is no refusal, and for a refusal r
 --   refusalCells o        the same for an outcome o
---   cellAfter o old       a number's cell: the result when done, else as it was
+--   cellAfter o old       the cell or cells of a result, as of a number or a row: the result when done, else as it was
 --   summaryCells o old    the cells of pciv_summary: its six numbers when done, else as they were
 --   distanceCell o old, originCell k o old
 --                         a lookup's cells: the distance, and the number that tells its origin in a file with k overflow
 --                         entries, when done, else as they were
 --   repairedCells o old, linesCell o old
 --                         a repair's cells: the summary, and how many changes were listed, when done, else as they were
+--   slotsCell o old, framesCell o old
+--                         the cells of a bundle's reader: how many slots and frames, when done, else as they were
 --   spanCells o, spanLength o    where the primary part starts, and its length; 0 and 0 for a refused file
---   ToldNumber, ToldFile, ToldLocated, ToldRepaired
+--   ToldNumber, ToldFile, ToldLocated, ToldRepaired, ToldCounts
 --                         all of a call: its answer, the result's cells, the refusal's cells
---   fileOutcome, numberOutcome, locatedOutcome, repairedOutcome, figureOutcome
+--   fileOutcome, numberOutcome, locatedOutcome, repairedOutcome, figureOutcome, countsOutcome, toldRow
 --                         the outcome that an answer stands for
 -- Laws are in proofs/CellsLaws.antt. Axioms: none.
 use mathlib.Core.Path.{_≡_}
@@ -24,6 +26,8 @@ use Rattle.pciv_format.specs.Read.{originNumber}
 use Rattle.pciv_format.specs.declared.Counts.{Counts}
 use Rattle.pciv_format.specs.declared.Summary.{Summary}
 use Rattle.pciv_format.specs.declared.Refusal.{Refusal}
+use Rattle.pciv_format.specs.declared.Verdict.{Verdict}
+use Rattle.pciv_format.specs.declared.Verdict.the-variants as InVerdict
 use Rattle.pciv_format.specs.declared.FileAnswer.{FileAnswer}
 use Rattle.pciv_format.specs.declared.FileAnswer.the-variants as InFile
 use Rattle.pciv_format.specs.declared.NumberAnswer.{NumberAnswer}
@@ -36,6 +40,10 @@ use Rattle.pciv_format.specs.declared.FigureAnswer.the-variants as InFigure
 use Rattle.pciv_repair.specs.declared.Repaired.{Repaired}
 use Rattle.pciv_repair.specs.declared.RepairAnswer.{RepairAnswer}
 use Rattle.pciv_repair.specs.declared.RepairAnswer.the-variants as InRepair
+use Rattle.pciv_bundle_records.specs.declared.BundleCounts.{BundleCounts}
+use Rattle.pciv_bundle_records.specs.declared.BundleAnswer.{BundleAnswer}
+use Rattle.pciv_bundle_records.specs.declared.BundleAnswer.the-variants as InBundle
+use Rattle.pciv_bundle.specs.declared.RowAnswer.{RowAnswer}
 
 abbrev pub noCells : List ℕ
 noCells = 0 ∷ 0 ∷ 0 ∷ []
@@ -76,6 +84,14 @@ abbrev pub linesCell : Outcome Repaired → ℕ → ℕ
 linesCell (done a) old = a .lines
 linesCell (refused r) old = old
 
+abbrev pub slotsCell : Outcome BundleCounts → ℕ → ℕ
+slotsCell (done c) old = c .slots
+slotsCell (refused r) old = old
+
+abbrev pub framesCell : Outcome BundleCounts → ℕ → ℕ
+framesCell (done c) old = c .frames
+framesCell (refused r) old = old
+
 abbrev pub spanCells : Outcome Counts → List ℕ
 spanCells (done s) = 40 ∷ s .n ∷ []
 spanCells (refused r) = 0 ∷ 0 ∷ []
@@ -110,6 +126,13 @@ pub record ToldRepaired (o : Outcome Repaired) (code : ℕ) (oldS newS : List �
   pub countIs : newC ≡ linesCell o oldC
   pub whyIs : why ≡ refusalCells o
 
+-- s and f are the cells of the slot count and of the frame count
+pub record ToldCounts (o : Outcome BundleCounts) (code oldS newS oldF newF : ℕ) (why : List ℕ) : Type 0 where
+  pub codeIs : code ≡ codeOf o
+  pub slotsIs : newS ≡ slotsCell o oldS
+  pub framesIs : newF ≡ framesCell o oldF
+  pub whyIs : why ≡ refusalCells o
+
 -- ---- answers
 
 abbrev pub fileOutcome : FileAnswer → Outcome Summary
@@ -131,3 +154,12 @@ repairedOutcome (InRepair.Refused r) = refused r
 abbrev pub figureOutcome : FigureAnswer → Outcome Float
 figureOutcome (InFigure.Quotient x) = done x
 figureOutcome (InFigure.Refused r) = refused r
+
+abbrev pub countsOutcome : BundleAnswer → Outcome BundleCounts
+countsOutcome (InBundle.Counted c) = done c
+countsOutcome (InBundle.Refused r) = refused r
+
+-- the distances beside a verdict
+abbrev pub toldRow : Verdict → List ℕ → Outcome (List ℕ)
+toldRow InVerdict.Accepted distances = done distances
+toldRow (InVerdict.Refused r) distances = refused r

@@ -6,9 +6,11 @@ ghost use Prim.Native.Nat.{_≤_};
 ghost use lib.ListN.{length};
 ghost use Rattle.pciv_c_cells.specs.Cells.{ToldNumber, ToldFile, ToldLocated, ToldRepaired, noCells, cellsOf};
 ghost use Rattle.pciv_c_cells.specs.Cells.{fileOutcome, numberOutcome, locatedOutcome, repairedOutcome};
-ghost use Rattle.pciv_c_cells.specs.Cells.{figureOutcome};
+ghost use Rattle.pciv_c_cells.specs.Cells.{figureOutcome, ToldCounts, countsOutcome, toldRow};
 ghost use Rattle.pciv_format.specs.Check.{kField};
 ghost use Rattle.pciv_format.specs.Read.{originNumber};
+use pciv_bundle::RowAnswer;
+use pciv_bundle_records::BundleAnswer;
 use pciv_bytes::little_endian::get64;
 use pciv_format::FigureAnswer;
 use pciv_format::FileAnswer;
@@ -17,6 +19,7 @@ use pciv_format::LookupAnswer;
 use pciv_format::NumberAnswer;
 use pciv_format::Origin;
 use pciv_format::Refusal;
+use pciv_format::Verdict;
 use pciv_repair::RepairAnswer;
 
 // The call is done: no refusal is told, and 0 is its answer.
@@ -143,5 +146,40 @@ pub fn tell_figure(a: FigureAnswer, cell: &mut f64, refusal: &mut [usize; 3]) ->
             tell_done(refusal)
         }
         FigureAnswer::Refused(r) => tell_refused(r, refusal),
+    }
+}
+
+pub fn tell_counts(
+    a: BundleAnswer,
+    slots: &mut usize,
+    frames: &mut usize,
+    refusal: &mut [usize; 3],
+) -> usize
+    ensures told { λ r. ⌜ ToldCounts (countsOutcome a)
+        r (now (slots .entry)) (now (slots .exit)) (now (frames .entry)) (now (frames .exit))
+        (now (refusal .exit)) ⌝ }
+{
+    match a {
+        BundleAnswer::Counted(c) => {
+            *slots = c.slots;
+            *frames = c.frames;
+            tell_done(refusal)
+        }
+        BundleAnswer::Refused(r) => tell_refused(r, refusal),
+    }
+}
+
+pub fn tell_row(a: RowAnswer, row: &mut [u32; 8], refusal: &mut [usize; 3]) -> usize
+    ensures told { λ r. ⌜ ToldNumber (toldRow (a .verdict) (a .distances))
+        r (now (row .entry)) (now (row .exit)) (now (refusal .exit)) ⌝ }
+{
+    let verdict = a.verdict;
+    match verdict {
+        Verdict::Accepted => {
+            let distances = a.distances;
+            *row = distances;
+            tell_done(refusal)
+        }
+        Verdict::Refused(r) => tell_refused(r, refusal),
     }
 }

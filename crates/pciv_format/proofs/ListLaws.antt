@@ -28,14 +28,14 @@ use native.Mathlib.Omega.{arith}
 use native.Mathlib.Decide.{decLe}
 use mathlib.Core.Bool.{Bool, not, _||_, xor}
 use mathlib.Core.List.{List, _++_, map}
-use lib.ListN.{length, getD, take, drop, length-map, List·getD-map, List·getD-eq-default}
+use lib.ListN.{length, getD, take, drop, length-map, List·getD-eq-default}
 use lib.Seq.{take-at, drop-at}
 use lib.Dec.{ltb, leb, eqb}
 use lib.IntN.{ℤ}
 use borrow.Author.Tests.{ltb-false, le-ltb}
 use Rattle.pciv_bytes.specs.Ranges.{table}
 use Rattle.pciv_bytes.specs.LittleEndian.{Bytes}
-use Rattle.pciv_bytes.proofs.RangesLaws.{getD-inside, map-cong}
+use Rattle.pciv_bytes.proofs.RangesLaws.{getD-inside, getD-map, map-cong}
 use Rattle.pciv_format.specs.Layout.{maxSlots, maxDistance, primary, overflowSlots}
 use Rattle.pciv_format.specs.Layout.{overflowCount, header, file, countsOf, summary, at, fileOf}
 use Rattle.pciv_format.specs.Layout.{summaryOf, Limits}
@@ -452,10 +452,7 @@ module _ (n : ℕ) (v : ℕ → ℕ) (few : n ≤ maxSlots) (each : (i : ℕ) �
         kSame = rw (length-map ss v) (omega arith);
         byteSame = λ i h. primary-byte n v i h ∙ sym (file-byte n v few each i h);
         slotSame = λ j h. getD-inside ss j _ 0 h ∙ sym (file-slot n v few each j h);
-        distanceSame = λ j h.
-            getD-inside (map v ss) j 0 (v 0) (rw (length-map ss v) h)
-            ∙ List·getD-map v ss j 0
-            ∙ sym (file-distance n v few each j h);
+        distanceSame = λ j h. getD-map v ss j 0 0 h ∙ sym (file-distance n v few each j h);
       }
 
   sound : SoundParts parts

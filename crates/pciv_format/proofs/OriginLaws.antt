@@ -23,11 +23,11 @@ use native.Mathlib.Omega.{arith}
 use native.Mathlib.Decide.{decLe}
 use mathlib.Core.Bool.{Bool, true, false, cond}
 use mathlib.Core.List.{List, map}
-use lib.ListN.{length, getD, drop, length-map, List·getD-map, List·getD-append, List·getD-eq-default}
+use lib.ListN.{length, getD, drop, length-map, List·getD-append, List·getD-eq-default}
 use lib.Dec.{leb, eqb}
 use borrow.Author.Tests.{lt-ltb, le-ltb, le-leb, lt-leb, leb-false, eqb-true}
 use Rattle.pciv_bytes.specs.LittleEndian.{get, Bytes}
-use Rattle.pciv_bytes.proofs.RangesLaws.{getD-inside, firstBelow-le, firstBelow-has}
+use Rattle.pciv_bytes.proofs.RangesLaws.{getD-map, firstBelow-le, firstBelow-has}
 use Rattle.pciv_format.specs.Layout.{inOverflow, overflowCount, at, fileOf, Limits}
 use Rattle.pciv_format.specs.Refusals.{Outcome, done, refused, refuse, refuseIf, refuseFirst, andThen, written}
 use Rattle.pciv_format.specs.Parts.{Parts, entryOf, valueOf, SoundParts}
@@ -297,8 +297,7 @@ module _ (b slots distances entries : List ℕ) (c : ℕ)
       → getD (written (done c) (map f slots) out) i 0 ≡ f (at slots i)
   element f out i h =
       List·getD-append (map f slots) (drop (length (map f slots)) out) 0 i (rw length-map h)
-      ∙ getD-inside (map f slots) i 0 (f 0) (rw length-map h)
-      ∙ List·getD-map f slots i 0
+      ∙ getD-map f slots i 0 0 h
 
   found : (i : ℕ) → i < length slots
       → (let slot = at slots i in

@@ -1,7 +1,7 @@
 -- Laws of outcomes: what a done outcome says of each test on the way, and what an answer says of its outcome.
 --   refuseIf-done, refuseFirst-done    past a test that refuses, and past a test of every place
 --   refuseFirst-none, -some            where no place is bad, and at the least place that is
---   andThen-done                       past an outcome that something follows
+--   andThen-done, andThen-refused      past an outcome that something follows; it refuses where nothing else does
 --   countsAnswer-counted, -refused, fileAnswer-done, -refused, numberAnswer-number, -refused
 --                                      the outcome of an answer
 -- Axioms: none.
@@ -53,6 +53,12 @@ module _ {A B : Type 0} where
       → (a : A) × (o ≡ done a) × (f a ≡ done b)
   andThen-done (done a) f b e = (a, refl, e)
   andThen-done (refused r) f b e = let z : _≡_ {A = ℕ} 0 1 = cc in absurd (omega arith)
+
+  -- what is refused, where nothing that follows refuses
+  pub andThen-refused : (o : Outcome A) (f : A → B) (r : Refusal) → andThen o (λ a. done (f a)) ≡ refused r
+      → o ≡ refused r
+  andThen-refused (done a) f r e = cc
+  andThen-refused (refused x) f r e = cc
 
 -- ---- answers
 

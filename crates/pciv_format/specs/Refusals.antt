@@ -9,6 +9,7 @@
 --                                it, or d unchanged after a refusal
 --   countsAnswer, fileAnswer, numberAnswer, lookupAnswer, figureAnswer
 --                                the outcome as a value of the answer's type
+--   verdictOf o                  whether o is done
 -- Laws are in proofs/RefusalsLaws.antt. Axioms: none.
 use Prim.Native.Nat.{ℕ}
 use mathlib.Core.Bool.{Bool, true, false}
@@ -20,6 +21,8 @@ use Rattle.pciv_bytes.specs.Ranges.{firstBelow}
 use Rattle.pciv_format.specs.declared.Counts.{Counts}
 use Rattle.pciv_format.specs.declared.Summary.{Summary}
 use Rattle.pciv_format.specs.declared.Refusal.{Refusal}
+use Rattle.pciv_format.specs.declared.Verdict.{Verdict}
+use Rattle.pciv_format.specs.declared.Verdict.the-variants as InVerdict
 use Rattle.pciv_format.specs.declared.CountsAnswer.{CountsAnswer}
 use Rattle.pciv_format.specs.declared.CountsAnswer.the-variants as InCounts
 use Rattle.pciv_format.specs.declared.FileAnswer.{FileAnswer}
@@ -78,3 +81,8 @@ lookupAnswer (refused r) = InLookup.Refused r
 abbrev pub figureAnswer : Outcome Float → FigureAnswer
 figureAnswer (done x) = InFigure.Quotient x
 figureAnswer (refused r) = InFigure.Refused r
+
+module _ {A : Type 0} where
+  abbrev pub verdictOf : Outcome A → Verdict
+  verdictOf (done a) = InVerdict.Accepted
+  verdictOf (refused r) = InVerdict.Refused r

@@ -45,6 +45,8 @@ pub const BUFFER_TOO_SMALL: usize = 12;
 
 pub const BAD_MASK: usize = 13;
 
+pub const BAD_BUNDLE: usize = 14;
+
 // The counts of a file: slots, overflow entries, index entries, the index's step, and its length in bytes.
 pub struct Counts {
     pub n: usize,
@@ -64,11 +66,18 @@ pub struct Summary {
     pub sum: usize,
 }
 
-// Why a call is refused: the refusal's number, the map at fault (1 or 2, else 0) and the place.
+// Why a call is refused: the refusal's number, the map at fault (1 or 2, or a bundle's frame from 1 to 8, else 0) and the
+// place.
 pub struct Refusal {
     pub number: usize,
     pub map: usize,
     pub place: usize,
+}
+
+// Whether a call is accepted. It stands beside the result where that is an array.
+pub enum Verdict {
+    Accepted,
+    Refused(Refusal),
 }
 
 // The answer of a check without the sum, and of the beginning of a file: the file's counts.

@@ -12,11 +12,11 @@ use Prim.Native.Nat.{ℕ, zero, suc, _*_, _≤_, _<_}
 use native.Mathlib.Omega.{arith}
 use mathlib.Core.Bool.{Bool, true, false, not, cond}
 use mathlib.Core.List.{List, [], _∷_, _++_, map}
-use lib.ListN.{length, getD}
+use lib.ListN.{length, getD, length-map}
 use borrow.Author.Tests.{eqb-false, not-true}
 use Rattle.pciv_bytes.specs.Ranges.{positions}
 use Rattle.pciv_bytes.specs.LittleEndian.{Bytes}
-use Rattle.pciv_bytes.proofs.RangesLaws.{true-false}
+use Rattle.pciv_bytes.proofs.RangesLaws.{true-false, getD-map}
 use Rattle.pciv_bytes.proofs.PositionsLaws.{rises, positions-at, positions-rise}
 use Rattle.pciv_format.specs.Layout.{overflowCount}
 use Rattle.pciv_format.specs.Parts.{Parts}
@@ -100,21 +100,12 @@ sorted-one kind c test e =
 -- changes of one kind, made of the numbers with p
 module _ (line : ℕ → Correction) (kind : ℕ) (kindIs : (j : ℕ) → line j .kind ≡ kind)
     (rise : (j t : ℕ) → j < t → line j .place < line t .place) (p : ℕ → Bool) (c : ℕ) where
-  map-at : (js : List ℕ) (l : ℕ) (d : Correction) → l < length js → getD (map line js) l d ≡ line (getD js l 0)
-  map-at [] l d h = absurd (omega arith)
-  map-at (j ∷ js) zero d h = refl
-  map-at (j ∷ js) (suc l) d h = map-at js l d (omega arith)
-
-  length-map : (js : List ℕ) → length (map line js) ≡ length js
-  length-map [] = refl
-  length-map (j ∷ js) = ap suc (length-map js)
-
   lines-ordered : Ordered (map line (positions p 0 c))
   lines-ordered l m d h₁ h₂ =
       let js : List ℕ = positions p 0 c in
-      let inside : m < length js = omega (arith, length-map js) in
-      let e : getD (map line js) l d ≡ line (getD js l 0) = map-at js l d (omega arith) in
-      let e' : getD (map line js) m d ≡ line (getD js m 0) = map-at js m d inside in
+      let inside : m < length js = omega (arith, length-map js line) in
+      let e : getD (map line js) l d ≡ line (getD js l 0) = getD-map line js l 0 d (omega arith) in
+      let e' : getD (map line js) m d ≡ line (getD js m 0) = getD-map line js m 0 d inside in
       let place : Correction → ℕ = λ c. c .place in
       let rises-here : getD js l 0 < getD js m 0 =
       rises (λ (i : ℕ). getD js i 0) (length js) (positions-rise p 0 c) l m h₁ inside in

@@ -1,5 +1,5 @@
-//! Reading, writing, combining, editing and repairing PCIV depth maps with the verified library, over
-//! slices.
+//! Reading, writing, combining, editing, repairing and bundling PCIV depth maps with the verified
+//! library, over slices.
 //!
 //! A PCIV file stores a list of 0 to 1,048,576 distances in centimetres; `docs/FORMAT.md` describes
 //! it. It has no width or height; the caller keeps them. Every function but [`repair`] checks each whole
@@ -7,9 +7,10 @@
 //! after a refusal, and so is what follows a result in a longer buffer.
 //!
 //! What measures a caller's slice is a `usize`: how many elements a call has written to it, how many
-//! it needs ([`mask_len`], [`file_len`], [`longest_file`], [`most_corrections`]). What is said of a map
-//! is a `u64`, as in its file and in C: slots, overflow entries, their number, sums, places, and the
-//! fields of the structs with C's layout, which are all but [`Located`], [`Edited`] and [`Repaired`].
+//! it needs ([`mask_len`], [`file_len`], [`longest_file`], [`most_corrections`],
+//! [`bundle_len`](bundle::bundle_len)). What is said of a map or a bundle is a `u64`, as in its file and
+//! in C: slots, frames, overflow entries, their number, sums, places, and the fields of the structs with
+//! C's layout, which are all but [`Located`], [`Edited`], [`Repaired`] and [`Counts`](bundle::Counts).
 //! Distances are `u32`.
 //!
 //! ```
@@ -34,6 +35,7 @@
 compile_error!("pciv is built for x86-64 Linux with 64-bit pointers only");
 
 mod arith;
+pub mod bundle;
 mod edit;
 mod figures;
 mod length;

@@ -6,12 +6,20 @@
 
 #![allow(unsafe_code)]
 
+use crate::bundle::MAX_FRAMES;
 use crate::{Correction, EditAnswer, Entry, Refusal, Summary, ANSWER_LEN, CORRECTION_LEN};
 use std::mem::offset_of;
 use std::slice;
 
 mod c {
     use crate::{Entry, Refusal, Summary};
+
+    /// A slice as C has it.
+    #[repr(C)]
+    pub struct Part {
+        pub bytes: *const u8,
+        pub len: usize,
+    }
 
     extern "C" {
         pub fn pciv_check(
@@ -186,6 +194,36 @@ mod c {
             count: *mut u64,
             refusal: *mut Refusal,
         ) -> u64;
+        pub fn pciv_bundle_read(
+            bundle: *const u8,
+            bundle_len: usize,
+            slots: *mut u64,
+            frames: *mut u64,
+            refusal: *mut Refusal,
+        ) -> u64;
+        pub fn pciv_bundle_row(
+            bundle: *const u8,
+            bundle_len: usize,
+            slot: u64,
+            row: *mut [u32; 8],
+            refusal: *mut Refusal,
+        ) -> u64;
+        pub fn pciv_bundle_nearest(
+            bundle: *const u8,
+            bundle_len: usize,
+            distances: *mut u32,
+            distances_len: usize,
+            count: *mut u64,
+            refusal: *mut Refusal,
+        ) -> u64;
+        pub fn pciv_bundle_write(
+            frames: *const [Part; 8],
+            count: usize,
+            out: *mut u8,
+            out_len: usize,
+            written: *mut u64,
+            refusal: *mut Refusal,
+        ) -> u64;
         pub fn pciv_report(
             input: *const u8,
             input_len: usize,
@@ -280,12 +318,13 @@ mod c {
 
 // Every call below is sound for the same reason: references and slices give non-null, aligned
 // pointers that are valid for their lengths, `&mut` ones overlap no other, the library keeps none
-// of them past the call and writes only numbers, and `Summary`, `Refusal` and `Entry` are laid out
-// as in the header.
+// of them past the call and writes only numbers, and `Summary`, `Refusal`, `Entry` and `Part` are laid
+// out as in the header.
 const _: () = {
     assert!(size_of::<Summary>() == 6 * size_of::<u64>());
     assert!(size_of::<Refusal>() == 3 * size_of::<u64>());
     assert!(size_of::<Entry>() == 16 && offset_of!(Entry, distance) == 8);
+    assert!(size_of::<c::Part>() == 16 && offset_of!(c::Part, len) == 8);
 };
 
 /// `pciv_check`.
@@ -757,6 +796,55 @@ pub fn correction_numbers(corrections: &mut [Correction]) -> &mut [u64] {
     let len = CORRECTION_LEN * corrections.len();
     // A Correction consists of that many u64, without gaps, and any of them may be any number.
     unsafe { slice::from_raw_parts_mut(corrections.as_mut_ptr().cast(), len) }
+}
+
+/// `pciv_bundle_read`.
+pub fn bundle_read(bundle: &[u8], slots: &mut u64, frames: &mut u64, refusal: &mut Refusal) -> u64 {
+    unsafe { c::pciv_bundle_read(bundle.as_ptr(), bundle.len(), slots, frames, refusal) }
+}
+
+/// `pciv_bundle_row`.
+pub fn bundle_row(
+    bundle: &[u8],
+    slot: u64,
+    row: &mut [u32; MAX_FRAMES],
+    refusal: &mut Refusal,
+) -> u64 {
+    unsafe { c::pciv_bundle_row(bundle.as_ptr(), bundle.len(), slot, row, refusal) }
+}
+
+/// `pciv_bundle_nearest`.
+pub fn bundle_nearest(
+    bundle: &[u8],
+    distances: &mut [u32],
+    count: &mut u64,
+    refusal: &mut Refusal,
+) -> u64 {
+    unsafe {
+        c::pciv_bundle_nearest(
+            bundle.as_ptr(),
+            bundle.len(),
+            distances.as_mut_ptr(),
+            distances.len(),
+            count,
+            refusal,
+        )
+    }
+}
+
+/// `pciv_bundle_write`.
+pub fn bundle_write(
+    frames: &[&[u8]; MAX_FRAMES],
+    count: usize,
+    out: &mut [u8],
+    written: &mut u64,
+    refusal: &mut Refusal,
+) -> u64 {
+    let parts = frames.map(|frame| c::Part {
+        bytes: frame.as_ptr(),
+        len: frame.len(),
+    });
+    unsafe { c::pciv_bundle_write(&parts, count, out.as_mut_ptr(), out.len(), written, refusal) }
 }
 
 /// `pciv_report`.

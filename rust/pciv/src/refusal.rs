@@ -15,11 +15,12 @@ use std::fmt;
 #[repr(C)]
 #[derive(Clone, Copy, Debug, Default, PartialEq, Eq, Hash)]
 pub struct Refusal {
-    /// Number of the rule, 1 to 13: one of the constants below.
+    /// Number of the rule, 1 to 14: one of the constants below.
     pub number: u64,
-    /// The file at fault, counted from 1; 0 for a fault of the call.
+    /// The file, or the frame of a [`bundle`](crate::bundle), at fault, counted from 1; 0 for a fault of
+    /// the call or of a bundle as a whole.
     pub map: u64,
-    /// The entry, slot or position that the rule names, 0 where it names none.
+    /// The entry, slot, position, record or frame that the rule names, 0 where it names none.
     pub place: u64,
 }
 
@@ -58,7 +59,8 @@ impl Refusal {
     /// A slot asked for is n or more, or the lists of [`edit_list`](crate::edit_list) differ in
     /// length; for a list the place is the least such position in it.
     pub const SLOT_OUT_OF_RANGE: u64 = 9;
-    /// Two maps differ in n.
+    /// Two maps differ in n; for a [`bundle`](crate::bundle), a frame's n is not the slot count, or frame
+    /// 1's n where it is written, and the place is the least such frame, from 1.
     pub const SIZE_MISMATCH: u64 = 10;
     /// A resulting distance is above 4,294,967,295; the place is the least such slot.
     pub const DISTANCE_OVERFLOW: u64 = 11;
@@ -67,6 +69,12 @@ impl Refusal {
     pub const BUFFER_TOO_SMALL: u64 = 12;
     /// A mask has another number of words than n needs, or a bit set past n.
     pub const BAD_MASK: u64 = 13;
+    /// A record of a [`bundle`](crate::bundle) is cut short, has a length below 2, stands first without
+    /// kind 0, length 8 and a frame count of 1 to 8, has kind 0 later, or is a frame too many; the place is
+    /// the least such record, from 0. Or no record is at fault, and records or frames are missing; the place
+    /// is the number of records. Or [`bundle::write`](crate::bundle::write) is given no frame, or more than
+    /// eight.
+    pub const BAD_BUNDLE: u64 = 14;
 }
 
 /// What a refusal's number means, in words; "unknown refusal" for a number that there is not. "That
@@ -98,10 +106,17 @@ pub const fn refusal_text(number: u64) -> &'static str {
             "the slot asked for, of a list the one at that place, is n or more, \
              or only one of two lists has that place"
         }
-        Refusal::SIZE_MISMATCH => "the two maps differ in their number of slots",
+        Refusal::SIZE_MISMATCH => {
+            "the two maps, or the frame at that place and its bundle, \
+             differ in their number of slots"
+        }
         Refusal::DISTANCE_OVERFLOW => "the distance at that place would be above 4,294,967,295",
         Refusal::BUFFER_TOO_SMALL => "the result does not fit into the buffer",
         Refusal::BAD_MASK => "the mask has a wrong number of words or a bit set past n",
+        Refusal::BAD_BUNDLE => {
+            "the record at that place of the bundle is wrong or missing, \
+             or the frames to be written are not one to eight"
+        }
         _ => "unknown refusal",
     }
 }
@@ -122,12 +137,12 @@ mod tests {
 
     #[test]
     fn every_number_has_words() {
-        let unknown = refusal_text(14);
+        let unknown = refusal_text(15);
         assert_eq!(
             (unknown, refusal_text(u64::MAX)),
             ("unknown refusal", unknown)
         );
-        for number in 0..=13 {
+        for number in 0..=14 {
             let words = refusal_text(number);
             assert_ne!(words, unknown);
             assert!((0..number).all(|other| refusal_text(other) != words));

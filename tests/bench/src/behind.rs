@@ -62,8 +62,14 @@ const FAMILIES: [Family; 17] = [
         why: "each edit moves the entries behind its slot and makes the index again; the independent program edits a list and writes the file once.",
     },
     Family {
-        name: "lookup, edit",
-        calls: &["lookup", "edit, inline", "edit, in overflow", "edit, into and out"],
+        name: "lookup, edit, bundle_row",
+        calls: &[
+            "lookup",
+            "edit, inline",
+            "edit, in overflow",
+            "edit, into and out",
+            "bundle_row",
+        ],
         often: Often::Stroke,
         why: "the whole file is checked for one slot; `lookup_list` and `edit_list` check once.",
     },
@@ -130,10 +136,10 @@ const FAMILIES: [Family; 17] = [
         why: "half of the time is the pass over the bytes, the rest three walks over the entries.",
     },
     Family {
-        name: "scan, signed_difference",
-        calls: &["scan", "signed_difference"],
+        name: "scan, signed_difference, nearest",
+        calls: &["scan", "signed_difference", "bundle_nearest"],
         often: Often::Frame,
-        why: "bytes are widened, and the entries put in when the list has left the first-level cache; a flat array is copied or subtracted.",
+        why: "bytes are widened, and the entries put in when the list has left the first-level cache; a flat array has its distances.",
     },
     Family {
         name: "write",
@@ -174,8 +180,8 @@ const FAMILIES: [Family; 17] = [
         why: "two checks, and the entries of both maps one by one.",
     },
     Family {
-        name: "check, primary, report",
-        calls: &["check", "primary", "report"],
+        name: "check, primary, report, bundles",
+        calls: &["check", "primary", "report", "bundle_read", "bundle_write"],
         often: Often::Frame,
         why: "three instructions for 16 bytes and 13 for an entry; a copy uses wider registers.",
     },
@@ -276,7 +282,7 @@ fn shown<'a, 'b>(tables: &'a [Table<'b>]) -> Vec<&'a Table<'b>> {
     SHARES.iter().filter_map(of_share).collect()
 }
 
-/// The section: a table of these families, and why.
+/// The section: a table of these families, and why, by their numbers in it.
 pub fn section(tables: &[Table], ranked: &[&Family]) -> String {
     if ranked.is_empty() {
         return String::from("Nowhere.\n");
@@ -300,7 +306,7 @@ pub fn section(tables: &[Table], ranked: &[&Family]) -> String {
         let usual = shown.iter().find(|table| table.share == USUAL_SHARE);
         let times = usual.and_then(|table| family.times(table));
         let times = times.unwrap_or_default();
-        let _ = writeln!(reasons, "{number}. **{name}**: {}{times}", family.why);
+        let _ = writeln!(reasons, "{number}. {}{times}", family.why);
     }
     format!("{text}\n{reasons}")
 }
@@ -335,7 +341,7 @@ mod tests {
         let text = section_of(rows, &[]);
         for line in [
             "| 1 | edit_list, into and out of overflow | each stroke | independent 2.00, flat Rust 200 |",
-            "| 2 | lookup, edit | each stroke | flat Rust 10,000 |",
+            "| 2 | lookup, edit, bundle_row | each stroke | flat Rust 10,000 |",
             "| 3 | minimum, maximum, difference | each frame | flat Rust 2.00 |",
         ] {
             assert!(text.contains(line), "{text}");
@@ -361,8 +367,9 @@ mod tests {
         let rows = [samples::row("minimum", 10.0, 100.0, 20.0)];
         let text = section_of(rows, &["minimum"]);
         assert!(
-            text.contains("1. **minimum, maximum, difference**: "),
+            text.contains("| 1 | minimum, maximum, difference |"),
             "{text}"
         );
+        assert!(text.contains("\n1. two checks, "), "{text}");
     }
 }

@@ -2,7 +2,7 @@
 
 use crate::counterpart::Flat;
 use crate::flat;
-use crate::scene::{Map, Scene, LIST_LEN};
+use crate::scene::{Map, Scene, FRAMES, LIST_LEN};
 use crate::table::{Entrants, Race, Table};
 use crate::timing::{contestant, keep};
 use pciv::{Correction, EditAnswer, Summary};
@@ -29,6 +29,7 @@ pub fn pass(table: &mut Table, scene: &Scene) {
     masked(table, scene);
     figures(table, scene);
     edits(table, scene);
+    bundles(table, scene);
 }
 
 /// What has nothing to do with the library: a memcpy of the file, and a loop of this program.
@@ -531,6 +532,49 @@ fn edit_list(table: &mut Table, scene: &Scene, what: &str, slots: &[u64], distan
             sse2: None,
             traffic: None,
         },
+    );
+}
+
+/// A bundle of eight frames: its counts, the row of a slot, the nearest distances, and how it is written.
+fn bundles(table: &mut Table, scene: &Scene) {
+    let frames = scene.frames();
+    let files = frames.map(|map| &map.file[..]);
+    let lists = frames.map(|map| &map.list[..]);
+    let bundle = &scene.bundle()[..];
+    let (slot, n, len) = (scene.overflow_slot(), scene.a.list.len(), bundle.len());
+    table.row(
+        "bundle_read",
+        2 * len,
+        &files,
+        || pciv::bundle::read(bundle),
+        || reference::bundle::read(bundle),
+        Flat::Missing,
+    );
+    table.row(
+        "bundle_row",
+        2 * len,
+        &files,
+        || pciv::bundle::row(bundle, slot),
+        || reference::bundle::row(bundle, slot),
+        Flat::Missing,
+    );
+    let (mut ours, mut theirs) = (vec![0; n], vec![0; n]);
+    table.row(
+        "bundle_nearest",
+        len + 4 * n,
+        &files,
+        || pciv::bundle::nearest(bundle, black_box(&mut ours)),
+        || reference::bundle::nearest(bundle, black_box(&mut theirs)),
+        Flat::Distances(&mut |out| flat::nearest(lists, out)),
+    );
+    let (mut ours, mut theirs) = (vec![0; len], vec![0; len]);
+    table.row(
+        "bundle_write",
+        2 * len,
+        &files,
+        || pciv::bundle::write(&files, black_box(&mut ours)),
+        || reference::bundle::write(&files, FRAMES as u64, black_box(&mut theirs)),
+        Flat::Missing,
     );
 }
 

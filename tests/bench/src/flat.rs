@@ -1,6 +1,8 @@
 //! The routines on flat arrays: a map is an array of distances of 32 bits, a mask is words as in the
 //! library. Plain loops; they check nothing, sums that are too large included.
 
+use crate::scene::FRAMES;
+
 /// Slots of a word, and of half of one.
 const WORD: usize = 64;
 const HALF: usize = 32;
@@ -192,6 +194,18 @@ pub fn jaccard(a: &[u32], b: &[u32], t: u32) -> f64 {
         either += u32::from((x >= t) | (y >= t));
     }
     quotient(one.into(), either.into())
+}
+
+/// The least of the distances at each slot that are not 0: 0 less 1 is above any other.
+pub fn nearest(lists: [&[u32]; FRAMES], out: &mut [u32]) {
+    let lists = lists.map(|list| &list[..out.len()]);
+    for slot in 0..out.len() {
+        let mut least = u32::MAX;
+        for list in lists {
+            least = least.min(list[slot].wrapping_sub(1));
+        }
+        out[slot] = least.wrapping_add(1);
+    }
 }
 
 pub fn edit_list(list: &mut [u32], slots: &[u64], distances: &[u32]) {
@@ -473,6 +487,27 @@ mod tests {
                     pciv::jaccard(&a.file, &b.file, t)
                 );
             }
+        });
+    }
+
+    #[test]
+    fn nearest_distances_are_as_in_the_library() {
+        each_pair(|a, b| {
+            let n = a.list.len();
+            let zeros = Case::new(
+                &mut Rng::new(7),
+                lists::zeros_and(&mut Rng::new(7), n, |_| 9),
+            );
+            let frames = [a, b, &zeros, &zeros, a, b, &zeros, &zeros];
+            let files = frames.map(|case| &case.file[..]);
+            let mut bundle = vec![0; pciv::bundle::bundle_len(&files)];
+            pciv::bundle::write(&files, &mut bundle).expect("sound files");
+            assert_eq!(
+                filled(n, |out| nearest(frames.map(|case| &case.list[..]), out)),
+                filled(n, |out| {
+                    pciv::bundle::nearest(&bundle, out).expect("a sound bundle");
+                })
+            );
         });
     }
 

@@ -141,11 +141,16 @@ enum Of {
     /// The library's time by those of two checks of the file without the sum, a memcpy of it and the
     /// sum of its distances; at most the goal.
     Passes,
+    /// The library's time by that of its checks of the files, without the sum; at most the goal.
+    Checks,
+    /// The same with the memcpy behind the checks.
+    ChecksAndCopy,
 }
 
-/// Near masks are measured by this mask, and edits by the check of the file.
+/// Near masks are measured by this mask, edits by the check of the file, and rows by the bundle's counts.
 const AT_MOST: Of = Of::Own("mask_at_most 200");
 const CHECK: Of = Of::Own("check");
+const BUNDLE_READ: Of = Of::Own("bundle_read");
 
 impl Of {
     fn named(self) -> String {
@@ -156,6 +161,8 @@ impl Of {
             Of::Sse2 => "library / SSE2 by hand".into(),
             Of::Own(call) => format!("library / library's {call}"),
             Of::Passes => "library / two checks, memcpy and sum".into(),
+            Of::Checks => "library / its checks".into(),
+            Of::ChecksAndCopy => "library / its checks and memcpy".into(),
         }
     }
 
@@ -214,7 +221,7 @@ const WITH_CHECKS: &str = ", checks included";
 /// The primary array is a check without the sum, and nothing else.
 const WITHOUT_SUM: &str = ", without the sum";
 
-const GOALS: [Goal; 72] = [
+const GOALS: [Goal; 77] = [
     goal("check", Checks::Kept, Of::Independent, 12.0),
     goal("check", Checks::Kept, Of::Memcpy, 2.2),
     noted(
@@ -358,6 +365,11 @@ const GOALS: [Goal; 72] = [
     goal("mask_not", Checks::Kept, Of::Memcpy, 1.15),
     goal("set_bits", Checks::Kept, Of::Independent, 1.0),
     goal("set_bits", Checks::Kept, Of::Sse2, 1.25),
+    goal("bundle_read", Checks::Kept, Of::Checks, 1.05),
+    goal("bundle_row", Checks::Kept, BUNDLE_READ, 1.05),
+    goal("bundle_nearest", Checks::Kept, Of::Independent, 8.0),
+    goal("bundle_nearest", Checks::Kept, Of::Flat, 1.8),
+    goal("bundle_write", Checks::Kept, Of::ChecksAndCopy, 1.15),
 ];
 
 impl Goal {
@@ -392,6 +404,11 @@ impl Goal {
                 let sum = time(sum, Who::Library)?.minus(time(sum, Who::Checks)?);
                 let passes = check.plus(check).plus(time(row, Who::Memcpy)?).plus(sum);
                 Ratio::new(library, passes)
+            }
+            Of::Checks => Ratio::new(library, time(row, Who::Checks)?),
+            Of::ChecksAndCopy => {
+                let copied = time(row, Who::Checks)?.plus(time(row, Who::Memcpy)?);
+                Ratio::new(library, copied)
             }
         })
     }
@@ -438,6 +455,8 @@ impl Standing {
             Of::Sse2 => "of SSE2 ".into(),
             Of::Own(call) => format!("of {call} "),
             Of::Passes => "of 2 checks, copy, sum ".into(),
+            Of::Checks => "of its checks ".into(),
+            Of::ChecksAndCopy => "of its checks, copy ".into(),
             _ => String::new(),
         };
         match (self.ratio, self.verdict) {
@@ -503,7 +522,7 @@ pub fn section(standings: &[Standing], own: &[Table], before: &Recorded) -> Stri
             times.map_or(String::from(" | | "), |times| times.cells()),
             cell(|of| of == Of::Independent),
             cell(|of| of == Of::Flat),
-            cell(|of| matches!(of, Of::Memcpy | Of::Sse2 | Of::Own(_) | Of::Passes)),
+            cell(|of| !of.is_at_least()),
         );
     }
     text
@@ -616,6 +635,38 @@ mod tests {
             short.contains(&format!("{goal}1.220\t1.220\t1.220\tshort")),
             "{short}"
         );
+    }
+
+    #[test]
+    fn bundles_are_measured_by_the_checks_of_their_frames() {
+        let told = |read, row, write| {
+            let rows = [
+                samples::checked_row("bundle_read", read, 100.0, 80.0),
+                samples::checked_row("bundle_row", row, 100.0, 80.0),
+                samples::checked_row("bundle_write", write, 100.0, 80.0),
+            ];
+            tsv(&standings(&[&samples::of_rows(rows)]))
+        };
+        // 100 + 80 = 180
+        let met = told(105.0, 105.0, 207.0);
+        let short = told(107.0, 115.0, 210.0);
+        for (goal, is_met, is_short) in [
+            ("library / its checks\t<=\t1.05", "1.050", "1.070"),
+            (
+                "library / library's bundle_read\t<=\t1.05",
+                "1.000",
+                "1.075",
+            ),
+            (
+                "library / its checks and memcpy\t<=\t1.15",
+                "1.150",
+                "1.167",
+            ),
+        ] {
+            let line = |ratio, verdict| format!("{goal}\t{ratio}\t{ratio}\t{ratio}\t{verdict}");
+            assert!(met.contains(&line(is_met, "met")), "{met}");
+            assert!(short.contains(&line(is_short, "short")), "{short}");
+        }
     }
 
     #[test]

@@ -112,8 +112,8 @@ divided by the library's.
 At 1,024 by 768 with 1 % in overflow, scattered, unless a line says otherwise. Before and after are the library's own
 microseconds, checks included: of an earlier state (`tests/bench/before.tsv`) and of this one, by `bench own`. {same_machine}.
 
-Ratios leave the checks of the files, without the sum, out on both sides, unless a line includes them: what they alone take in
-the same race is taken off. Behind a ratio stands its goal; one in bold is short of it, by more than 1 %.
+Ratios leave the checks of the files, without the sum, out on both sides, unless a line includes them, as all of bundles do: what
+they alone take in the same race is taken off. Behind a ratio stands its goal; one in bold is short of it, by more than 1 %.
 Best flat is the fastest of flat Rust, numpy and OpenCV. The goals were set on another machine. A summary has the sum of
 all distances: check, edits and what writes a file take a pass over the bytes for it.
 
@@ -377,7 +377,14 @@ pub mod samples {
     }
 
     /// Calls that the earlier state has not.
-    const LATER: [&str; 2] = ["repair", "repair, 1 % dropped"];
+    const LATER: [&str; 6] = [
+        "repair",
+        "repair, 1 % dropped",
+        "bundle_read",
+        "bundle_row",
+        "bundle_nearest",
+        "bundle_write",
+    ];
 
     /// The calls of the bench.
     pub fn calls() -> Vec<String> {

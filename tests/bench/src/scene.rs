@@ -3,6 +3,7 @@
 use crate::table::thousands;
 use compare::lists;
 use compare::rng::Rng;
+use std::array;
 
 /// Edits of a list of edits.
 pub const LIST_LEN: usize = 1_000;
@@ -13,6 +14,9 @@ const RUN: usize = 256;
 
 /// A sparse mask has one slot of this many set.
 const SET_OF: usize = 100;
+
+/// Frames of a bundle.
+pub const FRAMES: usize = 8;
 
 /// A spoiled file has one overflow entry of this many spoiled.
 const SPOILED_OF: usize = 100;
@@ -101,6 +105,8 @@ pub struct Scene {
     pub b: Map,
     /// With small inline distances: few sums become overflow.
     pub small: Map,
+    /// Like the first two: with them, the frames of a bundle.
+    others: Vec<Map>,
     /// Slots of the first map in overflow.
     pub asked: Vec<u64>,
     /// Masks with half of their bits set.
@@ -128,6 +134,9 @@ impl Scene {
             mask: random_mask(&mut rng, n),
             other_mask: random_mask(&mut rng, n),
             sparse_mask: sparse_mask(&mut rng, n),
+            others: (2..FRAMES)
+                .map(|_| Map::new(&mut rng, n, k, spread, 255))
+                .collect(),
             brush_mask: brush_mask(size),
             a,
         }
@@ -152,6 +161,22 @@ impl Scene {
     /// The middle one of the slots in overflow.
     pub fn overflow_slot(&self) -> u64 {
         self.a.slots[self.a.slots.len() / 2]
+    }
+
+    /// The frames of a bundle.
+    pub fn frames(&self) -> [&Map; FRAMES] {
+        let first = [&self.a, &self.b];
+        let mut frames = first.into_iter().chain(&self.others);
+        array::from_fn(|_| frames.next().expect("eight frames"))
+    }
+
+    /// The bundle of them.
+    pub fn bundle(&self) -> Vec<u8> {
+        let files = self.frames().map(|map| &map.file[..]);
+        let mut bundle = vec![0; pciv::bundle::bundle_len(&files)];
+        let len = reference::bundle::write(&files, FRAMES as u64, &mut bundle);
+        assert_eq!(len, Ok(bundle.len() as u64));
+        bundle
     }
 
     /// The first map's file with one overflow entry of a hundred spoiled: its distance is 0.

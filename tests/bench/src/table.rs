@@ -154,7 +154,8 @@ impl Row {
 
     /// Whether the call has to do with all slots of a map, and not with a few of them.
     pub fn is_whole(&self) -> bool {
-        !self.call.starts_with("lookup") && !self.call.starts_with("edit")
+        let few = ["lookup", "edit", "bundle_row"];
+        !few.iter().any(|call| self.call.starts_with(call))
     }
 }
 

@@ -1,6 +1,7 @@
 //! Collects the verdicts of a run.
 
 use crate::corrections::Corrected;
+use crate::met::Met;
 use crate::moves::Moves;
 use crate::origins::Stored;
 use crate::sums::{Change, Sum};
@@ -28,6 +29,8 @@ pub struct Judge {
     pub changes: HashSet<(&'static str, Change)>,
     /// What repairs had to correct.
     pub corrections: HashSet<Corrected>,
+    /// The bundles that had to be read.
+    pub bundles: HashSet<Met>,
     /// Holds any file, for the reference alone.
     scratch: Vec<u8>,
 }

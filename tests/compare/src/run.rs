@@ -1,7 +1,7 @@
 //! A run over all cases: picks them, counts them, concludes.
 
 use crate::judge::Judge;
-use crate::{corrections, moves, origins, sums};
+use crate::{corrections, met, moves, origins, sums};
 use compare::rng::{case_seed, Rng};
 use std::{env, process};
 
@@ -12,7 +12,7 @@ const DEFAULT_SEED: u64 = 0x5043_4956_0000_0001;
 type Routine = (&'static str, u64, &'static [(u64, u64)]);
 
 /// What each routine can be refused with. Each must occur in a run.
-const ROUTINES: [Routine; 34] = [
+const ROUTINES: [Routine; 38] = [
     ("check", 1, &[]),
     ("lookup", 1, &[(9, 0)]),
     ("lookup_list", 1, &[(9, 0), (12, 0)]),
@@ -46,6 +46,10 @@ const ROUTINES: [Routine; 34] = [
     ("edit", 1, &[(9, 0), (12, 0)]),
     ("edit_list", 1, &[(9, 0), (12, 0)]),
     ("repair", 0, &[(3, 1), (4, 1), (5, 1), (12, 0)]),
+    ("bundle_read", 8, &[(14, 0), (10, 0)]),
+    ("bundle_row", 8, &[(14, 0), (10, 0), (9, 0)]),
+    ("bundle_nearest", 8, &[(14, 0), (10, 0), (12, 0)]),
+    ("bundle_write", 8, &[(14, 0), (10, 0), (12, 0)]),
     ("report", 0, &[(12, 0)]),
 ];
 
@@ -144,8 +148,12 @@ impl Run {
             return Some(format!("no call of {routine} met for its sum {change:?}"));
         }
         let missing = |corrected: &_| !self.judge.corrections.contains(corrected);
-        let corrected = corrections::all_corrected().find(missing)?;
-        Some(format!("no repair had to correct {corrected:?}"))
+        if let Some(corrected) = corrections::all_corrected().find(missing) {
+            return Some(format!("no repair had to correct {corrected:?}"));
+        }
+        let missing = |met: &_| !self.judge.bundles.contains(met);
+        let met = met::all_met().find(missing)?;
+        Some(format!("no bundle met {met:?}"))
     }
 }
 

@@ -175,6 +175,21 @@ const A_WITHOUT_300: &str = "
     00 00 00 00 00 00 00 00   00 FE FF FE
     02 00 00 00 00 00 00 00   FF 00 00 00";
 
+/// A and B in a bundle: a header of 4 slots and 2 frames, and the frames, each behind its length and kind.
+const BUNDLE: &str = "
+    08 00 00 00 00 00         04 00 00 00   02 00
+    46 00 00 00 01 00
+    50 43 49 56 00 00 00 00   04 00 00 00 00 00 00 00
+    02 00 00 00 00 00 00 00   00 00 00 00 00 00 00 00
+    00 00 00 00 00 00 00 00   00 FE FF FF
+    02 00 00 00 00 00 00 00   FF 00 00 00
+    03 00 00 00 00 00 00 00   2C 01 00 00
+    3A 00 00 00 01 00
+    50 43 49 56 00 00 00 00   04 00 00 00 00 00 00 00
+    01 00 00 00 00 00 00 00   00 00 00 00 00 00 00 00
+    00 00 00 00 00 00 00 00   01 01 01 FF
+    03 00 00 00 00 00 00 00   FF FF FF FF";
+
 /// 300, 0, 300.
 const ENDS_IN_OVERFLOW: &str = "
     50 43 49 56 00 00 00 00   03 00 00 00 00 00 00 00
@@ -217,7 +232,7 @@ const fn row(case: &'static str, calls: fn(&mut Judge)) -> Row {
     Row { case, calls }
 }
 
-const ROWS: [Row; 31] = [
+const ROWS: [Row; 36] = [
     row("empty map", empty_map),
     row("primary array of A", primary_of_a),
     row("overflow entries of A", entries_of_a),
@@ -368,6 +383,15 @@ const ROWS: [Row; 31] = [
     row("repair of the empty map, n = 0, k = 0", |judge| {
         let summary = summary([0, 0, 0, 0, 40], 0);
         repairs(judge, (EMPTY, 0, 0), summary, EMPTY, &[])
+    }),
+    row("bundle of A and B", bundle_of_a_and_b),
+    row("its row at slot 3 / 4", rows_of_bundle),
+    row("its nearest distances", nearest_of_bundle),
+    row("its first 13 bytes, as a bundle", |judge| {
+        reads(judge, &bytes(BUNDLE)[..13], refused(14, 0, 1))
+    }),
+    row("no bytes at all, as a bundle", |judge| {
+        reads(judge, &[], refused(14, 0, 0))
     }),
 ];
 
@@ -662,6 +686,70 @@ fn repairs(
         );
     }
     checks(judge, &repaired, summary);
+}
+
+/// The bundle is written to an exact buffer, a longer one and one that is a byte short, whatever the other
+/// six frames hold; then it is read.
+fn bundle_of_a_and_b(judge: &mut Judge) {
+    let (a, b, bundle) = (bytes(A), bytes(B), bytes(BUNDLE));
+    let len = bundle.len();
+    for others in [&[][..], &a[..40], &b[..]] {
+        for capacity in [len, len + 9, len - 1] {
+            judge.buffer(
+                &Call::with_capacity("bundle_write", capacity),
+                capacity,
+                |out| {
+                    if capacity < len {
+                        return refused(12, 0, 0);
+                    }
+                    out[..len].copy_from_slice(&bundle);
+                    Ok(148)
+                },
+                |out, written, refusal| {
+                    let frames = [&a, &b, others, others, others, others, others, others];
+                    raw::bundle_write(&frames, 2, out, written, refusal)
+                },
+            );
+        }
+    }
+    reads(judge, &bundle, Ok((4, 2)));
+}
+
+/// A bundle is read: its slots and its frames.
+fn reads(judge: &mut Judge, bundle: &[u8], answer: Answer<(u64, u64)>) {
+    let call = Call::new("bundle_read", "");
+    judge.value(&call, answer, |(slots, frames), refusal| {
+        raw::bundle_read(bundle, slots, frames, refusal)
+    });
+}
+
+fn rows_of_bundle(judge: &mut Judge) {
+    let bundle = bytes(BUNDLE);
+    let row = [300, 4_294_967_295, 0, 0, 0, 0, 0, 0];
+    for (slot, answer) in [(3, Ok(row)), (4, refused(9, 0, 0))] {
+        let call = Call::new("bundle_row", format!(" of slot {slot}"));
+        judge.value(&call, answer, |row, refusal| {
+            raw::bundle_row(&bundle, slot, row, refusal)
+        });
+    }
+}
+
+fn nearest_of_bundle(judge: &mut Judge) {
+    let bundle = bytes(BUNDLE);
+    for capacity in [4, 6, 3] {
+        judge.buffer(
+            &Call::with_capacity("bundle_nearest", capacity),
+            capacity,
+            |out| {
+                if capacity < 4 {
+                    return refused(12, 0, 0);
+                }
+                out[..4].copy_from_slice(&[1, 1, 1, 300]);
+                Ok(4)
+            },
+            |out, count, refusal| raw::bundle_nearest(&bundle, out, count, refusal),
+        );
+    }
 }
 
 /// An edit of the file at the front of a buffer, by itself and as a list of one: its answer, and

@@ -20,8 +20,9 @@ pub unsafe extern "C" fn LLVMFuzzerTestOneInput(data: *const u8, len: usize) -> 
     0
 }
 
-/// Outcomes that are told apart: a refusal's number and map.
-const OUTCOMES: usize = 64;
+/// Outcomes that are told apart: a refusal's number, below 16, and map, up to 8.
+const MAPS: usize = 9;
+const OUTCOMES: usize = 16 * MAPS;
 
 /// Counters beside those of branches: an input that gives a routine a new outcome is of interest.
 #[used]
@@ -37,7 +38,7 @@ pub fn outcomes() -> usize {
 
 /// Tells libFuzzer the outcome of a routine.
 pub fn count(routine: usize, number: u64, map: u64) {
-    let outcome = (number % 16 + 16 * (map % 4)) as usize;
+    let outcome = number as usize % 16 + 16 * (map as usize % MAPS);
     let counter = &COUNTERS[(OUTCOMES * routine + outcome) % COUNTERS.len()];
     counter.store(1, Ordering::Relaxed);
 }

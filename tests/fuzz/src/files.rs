@@ -68,7 +68,8 @@ fn field(file: &[u8], at: usize) -> u64 {
     bytes.map_or(0, |bytes| u64::from_le_bytes(bytes.expect("eight bytes")))
 }
 
-fn put(file: &mut [u8], at: usize, bytes: &[u8]) {
+/// Puts bytes to a place, where there is enough of it.
+pub fn put(file: &mut [u8], at: usize, bytes: &[u8]) {
     if let Some(place) = file.get_mut(at..at + bytes.len()) {
         place.copy_from_slice(bytes);
     }

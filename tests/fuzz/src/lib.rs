@@ -7,6 +7,7 @@
 //! as it is shipped. The caller's memory lies between pages that nobody may touch, at either
 //! end of them, so that an access out of bounds stops the program.
 
+mod bundles;
 mod call;
 mod entry;
 mod fence;

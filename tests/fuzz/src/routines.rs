@@ -2,7 +2,7 @@
 
 use crate::call::Bench;
 use crate::input::Input;
-use crate::{masks, one, parts, repairs, two};
+use crate::{bundles, masks, one, parts, repairs, two};
 
 /// A routine and the comparison of one call of it.
 pub struct Routine {
@@ -13,7 +13,7 @@ pub struct Routine {
 
 /// Each routine of the C interface. The place of one is part of what an input means: further ones
 /// come behind the others.
-pub const ROUTINES: [Routine; 35] = [
+pub const ROUTINES: [Routine; 39] = [
     routine("check", one::check),
     routine("primary_span", one::primary_span),
     routine("lookup", one::lookup),
@@ -49,6 +49,10 @@ pub const ROUTINES: [Routine; 35] = [
     routine("edit_list", one::edit_list),
     routine("report", one::report),
     routine("repair", repairs::repair),
+    routine("bundle_read", bundles::read),
+    routine("bundle_row", bundles::row),
+    routine("bundle_nearest", bundles::nearest),
+    routine("bundle_write", bundles::write),
 ];
 
 const fn routine(name: &'static str, compare: fn(&mut Bench, &mut Input)) -> Routine {

@@ -148,7 +148,8 @@ impl Header {
         }])
     }
 
-    /// Structs with pointers are for the caller alone and left out.
+    /// Structs with pointers to anything but bytes that are only read are for the caller alone and left
+    /// out.
     fn read_struct(&mut self, name: &str, body: &[String]) -> Result<(), String> {
         let mut fields = Vec::new();
         for field in items(body, ";") {
@@ -157,6 +158,7 @@ impl Header {
                     let inner = self.structs[*kind].iter();
                     fields.extend(inner.map(|(name, number)| (format!("{field}.{name}"), *number)));
                 }
+                ["const", "uint8_t", "*", name] => fields.push((name.to_string(), Number::Bytes)),
                 _ => match self.declared(field)? {
                     Argument {
                         name,

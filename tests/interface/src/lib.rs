@@ -32,20 +32,21 @@ pub const HEADER: &str = "include/pciv.h";
 pub const RATTLE: &str = "crates/pciv_c/src";
 /// The Rattle source of its structs and numbers.
 pub const RATTLE_FORMAT: &str = "crates/pciv_format/src/lib.rt";
-/// The folder of the Rattle source of the numbers in a list of corrections.
-pub const RATTLE_REPAIR: &str = "crates/pciv_repair/src";
+/// The folders of the Rattle source of further numbers: of a list of corrections, and of bundles.
+pub const RATTLE_NUMBERS: [&str; 2] = ["crates/pciv_repair/src", "crates/pciv_bundle_records/src"];
 /// The folder of the Rust crate's source.
 pub const RUST: &str = "rust/pciv/src";
 /// The file that names the version.
 pub const CARGO: &str = "Cargo.toml";
 
 /// A struct of the header and its counterpart in Rust, and whether the Rattle source has it too.
-const STRUCTS: [(&str, &str, bool); 5] = [
+const STRUCTS: [(&str, &str, bool); 6] = [
     ("pciv_refusal", "Refusal", true),
     ("pciv_summary", "Summary", true),
     ("pciv_entry", "Entry", true),
     ("pciv_edit_answer", "EditAnswer", false),
     ("pciv_correction", "Correction", false),
+    ("pciv_part", "Part", false),
 ];
 
 /// Compares the sources below `root` with each other and with the libraries there. Answers the
@@ -73,10 +74,12 @@ pub fn compare(root: &Path, libraries: &[String]) -> Result<usize, Vec<String>> 
             compare(RATTLE_FORMAT, &rattle_structs);
         }
     }
-    let repair = read_folder(root, RATTLE_REPAIR, "rt").map_err(failure)?;
-    let numbers = read_numbers(&(format + &repair));
-    let place = format!("{RATTLE_FORMAT} or {RATTLE_REPAIR}");
-    faults.extend(header.compare_numbers((&place, &numbers)));
+    let mut numbers = format;
+    for folder in RATTLE_NUMBERS {
+        numbers += &read_folder(root, folder, "rt").map_err(failure)?;
+    }
+    let place = format!("{RATTLE_FORMAT} or {}", RATTLE_NUMBERS.join(" or "));
+    faults.extend(header.compare_numbers((&place, &read_numbers(&numbers))));
     faults.extend(header.compare_numbers((RUST, &read_numbers(&crate_text))));
     let refusals = header.refusals.iter().map(String::as_str);
     let (in_c, in_rust) = (read_c_texts(&text), read_rust_texts(&crate_text));

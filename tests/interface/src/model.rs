@@ -12,7 +12,12 @@ pub enum Number {
     I32,
     I64,
     F64,
+    /// The address of bytes that are only read.
+    Bytes,
 }
+
+/// A slice of bytes that are only read, as an element of a list.
+pub const PART: [Number; 2] = [Number::Bytes, Number::U64];
 
 /// A number under its name in Rust or Rattle; `usize` has 64 bits.
 pub fn number(name: &str) -> Option<Number> {

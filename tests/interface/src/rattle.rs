@@ -1,7 +1,7 @@
 //! Reads the Rattle source of the C interface, and the structs of fields that Rust and Rattle write
 //! alike.
 
-use crate::model::{number, numbers, Argument, Function, Functions, Number, Structs, Type};
+use crate::model::{number, numbers, Argument, Function, Functions, Number, Structs, Type, PART};
 use crate::tokens::{closing, items, line, strs, words};
 use std::collections::BTreeMap;
 
@@ -65,14 +65,14 @@ fn argument(item: &[String], structs: &Structs) -> Result<Vec<Argument>, String>
         _ => return Err(refuse()),
     };
     let (to, is_slice) = match referent {
-        ["[", element, "]"] => (element_numbers(element, structs), true),
-        ["[", element, ";", count, "]"] => {
+        ["[", element @ .., ";", count, "]"] => {
             let count: usize = count.parse().map_err(|_| refuse())?;
             (
-                element_numbers(element, structs).map(|to| to.repeat(count)),
+                list_numbers(element, structs).map(|to| to.repeat(count)),
                 false,
             )
         }
+        ["[", element, "]"] => (element_numbers(element, structs), true),
         [element] => (element_numbers(element, structs), false),
         _ => return Err(refuse()),
     };
@@ -85,6 +85,15 @@ fn argument(item: &[String], structs: &Structs) -> Result<Vec<Argument>, String>
         });
     }
     Ok(arguments)
+}
+
+/// The numbers that an element of a list of fixed length consists of: it may be a slice.
+fn list_numbers(element: &[&str], structs: &Structs) -> Option<Vec<Number>> {
+    match element {
+        ["&", "[", "u8", "]"] => Some(PART.to_vec()),
+        [name] => element_numbers(name, structs),
+        _ => None,
+    }
 }
 
 /// The numbers that a type consists of.
@@ -123,8 +132,13 @@ pub fn has_layout(words: &[String], name: &str) -> bool {
 fn read_fields(body: &[String], structs: &Structs) -> Option<Vec<(String, Number)>> {
     let mut fields = Vec::new();
     for item in items(body, ",") {
-        let ["pub", name, ":", kind] = strs(item)[..] else {
-            return None;
+        let (name, kind) = match strs(item)[..] {
+            ["pub", name, ":", "*", "const", "u8"] => {
+                fields.push((name.to_string(), Number::Bytes));
+                continue;
+            }
+            ["pub", name, ":", kind] => (name, kind),
+            _ => return None,
         };
         match (number(kind), structs.get(kind)) {
             (Some(number), _) => fields.push((name.to_string(), number)),

@@ -43,13 +43,16 @@ fn declared_name(words: &[String], at: usize) -> Option<(&str, usize)> {
         ["fn", _, "(", ..] => (words[at + 1].as_str(), at + 2),
         _ => return None,
     };
-    let close = closing(words, open)?;
-    let after = words[close..]
-        .iter()
-        .find(|word| *word == ";" || *word == "{");
-    after
-        .is_some_and(|word| word == ";")
-        .then_some((name, open))
+    let mut after = closing(words, open)?;
+    while words.get(after)? != ";" && words[after] != "{" {
+        // a semicolon may stand in the answer, that of an array
+        let end = match words[after].as_str() {
+            "[" => closing(words, after)?,
+            _ => after,
+        };
+        after = end + 1;
+    }
+    (words[after] == ";").then_some((name, open))
 }
 
 /// The names that the macro about a place is called with.

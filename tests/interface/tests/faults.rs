@@ -120,7 +120,7 @@ fn an_argument_left_out_is_told() {
 
 #[test]
 fn another_type_is_told() {
-    const TYPES: [(&str, &str); 8] = [
+    const TYPES: [(&str, &str); 11] = [
         ("uint8_t", "uint32_t"),
         ("uint32_t", "uint64_t"),
         (" uint64_t", " int64_t"),
@@ -129,6 +129,9 @@ fn another_type_is_told() {
         ("double", "uint64_t"),
         ("pciv_summary *", "pciv_refusal *"),
         ("pciv_entry *", "uint64_t *"),
+        ("pciv_part", "pciv_entry"),
+        ("frames[8]", "frames[7]"),
+        ("row[8]", "row[9]"),
     ];
     for (old, new) in TYPES {
         let mut tried = 0;
@@ -213,7 +216,7 @@ fn another_number_or_field_is_told() {
         defined,
         ["PCIV_BAD_MAGIC: 3 in the header, Some(2) in rattle"]
     );
-    for defined in ["PCIV_ANSWER_LEN", "PCIV_CORRECTION_LEN"] {
+    for defined in ["PCIV_ANSWER_LEN", "PCIV_CORRECTION_LEN", "PCIV_MAX_FRAMES"] {
         assert!(header(HEADER).numbers.contains_key(defined), "{defined}");
     }
 
@@ -229,10 +232,22 @@ fn another_number_or_field_is_told() {
         ("pciv_correction", "uint64_t kind;", "uint32_t kind;"),
         ("pciv_correction", "uint64_t before;", "uint64_t old;"),
         ("pciv_correction", "uint64_t after;", ""),
+        ("pciv_part", "const uint8_t *bytes;", "uint64_t bytes;"),
+        (
+            "pciv_part",
+            "const uint8_t *bytes;",
+            "const uint8_t *first;",
+        ),
+        ("pciv_part", "size_t len;", "uint32_t len;"),
+        ("pciv_part", "size_t len;", ""),
     ] {
         assert_eq!(faults(name, HEADER), [""; 0]);
         let changed = HEADER.replace(old, new);
         assert_eq!(faults(name, &changed).len(), 1, "{old} {new}");
+    }
+    for other in ["uint8_t *bytes", "const uint32_t *bytes"] {
+        let changed = HEADER.replace("const uint8_t *bytes;", &format!("{other};"));
+        assert!(read_header(&changed).is_err(), "{other}");
     }
 }
 
@@ -279,7 +294,7 @@ fn numbers_of_rust_are_read_too() {
 fn other_words_are_told() {
     const RUST: &str = include_str!("../../../rust/pciv/src/refusal.rs");
     let refusals = header(HEADER).refusals;
-    assert_eq!(refusals.len(), 14);
+    assert_eq!(refusals.len(), 15);
     let faults = |c: &str, rust: &str| {
         let names = refusals.iter().map(String::as_str).chain(["_"]);
         let (in_c, in_rust) = (read_c_texts(c), read_rust_texts(rust));
@@ -359,7 +374,9 @@ const RATTLE: &str = "
     #[no_mangle]
     pub extern \"C\" fn pciv_b(out: &mut [u32], figure: &mut f64) -> usize { 0 }
     #[no_mangle]
-    pub extern \"C\" fn pciv_c(out: &mut [u32], figure: &mut f64) -> usize { 0 }";
+    pub extern \"C\" fn pciv_c(out: &mut [u32], figure: &mut f64) -> usize { 0 }
+    #[no_mangle]
+    pub extern \"C\" fn pciv_d(frames: &[&[u8]; 8], count: usize, row: &mut [u32; 8]) -> usize { 0 }";
 
 const C: &str = "
     typedef struct { uint64_t slot; uint32_t distance; /* in cm */ } pciv_entry;
@@ -367,7 +384,9 @@ const C: &str = "
     uint64_t pciv_a(const uint8_t *file, size_t file_len, const pciv_entry *entries,
                     size_t entries_len, size_t n, int32_t by, pciv_summary *summary);
     uint64_t pciv_b(uint32_t *out, size_t out_len, double *figure);
-    uint64_t pciv_c(uint32_t *out, size_t out_len, double *figure);";
+    uint64_t pciv_c(uint32_t *out, size_t out_len, double *figure);
+    typedef struct { const uint8_t *bytes; size_t len; } pciv_part;
+    uint64_t pciv_d(const pciv_part frames[8], size_t count, uint32_t row[8]);";
 
 const RUST: &str = "
     #[repr(C)]
@@ -380,7 +399,10 @@ const RUST: &str = "
     extern \"C\" {
         pub fn pciv_a(file: *const u8, file_len: usize, entries: *const Entry, entries_len: usize,
                       n: u64, by: i32, summary: *mut Summary) -> u64;
+        pub fn pciv_d(frames: *const [Part; 8], count: usize, row: *mut [u32; 8]) -> u64;
     }
+    #[repr(C)]
+    pub struct Part { pub bytes: *const u8, pub len: usize }
     macro_rules! calls {
         ($($name:ident)*) => {
             extern \"C\" {
@@ -389,7 +411,8 @@ const RUST: &str = "
         };
     }
     calls!(pciv_b pciv_c);
-    pub fn b(out: &mut [u32], figure: &mut f64) -> u64 { unsafe { c::pciv_b(out, figure) } }";
+    pub fn b(out: &mut [u32], figure: &mut f64) -> u64 { unsafe { c::pciv_b(out, figure) } }
+    pub fn d(frames: &[&[u8]]) -> Option<[u32; 8]> { unsafe { c::pciv_d(frames) } }";
 
 fn rattle(text: &str, format: &str) -> Functions {
     read_rattle(text, format).unwrap().0
@@ -402,7 +425,7 @@ fn rust(text: &str) -> Functions {
 #[test]
 fn the_three_languages_agree() {
     let c = header(C).functions;
-    assert_eq!(c.len(), 3);
+    assert_eq!(c.len(), 4);
     let rattle = rattle(RATTLE, RATTLE_FORMAT);
     assert_eq!(compare_functions(("c", &c), ("rattle", &rattle)), [""; 0]);
     assert_eq!(compare_functions(("c", &c), ("rust", &rust(RUST))), [""; 0]);
@@ -419,6 +442,12 @@ fn changes_in_rattle_are_told() {
         ("&mut [usize; 5]", "&mut [usize; 3]"),
         ("&mut [usize; 5]", "&mut usize"),
         ("entries: &[Entry]", "entries: &[u64]"),
+        ("frames: &[&[u8]; 8]", "frames: &mut [&[u8]; 8]"),
+        ("frames: &[&[u8]; 8]", "frames: &[&[u8]; 7]"),
+        ("frames: &[&[u8]; 8]", "frames: &[u8; 8]"),
+        ("frames: &[&[u8]; 8]", "frames: &[u64; 16]"),
+        ("row: &mut [u32; 8]", "row: &[u32; 8]"),
+        ("row: &mut [u32; 8]", "row: &mut [u32; 9]"),
     ];
     for (old, new) in changes {
         let changed = rattle(&RATTLE.replacen(old, new, 1), RATTLE_FORMAT);
@@ -430,6 +459,10 @@ fn changes_in_rattle_are_told() {
     assert_eq!(faults, ["pciv_b: in c, not in rattle"]);
     let loose = RATTLE_FORMAT.replace("#[repr(C)]", "");
     assert!(read_rattle(RATTLE, &loose).is_err());
+    for other in ["&[&mut [u8]; 8]", "&[&[u32]; 8]", "&[&u8; 8]", "&[&[u8]]"] {
+        let changed = RATTLE.replace("&[&[u8]; 8]", other);
+        assert!(read_rattle(&changed, RATTLE_FORMAT).is_err(), "{other}");
+    }
 }
 
 #[test]
@@ -446,9 +479,18 @@ fn changes_in_rust_are_told() {
     );
     assert_eq!(faults("pub distance: u32", "pub distance: u64").len(), 1);
     assert_eq!(faults("figure: *mut f64", "figure: *mut u64").len(), 2);
+    assert_eq!(faults("*const [Part; 8]", "*mut [Part; 8]").len(), 1);
+    assert_eq!(faults("*const [Part; 8]", "*const [Part; 7]").len(), 1);
+    assert_eq!(faults("*const [Part; 8]", "*const Part").len(), 1);
+    assert_eq!(faults("pub len: usize", "pub len: u32").len(), 1);
+    assert_eq!(faults("*mut [u32; 8]", "*mut u32").len(), 1);
     assert_eq!(
         faults("pciv_b pciv_c", "pciv_b"),
         ["pciv_c: in c, not in rust"]
     );
     assert!(read_rust(&RUST.replacen("#[repr(C)]", "", 1)).is_err());
+    for other in ["*mut u8", "*const u32"] {
+        let changed = RUST.replace("bytes: *const u8", &format!("bytes: {other}"));
+        assert!(read_rust(&changed).is_err(), "{other}");
+    }
 }

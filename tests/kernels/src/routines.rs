@@ -93,6 +93,13 @@ const JACCARD: Kernel = Kernel::blocks(
     "pminub pmaxub pcmpeqb psubb|paddb|psadbw load16 !byte",
 );
 
+// The bytes of a frame, less 1 so that 0 loses, beside a block on the stack, which is then raised again.
+const NEARER: Kernel = Kernel::new("smaller bytes but for 0", "pminub psubb|paddb load16 !byte");
+const RAISE_BLOCK: Kernel = Kernel::new(
+    "block to distances",
+    "psubb|paddb pcmpeqb|pcmpeqd punpcklbw|punpckhbw store16 !byte",
+);
+
 /// The exported routines and the loops that each has to have. Loops over overflow entries are not
 /// among them: these are worked on one by one.
 pub const ROUTINES: &[Routine] = &[
@@ -133,5 +140,9 @@ pub const ROUTINES: &[Routine] = &[
     ("pciv_jaccard", &[COUNT, JACCARD]),
     ("pciv_edit", &[COUNT, COPY, SUM]),
     ("pciv_edit_list", &[COUNT, COPY, SUM]),
+    ("pciv_bundle_read", &[COUNT]),
+    ("pciv_bundle_row", &[COUNT]),
+    ("pciv_bundle_nearest", &[COUNT, NEARER, RAISE_BLOCK]),
+    ("pciv_bundle_write", &[COUNT, COPY]),
     ("pciv_report", &[COUNT, SUM]),
 ];

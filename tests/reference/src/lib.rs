@@ -8,6 +8,7 @@
 //! sentinel; and a *sparse index* over the overflow entries when there are many.
 
 mod arith;
+pub mod bundle;
 mod edit;
 mod entries;
 pub mod examples;
@@ -72,7 +73,7 @@ impl Summary {
 /// Why a call was refused: the rule's number, the map at fault and the place.
 #[derive(Clone, Copy, Debug, PartialEq, Eq)]
 pub struct Refusal {
-    /// Number of the rule, 1 to 13.
+    /// Number of the rule, 1 to 14.
     pub number: u64,
     /// The file at fault, counted from 1; 0 for a fault of the call.
     pub map: u64,

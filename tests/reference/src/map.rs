@@ -141,7 +141,7 @@ impl<'a> Map<'a> {
     }
 
     /// The distance at a slot, and where it is stored. Refusal 9 for a slot outside.
-    fn lookup(&self, slot: u64) -> Result<Located, Refusal> {
+    pub(crate) fn lookup(&self, slot: u64) -> Result<Located, Refusal> {
         if slot >= self.n() {
             return Err(Refusal::of_call(9, 0));
         }

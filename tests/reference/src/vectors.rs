@@ -1,17 +1,52 @@
 //! The files of `tests/vectors`, made from scratch, with the answers that every reader has to give.
-//! Summaries and refusals are written down here; `tests/vectors.rs` holds the reference to them.
+//! Summaries and refusals are written down here; `tests/vectors.rs` holds the reference to them. The
+//! bundles among the files are in a module of their own.
+
+pub mod bundles;
 
 use crate::layout::le64;
 use crate::{encode, Refusal, Summary};
 
 /// A file and what a reader has to answer.
-pub struct Vector {
+pub struct Vector<C> {
     /// The file's name, with the verdict.
     pub name: String,
     /// Its bytes.
     pub file: Vec<u8>,
     /// What it holds, or why it is refused.
-    pub answer: Result<Contents, Refusal>,
+    pub answer: Result<C, Refusal>,
+}
+
+/// The fields of a table after the name, for what a sound file holds.
+pub trait Fields {
+    /// As many as there are columns behind those of the refusal; `-` stands where there is nothing to
+    /// tell.
+    fn fields(&self) -> Vec<String>;
+}
+
+/// A table of answers: a line of columns, then one for each vector, with tabs between the fields. The
+/// first columns are the name and the three numbers of the refusal.
+fn table_of<C: Fields>(columns: &[&str], vectors: &[Vector<C>]) -> String {
+    let mut text = columns.join("\t") + "\n";
+    for Vector { name, answer, .. } in vectors {
+        let (refusal, fields) = match answer {
+            Ok(contents) => ([0; 3], contents.fields()),
+            Err(Refusal { number, map, place }) => {
+                let nothing = vec!["-".to_string(); columns.len() - 4];
+                ([*number, *map, *place], nothing)
+            }
+        };
+        let [number, map, place] = refusal;
+        let fields = fields.join("\t");
+        text += &format!("{name}\t{number}\t{map}\t{place}\t{fields}\n");
+    }
+    text
+}
+
+/// In order of their names.
+fn sorted<C>(mut vectors: Vec<Vector<C>>) -> Vec<Vector<C>> {
+    vectors.sort_by(|a, b| a.name.cmp(&b.name));
+    vectors
 }
 
 /// What a sound file holds.
@@ -22,14 +57,10 @@ pub struct Contents {
     pub list: Vec<u32>,
 }
 
-/// All vectors, in order of their names.
-pub fn vectors() -> Vec<Vector> {
-    let mut vectors = [good(), bad_counts(), bad_parts(), bad_index()]
-        .into_iter()
-        .flatten()
-        .collect::<Vec<_>>();
-    vectors.sort_by(|a, b| a.name.cmp(&b.name));
-    vectors
+/// All vectors of maps, in order of their names.
+pub fn vectors() -> Vec<Vector<Contents>> {
+    let all = [good(), bad_counts(), bad_parts(), bad_index()];
+    sorted(all.into_iter().flatten().collect())
 }
 
 /// The columns of the table of answers.
@@ -38,46 +69,36 @@ const COLUMNS: [&str; 14] = [
     "last", "weighted",
 ];
 
-/// The table of answers: a line of columns, then one for each vector, with tabs between the fields.
-pub fn table(vectors: &[Vector]) -> String {
-    let mut text = COLUMNS.join("\t") + "\n";
-    for vector in vectors {
-        text += &format!("{}\t{}\n", vector.name, vector.fields().join("\t"));
-    }
-    text
+/// The table of their answers.
+pub fn table(vectors: &[Vector<Contents>]) -> String {
+    table_of(&COLUMNS, vectors)
 }
 
-impl Vector {
-    /// The fields after the name; `-` stands where there is nothing to tell.
+impl Fields for Contents {
     fn fields(&self) -> Vec<String> {
-        let none = || "-".to_string();
-        match &self.answer {
-            Ok(Contents { summary, list }) => {
-                let Summary {
-                    n,
-                    k,
-                    m,
-                    step,
-                    len,
-                    sum,
-                } = *summary;
-                let numbers = [0, 0, 0, n, k, m, step, len, sum, readings(list)];
-                let ends = [list.first(), list.last()];
-                let mut fields: Vec<String> = numbers.iter().map(u64::to_string).collect();
-                fields.extend(ends.map(|end| end.map_or_else(none, u32::to_string)));
-                fields.push(weighted(list).to_string());
-                fields
-            }
-            Err(Refusal { number, map, place }) => {
-                let numbers = [number, map, place].map(u64::to_string);
-                let rest = COLUMNS.len() - 1 - numbers.len();
-                numbers
-                    .into_iter()
-                    .chain((0..rest).map(|_| none()))
-                    .collect()
-            }
-        }
+        let Summary {
+            n,
+            k,
+            m,
+            step,
+            len,
+            sum,
+        } = self.summary;
+        let mut fields = [n, k, m, step, len, sum].map(|x| x.to_string()).to_vec();
+        fields.extend(list_fields(&self.list));
+        fields
     }
+}
+
+/// The readings, both ends and the weighted sum of a list.
+fn list_fields(list: &[u32]) -> [String; 4] {
+    let end = |end: Option<&u32>| end.map_or_else(|| "-".into(), u32::to_string);
+    [
+        readings(list).to_string(),
+        end(list.first()),
+        end(list.last()),
+        weighted(list).to_string(),
+    ]
 }
 
 fn readings(list: &[u32]) -> u64 {
@@ -138,7 +159,7 @@ fn long_slots() -> Vec<u32> {
     list
 }
 
-fn good() -> Vec<Vector> {
+fn good() -> Vec<Vector<Contents>> {
     vec![
         accepted("empty", vec![], [0, 0, 0, 0, 40, 0]),
         accepted("zeros", vec![0; 100], [100, 0, 0, 0, 140, 0]),
@@ -189,7 +210,7 @@ fn good() -> Vec<Vector> {
 }
 
 /// Faults of the header and of the length.
-fn bad_counts() -> Vec<Vector> {
+fn bad_counts() -> Vec<Vector<Contents>> {
     let [empty, a] = [file_of(&[]), file_of(&MAP_A)];
     let [many, more] = [with_overflow(2_100, 2_049), with_overflow(4_200, 4_097)];
     let slots = with64(&empty, 8, 1_048_577);
@@ -237,7 +258,7 @@ fn bad_counts() -> Vec<Vector> {
 
 /// Faults of overflow entries and of the primary array. Map A has its primary array at byte 40 and
 /// its entries at bytes 44 and 56; the last of 2,049 entries of 2,100 slots is at byte 26,716.
-fn bad_parts() -> Vec<Vector> {
+fn bad_parts() -> Vec<Vector<Contents>> {
     let a = file_of(&MAP_A);
     let three = file_of(&[300; 3]);
     let many = file_of(&with_overflow(2_100, 2_049));
@@ -279,7 +300,7 @@ fn bad_parts() -> Vec<Vector> {
 
 /// Faults of an index of 1,025 entries, which is at byte 26,728, and of one of 1,366 entries, which
 /// is at byte 53,404. Where the number of index entry 0 is wrong, another fault comes before.
-fn bad_index() -> Vec<Vector> {
+fn bad_index() -> Vec<Vector<Contents>> {
     let file = file_of(&with_overflow(2_100, 2_049));
     let next = |at: usize| with64(&file, at, le64(&file[at..at + 8]) + 1);
     let first_wrong = next(26_728 + 8);
@@ -308,7 +329,7 @@ fn bad_index() -> Vec<Vector> {
 }
 
 /// A vector `good-..`: its list, and n, k, m, step, L and the sum of its file's summary.
-fn accepted(what: &str, list: Vec<u32>, [n, k, m, step, len, sum]: [u64; 6]) -> Vector {
+fn accepted(what: &str, list: Vec<u32>, [n, k, m, step, len, sum]: [u64; 6]) -> Vector<Contents> {
     Vector {
         name: format!("good-{what}.pciv"),
         file: file_of(&list),
@@ -328,7 +349,7 @@ fn accepted(what: &str, list: Vec<u32>, [n, k, m, step, len, sum]: [u64; 6]) -> 
 
 /// A vector `bad-..`: the refusal's number and place, of map 1, and the file. The place is part of
 /// the name where the number has places.
-fn refused(number: u64, place: u64, what: &str, file: Vec<u8>) -> Vector {
+fn refused(number: u64, place: u64, what: &str, file: Vec<u8>) -> Vector<Contents> {
     let name = match number {
         6..=8 => format!("bad-{number:02}-place-{place}-{what}.pciv"),
         _ => format!("bad-{number:02}-{what}.pciv"),

@@ -1,7 +1,9 @@
 //! The reference, held to the answers that are written down for the files of `tests/vectors`.
 
-use reference::vectors::{vectors, Contents};
+use reference::bundle::{nearest, read, row, write, MAX_FRAMES};
+use reference::vectors::{bundles, vectors, Contents};
 use reference::{check, decode, encode, readings, sum, Refusal};
+use std::array;
 
 #[test]
 fn every_file_gets_its_answer() {
@@ -66,7 +68,99 @@ fn the_later_fault_is_there() {
 }
 
 #[test]
+fn every_bundle_gets_its_answer() {
+    for vector in bundles::vectors() {
+        let (name, file) = (&vector.name, &vector.file);
+        let mut distances = vec![7; 5_000];
+        match &vector.answer {
+            Ok(contents) => {
+                let n = contents.counts.slots as usize;
+                assert_eq!(read(file), Ok(contents.counts), "{name}");
+                assert_eq!(nearest(file, &mut distances), Ok(n as u64), "{name}");
+                assert!(distances[..n] == contents.nearest, "{name}");
+                for slot in 0..n {
+                    let at = |frame: usize| contents.lists.get(frame).map_or(0, |list| list[slot]);
+                    let distances: [u32; MAX_FRAMES] = array::from_fn(at);
+                    assert_eq!(row(file, slot as u64), Ok(distances), "{name}");
+                }
+                assert_eq!(written(&contents.lists), others_removed(file), "{name}");
+            }
+            Err(refusal) => {
+                assert_eq!(read(file), Err(*refusal), "{name}");
+                assert_eq!(row(file, 0), Err(*refusal), "{name}");
+                assert_eq!(nearest(file, &mut distances), Err(*refusal), "{name}");
+            }
+        }
+    }
+}
+
+/// The bundle that the reference writes of some lists.
+fn written(lists: &[Vec<u32>]) -> Vec<u8> {
+    let files: Vec<Vec<u8>> = lists.iter().map(|list| encode(list).unwrap()).collect();
+    let frames = array::from_fn(|frame| files.get(frame).map_or(&[][..], Vec::as_slice));
+    let mut out = vec![0; 100_000];
+    let len = write(&frames, files.len() as u64, &mut out).unwrap();
+    out.truncate(len as usize);
+    out
+}
+
+/// A sound bundle without the records that are skipped.
+fn others_removed(mut bundle: &[u8]) -> Vec<u8> {
+    let mut kept = Vec::new();
+    while let Some((length, _)) = bundle.split_first_chunk() {
+        let (record, rest) = bundle.split_at(4 + u32::from_le_bytes(*length) as usize);
+        if record[5] == 0 && record[4] < 2 {
+            kept.extend(record);
+        }
+        bundle = rest;
+    }
+    kept
+}
+
+#[test]
+fn every_refusal_of_a_bundle_is_there() {
+    for number in (1..=8).chain([10, 14]) {
+        let vectors = bundles::vectors();
+        let mut refusals = vectors.iter().filter_map(|v| v.answer.as_ref().err());
+        assert!(refusals.any(|refusal| refusal.number == number), "{number}");
+    }
+}
+
+/// A bundle `..-before-NN` whose first fault is repaired has the fault NN.
+#[test]
+fn the_later_fault_of_a_bundle_is_there() {
+    type Repair = fn(&mut Vec<u8>);
+    let repairs: [(&str, Repair, [u64; 3]); 3] = [
+        ("bad-02-map-2-before-10.pcib", |b| b[69] = b'P', [10, 0, 1]),
+        (
+            "bad-06-map-1-place-0-before-02.pcib",
+            |bundle| bundle[70] = 255,
+            [2, 2, 0],
+        ),
+        (
+            "bad-14-place-2-before-01.pcib",
+            |bundle| bundle.extend([2, 0, 0, 0, 1, 0]),
+            [1, 1, 0],
+        ),
+    ];
+    let two_faults: Vec<_> = bundles::vectors()
+        .into_iter()
+        .filter(|vector| vector.name.contains("-before-"))
+        .collect();
+    assert_eq!(two_faults.len(), repairs.len());
+    for (mut vector, (name, repair, [number, map, place])) in two_faults.into_iter().zip(repairs) {
+        assert_eq!(vector.name, name);
+        repair(&mut vector.file);
+        let later = Refusal { number, map, place };
+        assert_eq!(read(&vector.file), Err(later), "{name}");
+    }
+}
+
+#[test]
 fn names_are_unique() {
-    let names: Vec<String> = vectors().into_iter().map(|vector| vector.name).collect();
-    assert!(names.is_sorted_by(|a, b| a < b));
+    let maps = vectors().into_iter().map(|vector| vector.name);
+    let bundles = bundles::vectors().into_iter().map(|vector| vector.name);
+    for names in [maps.collect::<Vec<_>>(), bundles.collect()] {
+        assert!(names.is_sorted_by(|a, b| a < b));
+    }
 }

@@ -1,0 +1,4 @@
+pub mod FramesLaws
+pub mod FrameFileLaws
+pub mod LentLaws
+pub mod RowLaws

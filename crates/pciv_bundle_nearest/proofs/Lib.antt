@@ -1,0 +1,5 @@
+pub mod NearestLaws
+pub mod ChangedLaws
+pub mod BlockLaws
+pub mod LoweredLaws
+pub mod PassesLaws
