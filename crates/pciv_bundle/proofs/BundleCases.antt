@@ -60,8 +60,8 @@ Reads =
     × (nearestOutcome AB 3 ≡ refuse 12 0 0)
     × (nearestBuffer AB (replicate 5 7) ≡ 1 ∷ 1 ∷ 1 ∷ 300 ∷ 7 ∷ [])
 
--- no bytes; cut short in record 0, behind it, in the next length, between the frames, in a frame; one, two and three bytes
--- left over; a length below 2
+-- no bytes; the bundle cut off in record 0, behind it, in the next length, between the frames, in a frame; one, two and
+-- three bytes left over; a length below 2
 abbrev Cut : Type 0
 Cut =
     (Fault [] 0)
@@ -76,8 +76,8 @@ Cut =
     × (Fault (AB ++ le 4 0) 3)
     × (Fault (AB ++ (le 4 1 ++ (2 ∷ []))) 3)
 
--- a first record of kind 1, of kind 2, of length 7, of length 9, with no frames, with nine; kind 0 later, which comes before a missing frame;
--- a frame too many; a frame missing
+-- a first record of kind 1, of kind 2, of length 7, of length 9, with no frames, with nine; kind 0 later, which comes before
+-- a missing frame; a frame too many; a frame missing
 abbrev Wrong : Type 0
 Wrong =
     (Fault (recordsBytes (recordOf 1 (le 4 4 ++ le 2 2) ∷ frame A ∷ frame B ∷ [])) 0)

@@ -8,7 +8,7 @@
 --   nextFrame n f other b  the check of frame f, whose bytes are b, then that number
 --   CheckedFrames fs n     what inner routines know of the frames
 --   rowOf fs slot          the distance at a slot in each of eight frames, 0 for those that are absent
--- Laws are in proofs/. Axioms: none.
+-- Laws are in proofs/FramesLaws.antt, FrameFileLaws.antt and RowLaws.antt. Axioms: none.
 use Prim.Native.Nat.{ℕ, suc, _+_, _<_}
 use mathlib.Core.Bool.{Bool, not, cond, _&&_}
 use mathlib.Core.List.{List, [], _∷_}
