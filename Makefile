@@ -2,14 +2,14 @@
 .DEFAULT_GOAL := help
 .PHONY: help report test dist fuzz bench benchmarks
 
-archive = sh packaging/progress.sh build/rt-staticlib.log rt staticlib pciv_c
+archive = sh packaging/progress.sh build/rt-lib.log sh -c 'cd crates/pciv_c && rt lib'
 
 help: ## lists these targets
 	@awk -F ':.*## ' '/^[a-z]+:.*## / { printf "make %-11s %s\n", $$1, $$2 }' Makefile
 
 report: | build ## proves and builds the report program, and runs it on the sample map
-	@sh packaging/progress.sh build/rt-check.log rt check report
-	@target/bin/report < examples/portrait-160x120.pciv
+	@sh packaging/progress.sh build/rt-run.log sh -c 'cd crates/report && rt run'
+	@crates/report/out/report < examples/portrait-160x120.pciv
 
 test: ## the whole test: every proof, the must-fail edits, the programs, then the C and Rust side
 	@sh tests/all.sh

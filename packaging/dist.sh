@@ -1,11 +1,11 @@
 #!/bin/sh
 # Puts together what a C or C++ program needs (make dist): build/dist/include/pciv.h, and in build/dist/lib the archive,
 # a shared library made of it, and a pkg-config file. The folder can be moved as a whole.
-# Wants libpciv_c.a in PCIV_LIB_DIR (default target/staticlib); relative paths start at the repository's root.
+# Wants libpciv_c.a in PCIV_LIB_DIR (default crates/pciv_c/out); relative paths start at the repository's root.
 set -u
 
 cd "$(dirname "$0")/.." || exit 1
-archive=${PCIV_LIB_DIR:-target/staticlib}/libpciv_c.a
+archive=${PCIV_LIB_DIR:-crates/pciv_c/out}/libpciv_c.a
 dist=build/dist
 lib=$dist/lib
 
@@ -14,7 +14,7 @@ version=$(sed -n 's/^version = "\(.*\)"/\1/p' Cargo.toml)
 shared=libpciv_c.so.${version%.*}
 
 if [ ! -f "$archive" ]; then
-    echo "dist: $archive is missing: build the library first (rt staticlib pciv_c), or set PCIV_LIB_DIR" >&2
+    echo "dist: $archive is missing: build the library first (make dist), or set PCIV_LIB_DIR" >&2
     exit 1
 fi
 

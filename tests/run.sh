@@ -1,13 +1,13 @@
 #!/bin/sh
 # Builds and runs the C and Rust side: header, C and C++ programs, what make shows and ships, Rust tests, the programs
 # that repair and bundle maps, interface, vectorised loops, comparison, test vectors, the fuzzer's corpus, the names in docs/PROMISES.md, report program.
-# Wants libpciv_c.a in PCIV_LIB_DIR (default target/staticlib) and the report program at PCIV_REPORT
-# (default target/bin/report); relative paths start at the repository's root.
+# Wants libpciv_c.a in PCIV_LIB_DIR (default crates/pciv_c/out) and the report program at PCIV_REPORT
+# (default crates/report/out/report); relative paths start at the repository's root.
 set -u
 
 cd "$(dirname "$0")/.." || exit 1
-export PCIV_LIB_DIR="${PCIV_LIB_DIR:-target/staticlib}"
-report=${PCIV_REPORT:-target/bin/report}
+export PCIV_LIB_DIR="${PCIV_LIB_DIR:-crates/pciv_c/out}"
+report=${PCIV_REPORT:-crates/report/out/report}
 work=build/tests
 dist=build/dist
 programs=build/cargo/release

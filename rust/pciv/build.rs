@@ -1,11 +1,11 @@
 //! Links the verified library, `libpciv_c.a`.
 //!
 //! Its folder is that of the environment variable `PCIV_LIB_DIR` (from the repository's root unless
-//! absolute), else `target/staticlib`.
+//! absolute), else `crates/pciv_c/out`.
 
 use std::{env, path::Path};
 
-const DEFAULT_LIB_DIR: &str = "target/staticlib";
+const DEFAULT_LIB_DIR: &str = "crates/pciv_c/out";
 
 fn main() {
     println!("cargo::rerun-if-env-changed=PCIV_LIB_DIR");

@@ -5,7 +5,7 @@
 set -u
 
 cd "$(dirname "$0")/../.." || exit 1
-archive=${PCIV_LIB_DIR:-target/staticlib}/libpciv_c.a
+archive=${PCIV_LIB_DIR:-crates/pciv_c/out}/libpciv_c.a
 work=build/fuzz/faults
 missed=''
 

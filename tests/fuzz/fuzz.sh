@@ -3,14 +3,14 @@
 # tests/fuzz/corpus.txt; new inputs go to build/fuzz/corpus, one that fails to build/fuzz/found. Arguments go to the
 # fuzzer, which is libFuzzer. PCIV_FUZZ_ASAN=1 builds the Rust side with AddressSanitizer. PCIV_FUZZ_SKIP names routines
 # of which the library's are not called. PCIV_FUZZ_FROM_NOTHING=1 starts from nothing and keeps no inputs.
-# Wants libpciv_c.a in PCIV_LIB_DIR (default target/staticlib); relative paths start at the repository's root.
+# Wants libpciv_c.a in PCIV_LIB_DIR (default crates/pciv_c/out); relative paths start at the repository's root.
 set -u
 
 cd "$(dirname "$0")/../.." || exit 1
 seconds=${PCIV_FUZZ_SECONDS:-60}
 work=build/fuzz
 target=x86_64-unknown-linux-gnu
-export PCIV_LIB_DIR="${PCIV_LIB_DIR:-target/staticlib}"
+export PCIV_LIB_DIR="${PCIV_LIB_DIR:-crates/pciv_c/out}"
 
 # Counters of branches and comparisons in Rust code, as libFuzzer reads them.
 flags='-C passes=sancov-module -C llvm-args=-sanitizer-coverage-level=4'

@@ -2,6 +2,8 @@
 // shift of one, written as a file to the front of the caller's buffer; the signed difference of two, as a list.
 // Refusals 1 to 8 of two maps are those of the first, then those of the second. A refused call changes nothing, and what
 // stands behind the result stays as it was.
+#![tactic(auto)]
+
 ghost use Rattle.std.specs.Prelude.{◌≡◌, length};
 ghost use Rattle.pciv_format.specs.Refusals.{file_answer, number_answer};
 ghost use Rattle.pciv_format.specs.Arith.{combine_maps_outcome, combine_maps_buffer, shift_outcome, shift_buffer};
@@ -80,7 +82,7 @@ pub fn difference(a: &[u8], b: &[u8], out: &mut [u8]) -> FileAnswer
 }
 
 // Which way, and how far.
-#[derive(Drop)]
+#[derive(Clone, Copy)]
 enum Direction {
     Down(u32),
     Up(u32),

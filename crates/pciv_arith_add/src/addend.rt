@@ -6,7 +6,7 @@ ghost use Rattle.pciv_arith_add.specs.Addition.{CursorOf, TakenOf, next_of};
 use pciv_map::cursor::{Taken, next_slot, take_at};
 
 // The distances of a second map, or one number.
-#[derive(Drop)]
+#[derive(Clone, Copy)]
 pub enum Addend {
     Map,
     Number(u32),

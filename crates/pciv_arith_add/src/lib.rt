@@ -1,6 +1,8 @@
 // A checked map with something added to its distances, written as a file: the distances of a second map, slot by
 // slot, or one number, which leaves zero distances at 0 (docs/FORMAT.md, "Arithmetic"). What is in overflow stays so,
 // and more may come to it; the result's primary bytes tell where.
+#![tactic(auto)]
+
 pub mod addend;
 mod large;
 mod put;

@@ -1,6 +1,8 @@
 // The signed difference of two maps (docs/FORMAT.md, "Arithmetic"): the exact b - a of each slot, as a list.
 // One pass over both primary arrays gives the difference of the bytes; then what each distance in overflow has
 // above its byte 255 is put right, entry by entry, in one map and in the other.
+#![tactic(auto)]
+
 ghost use Rattle.std.specs.Prelude.{◌≡◌, ◌+◌, ◌-◌, ◌^◌, ◌≤◌, ◌<◌, pos, ◌-ℤ◌, length};
 ghost use Rattle.std.specs.Int.Signed.{mag};
 ghost use Rattle.std.proofs.lemmas.List.Edits.{sets};
@@ -16,7 +18,7 @@ use pciv_format::{HEADER_LEN, SENTINEL};
 use pciv_map::entries::{entry_distance, entry_slot};
 
 // What is put right: distances that the difference takes off, those of map a, or that it is taken from, of map b.
-#[derive(Drop)]
+#[derive(Clone, Copy)]
 enum Side {
     Subtracted,
     Reduced,

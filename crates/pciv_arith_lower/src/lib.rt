@@ -1,6 +1,8 @@
 // A checked map with its non-zero distances lowered by m, to 1 at the least, written as a file; a zero distance stays.
 // Only what is in overflow can be so afterwards: the primary bytes are lowered all at once, then a walk over the overflow
 // entries puts the bytes of their slots right, and another writes the entries that are left.
+#![tactic(auto)]
+
 ghost use Rattle.std.specs.Prelude.{◌≡◌, ◌+◌, ◌*◌, ◌≤◌, length};
 ghost use Rattle.std.proofs.lemmas.List.Edits.{sets};
 ghost use Rattle.pciv_format.specs.Layout.{primary, overflow_count, overflow_part};

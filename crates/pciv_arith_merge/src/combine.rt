@@ -16,7 +16,7 @@ use pciv_map::totals::summary_of;
 use pciv_passes::pairs::ByteOp;
 
 // The slot operations whose result is never above the larger distance.
-#[derive(Drop)]
+#[derive(Clone, Copy)]
 pub enum MergeOp {
     Minimum,
     Maximum,

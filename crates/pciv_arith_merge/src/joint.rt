@@ -18,7 +18,7 @@ use pciv_bytes::numbers::smaller;
 use pciv_format::{HEADER_LEN, SlotOp};
 
 // The next entry of a map: its slot and the distance there. Past the last entry the slot is n.
-#[derive(Drop)]
+#[derive(Clone, Copy)]
 pub struct Head {
     pub slot: usize,
     pub distance: u32,
@@ -58,7 +58,7 @@ fn distance_in(head: Head, slot: usize) -> u32
 
 // The next slot that is in overflow in either map, the larger distance there, and how many entries of each are passed
 // with it.
-#[derive(Drop)]
+#[derive(Clone, Copy)]
 pub struct Met {
     pub slot: usize,
     pub distance: u32,

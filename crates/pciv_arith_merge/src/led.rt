@@ -30,7 +30,7 @@ fn seek(file: &[u8], n: usize, k: usize, t: usize, slot: usize) -> usize
 }
 
 // A distance, and the entry to go on from.
-#[derive(Drop)]
+#[derive(Clone, Copy)]
 pub struct Found {
     pub distance: u32,
     pub entry: usize,
@@ -58,7 +58,7 @@ fn find_from(file: &[u8], n: usize, k: usize, t: usize, slot: usize) -> Found
 }
 
 // The slot of an entry of the first map, the combined distance there, and the second map's entry to go on from.
-#[derive(Drop)]
+#[derive(Clone, Copy)]
 pub struct Combined {
     pub slot: usize,
     pub distance: u32,

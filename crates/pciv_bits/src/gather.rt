@@ -10,7 +10,7 @@ use pciv_bytes::little_endian::get64;
 use std::num::wrapping_sub_u8;
 
 // A test of bytes: below a limit, or from 1 to t.
-#[derive(Drop)]
+#[derive(Clone, Copy)]
 pub(crate) enum ByteTest {
     Below(u8),
     Near(u8),
@@ -82,7 +82,7 @@ fn lane(a: &[u8], i: usize, test: ByteTest) -> u8
 }
 
 // Two words.
-#[derive(Drop)]
+#[derive(Clone, Copy)]
 pub(crate) struct Pair {
     pub(crate) first: u64,
     pub(crate) second: u64,

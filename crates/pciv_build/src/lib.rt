@@ -2,6 +2,8 @@
 // `begin` refuses a buffer that is too small and writes the header; the routine writes its primary array and its
 // overflow entries; `finish` adds the sparse index. The law `built` of proofs/BuildLaws.antt says that this is the file, and
 // `built-sum` that what stands in the buffer has its sum (pciv_map::totals::summary_of).
+#![tactic(auto)]
+
 pub mod slots;
 
 ghost use Rattle.std.specs.Prelude.{◌≡◌, ◌++◌, ◌+◌, ◌*◌, ◌≤◌, length};

@@ -1,5 +1,7 @@
 // Burst bundles: one to eight frames of one scene in one file (docs/FORMAT.md, "Bundles"). Every routine checks all records
 // and frames that it uses before anything else. A refused call changes nothing, and what follows a result stays as it was.
+#![tactic(auto)]
+
 pub mod write;
 
 ghost use Rattle.std.specs.Prelude.{◌≡◌, length};
@@ -15,7 +17,7 @@ use pciv_format::{BUFFER_TOO_SMALL, NumberAnswer, Refusal, SLOT_OUT_OF_RANGE, Ve
 use pciv_layout::refusals::refuse_number;
 
 // The answer of a row: the distances at a slot by frame, zeros after a refusal.
-#[derive(Drop)]
+#[derive(Clone, Copy)]
 pub struct RowAnswer {
     pub verdict: Verdict,
     pub distances: [u32; 8],

@@ -10,21 +10,21 @@ use native.Mathlib.Omega.{arith}
 use mathlib.Core.List.{List, [], map}
 use lib.ListN.{length, get_or, take, length-map, get_or-map}
 use lib.Seq.{length-take-le, get_or-take}
-use denote.Ref as R
+use Rattle.std.specs.Borrow.{Bor}
 
-abbrev pub no_frame : R.Bor (List ℕ)
+abbrev pub no_frame : Bor (List ℕ)
 no_frame = record { ref_ptr = (0, 0); now = [] }
 
-abbrev pub used : List (R.Bor (List ℕ)) → ℕ → List (List ℕ)
-used frames count = take count (map ((λ x. x.now) {X = List ℕ}) frames)
+abbrev pub used : List (Bor (List ℕ)) → ℕ → List (List ℕ)
+used frames count = take count (map (λ (x : Bor (List ℕ)). x.now) frames)
 
-module _ (frames : List (R.Bor (List ℕ))) (count : ℕ) where
+module _ (frames : List (Bor (List ℕ))) (count : ℕ) where
   pub used-length : length frames ≡ 8 → count ≤ 8 → length (used frames count) ≡ count
   used-length eight h =
-      length-take-le count (map ((λ x. x.now) {X = List ℕ}) frames)
-      (omega (arith, length-map frames ((λ x. x.now) {X = List ℕ})))
+      length-take-le count (map (λ (x : Bor (List ℕ)). x.now) frames)
+      (omega (arith, length-map frames (λ (x : Bor (List ℕ)). x.now)))
 
   pub used-at : (f : ℕ) → f < count → (get_or frames f no_frame).now ≡ get_or (used frames count) f []
   used-at f h =
-      sym (get_or-map ((λ x. x.now) {X = List ℕ}) frames f no_frame)
-      ∙ sym (get_or-take count (map ((λ x. x.now) {X = List ℕ}) frames) f [] h)
+      sym (get_or-map (λ (x : Bor (List ℕ)). x.now) frames f no_frame)
+      ∙ sym (get_or-take count (map (λ (x : Bor (List ℕ)). x.now) frames) f [] h)

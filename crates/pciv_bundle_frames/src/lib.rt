@@ -1,5 +1,7 @@
 // The frames of a bundle: their check, each with its number from 1 as the map, wherever they stand, and the distances at
 // one slot (docs/FORMAT.md, "Bundles"). Definitions are in specs/Frames.antt.
+#![tactic(auto)]
+
 ghost use Rattle.std.specs.Prelude.{◌≡◌, ◌+◌, ◌≤◌, ◌<◌, map, length, take, ltb};
 ghost use Rattle.pciv_format.specs.Refusals.{done, refuse, refuse_if, number_answer};
 ghost use Rattle.pciv_bundle_records.specs.Records.{frames, PlacedFrames};

@@ -1,7 +1,7 @@
 -- Laws of checked frames: the passes over their bytes and their entries make the nearest distance of every slot.
 --   nearest-passes   both passes, over a whole list
 -- Axioms: none.
-use Rattle.std.proofs.Common.{◌≡◌, ℕ, suc, ◌+◌, ◌-◌, ◌<◌, ◌≤◌, min, List, [], ◌∷◌, length, sym, refl, ap, ◌∙◌, arith, ext_get_or}
+use Rattle.std.proofs.Common.{◌≡◌, ℕ, suc, ◌+◌, ◌<◌, ◌≤◌, min, List, [], ◌∷◌, length, sym, refl, ap, ◌∙◌, arith, ext_get_or}
 use native.Mathlib.Decide.{dec_le}
 use mathlib.Core.List.{foldl}
 use lib.Seq.{sets, length-sets}

@@ -1,6 +1,8 @@
 // The nearest distance of every slot over the frames of a bundle (docs/FORMAT.md, "Bundles"): first over the primary bytes,
 // where a byte 255 stands for the largest distance, then the overflow entries of each frame. Definitions are in
 // specs/Nearest.antt.
+#![tactic(auto)]
+
 mod blocks;
 mod entries;
 

@@ -1,5 +1,7 @@
 // The records of a bundle (docs/FORMAT.md, "Bundles"): refusal 14, the two counts, and where the frames stand. One walk
 // over the records finds all of it; definitions are in specs/Records.antt.
+#![tactic(auto)]
+
 ghost use Rattle.std.specs.Prelude.{◌≡◌, ◌<◌, length, get_or, ◌||◌, [], ltb};
 ghost use Rattle.pciv_format.specs.Refusals.{refuse, done};
 ghost use Rattle.pciv_bundle_records.specs.Records.{bad_header, records_outcome, bundle_answer, frames};
@@ -26,28 +28,28 @@ pub const HEADER_KIND: usize = 0;
 pub const FRAME_KIND: usize = 1;
 
 // What record 0 says: how many slots each frame has, and how many frames there are.
-#[derive(Drop)]
+#[derive(Clone, Copy)]
 pub struct BundleCounts {
     pub slots: usize,
     pub frames: usize,
 }
 
 // The answer of the reader.
-#[derive(Drop)]
+#[derive(Clone, Copy)]
 pub enum BundleAnswer {
     Counted(BundleCounts),
     Refused(Refusal),
 }
 
 // Where each frame starts, and where it ends.
-#[derive(Drop)]
+#[derive(Clone, Copy)]
 pub struct Places {
     pub starts: [usize; 8],
     pub ends: [usize; 8],
 }
 
 // What the walk over the records has found; the places are those of the frames where it is no refusal.
-#[derive(Drop)]
+#[derive(Clone, Copy)]
 pub struct Split {
     pub answer: BundleAnswer,
     pub places: Places,

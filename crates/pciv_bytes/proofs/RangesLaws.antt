@@ -59,7 +59,7 @@ get_or-inside (x ∷ xs) (suc j) a b h = get_or-inside xs j a b (omega arith)
 
 pub get_d_map : {A B : Type 0} (f : A → B) (xs : List A) (i : ℕ) (e : A) (d : B) → i < length xs
     → get_or (map f xs) i d ≡ f (get_or xs i e)
-get_d_map f xs i e d h = get_or-inside (map f xs) i d (f e) (rw length-map h) ∙ ListN.get_d_map f xs i e
+get_d_map f xs i e d h = get_or-inside (map f xs) i d (f e) (rw length-map h) ∙ ListN.get_or-map f xs i e
 
 pub map-cong : (f g : ℕ → ℕ) (xs : List ℕ) → ((i : ℕ) → i < length xs → f (get_or xs i 0) ≡ g (get_or xs i 0))
     → map f xs ≡ map g xs

@@ -40,7 +40,6 @@ use Rattle.pciv_repair.specs.declared.RepairAnswer.TheVariants as InRepair
 use Rattle.pciv_bundle_records.specs.declared.BundleCounts.{BundleCounts}
 use Rattle.pciv_bundle_records.specs.declared.BundleAnswer.{BundleAnswer}
 use Rattle.pciv_bundle_records.specs.declared.BundleAnswer.TheVariants as InBundle
-use Rattle.pciv_bundle.specs.declared.RowAnswer.{RowAnswer}
 
 abbrev pub no_cells : List ℕ
 no_cells = 0 ∷ 0 ∷ 0 ∷ []

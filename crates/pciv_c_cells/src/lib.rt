@@ -1,6 +1,8 @@
 // Answers, told to C (include/pciv.h). A pciv_refusal is three numbers, a pciv_summary six. A call answers the
 // refusal's number, 0 when done, and always writes the refusal; a result is written only when the call is done
 // (specs/Cells.antt).
+#![tactic(auto)]
+
 ghost use Rattle.std.specs.Prelude.{◌≡◌, ◌≤◌, length};
 ghost use Rattle.pciv_c_cells.specs.Cells.{ToldNumber, ToldFile, ToldLocated, ToldRepaired, no_cells, cells_of};
 ghost use Rattle.pciv_c_cells.specs.Cells.{file_outcome, number_outcome, located_outcome, repaired_outcome};

@@ -1,6 +1,8 @@
 // The check of a whole file, and of the file at the front of a buffer (docs/FORMAT.md, "Refusals"): refusals 1 to 8,
 // first case first, else the summary, or the counts alone, which take no pass for the sum. Header and length are checked
 // here, the parts in pciv_check_parts.
+#![tactic(auto)]
+
 pub mod pair;
 
 ghost use Rattle.std.specs.Prelude.{◌≡◌, false, ◌<◌};

@@ -6,7 +6,7 @@ use crate::check_counts;
 use pciv_format::{CountsAnswer, Refusal, SIZE_MISMATCH};
 
 // The counts of two maps: the slots of both, and the overflow entries of the first and of the second.
-#[derive(Drop)]
+#[derive(Clone, Copy)]
 pub struct PairCounts {
     pub n: usize,
     pub ka: usize,
@@ -14,7 +14,7 @@ pub struct PairCounts {
 }
 
 // The answer of the check of two files.
-#[derive(Drop)]
+#[derive(Clone, Copy)]
 pub enum PairAnswer {
     Ready(PairCounts),
     Refused(Refusal),

@@ -2,6 +2,8 @@
 // length are right.
 // One pass over the overflow entries and a count of the bytes 255 decide refusals 6 and 7; only where the
 // count is off does a walk over the slots look for the least one without an entry.
+#![tactic(auto)]
+
 ghost use Rattle.std.specs.Prelude.{◌≡◌};
 ghost use Rattle.pciv_bytes.specs.Ranges.{first_below};
 ghost use Rattle.pciv_format.specs.Layout.{index_len};

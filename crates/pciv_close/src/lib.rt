@@ -1,6 +1,8 @@
 // Close: the file of a primary array and its overflow entries (docs/FORMAT.md, "Writing").
 // One pass over the entries and a count of the bytes 255 decide refusals 6 and 7; only where the count is off
 // does a search between the entries look for the least slot without one. Then the file is written.
+#![tactic(auto)]
+
 ghost use Rattle.std.specs.Prelude.{◌≡◌, ◌+◌, ◌*◌, max, ◌≤◌, length};
 ghost use Rattle.std.proofs.lemmas.List.Edits.{sets};
 ghost use Rattle.pciv_bytes.specs.Ranges.{first_below};

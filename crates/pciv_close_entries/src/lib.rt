@@ -2,6 +2,8 @@
 // them, searches between them if the bytes 255 are not as many, and writes them. `close_entries` hands one entry
 // after another to `step`, which is all that is done with a slice of structs; a `Job` is where the call stands
 // (specs/Passes.antt).
+#![tactic(auto)]
+
 ghost use Rattle.std.specs.Prelude.{◌≡◌, ◌<◌, length};
 ghost use Rattle.pciv_format.specs.Refusals.{file_answer};
 ghost use Rattle.pciv_format.specs.Write.{close_outcome, close_buffer};
@@ -25,7 +27,7 @@ use pciv_map::totals::summary_of;
 use pciv_passes::counts::count_byte;
 
 // What is done with the entries.
-#[derive(Drop)]
+#[derive(Clone, Copy)]
 enum Pass {
     Check,
     Search,
@@ -34,7 +36,7 @@ enum Pass {
 
 // Where a call stands: the next entry, or how many there are once the call has ended; the least slot that it may
 // have, while entries are checked or searched; and the call's answer, at the end.
-#[derive(Drop)]
+#[derive(Clone, Copy)]
 struct Job {
     next: usize,
     lowest: usize,

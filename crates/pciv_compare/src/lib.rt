@@ -1,6 +1,8 @@
 // Comparison figures of two maps (docs/FORMAT.md, "Comparison figures"). What they answer is defined in pciv_format,
 // specs/Figures.antt. Both are quotients of two whole numbers, divided once: of the weights of all smaller and of all
 // larger distances the difference, over their sum for Bray-Curtis, and over the larger ones' for Jaccard.
+#![tactic(auto)]
+
 mod weigh;
 
 ghost use Rattle.std.specs.Prelude.{◌≡◌, ◌+◌, ◌^◌, ◌≤◌};

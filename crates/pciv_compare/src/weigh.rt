@@ -17,7 +17,7 @@ use pciv_passes::counts::{Term, Test};
 use pciv_passes::extremes::{Extremes, add_extremes};
 
 // What a distance weighs: itself, or 1 where it is the given one or more.
-#[derive(Drop)]
+#[derive(Clone, Copy)]
 pub enum Weight {
     Distance,
     From(u32),

@@ -16,18 +16,17 @@ use native.Mathlib.Nat.{le-div_iff_mul-le}
 use native.Mathlib.Omega.{arith}
 use native.Mathlib.Decide.{dec_le}
 use mathlib.Core.List.{List, map}
-use lib.ListN.{length, get_or, replicate, length-map, length-replicate, get_or-eq_default}
+use lib.ListN.{length, replicate, length-map, length-replicate, get_or-eq_default}
 use lib.Ieee.Nearest.{div_mono}
-use Rattle.pciv_bytes.specs.Ranges.{table}
 use Rattle.pciv_bytes.specs.LittleEndian.{Bytes}
 use Rattle.pciv_bytes.specs.ByteAt.{byte_at}
 use Rattle.pciv_bytes.proofs.RangesLaws.{length-table, get_or-table, get_d_map, map-cong}
-use Rattle.pciv_format.specs.Layout.{max_slots, max_distance, file, summary, at, Limits}
+use Rattle.pciv_format.specs.Layout.{max_slots, max_distance, at}
 use Rattle.pciv_format.specs.Refusals.{done}
 use Rattle.pciv_format.specs.Write.{write_outcome, write_buffer}
 use Rattle.pciv_format.specs.declared.Summary.{Summary}
 use Rattle.pciv_format.proofs.LayoutLaws.{file-cong, summary-cong}
-use Rattle.pciv_format.proofs.ListLaws.{Writes, WritesMap, write_read}
+use Rattle.pciv_format.proofs.ListLaws.{WritesMap, write_read}
 use Rattle.pciv_disparity.specs.Disparity.{disparity_distance, disparity_table, frame_distance, frame_outcome}
 use Rattle.pciv_disparity.specs.Disparity.{frame_buffer}
 use Rattle.pciv_disparity.proofs.DisparityLaws.{distance_none, distance_some, table-refused, table_filled}

@@ -1,5 +1,7 @@
 // Maps from disparity frames (docs/FORMAT.md, "Disparity frames"): a table of distances, filled once for a device, and the
 // file that it makes of a frame. A refused call changes no byte of a buffer, and what follows a result stays as it was.
+#![tactic(auto)]
+
 pub mod front;
 
 ghost use Rattle.std.specs.Prelude.{◌≡◌, ◌+◌, ◌*◌, ◌≤◌, length};
@@ -22,7 +24,7 @@ use pciv_layout::refusals::refuse_file;
 use pciv_map::totals::summary_of;
 
 // The answer of `fill_table`: the distance of each disparity, zeros after a refusal.
-#[derive(Drop)]
+#[derive(Clone, Copy)]
 pub struct TableAnswer {
     pub verdict: Verdict,
     pub table: [u32; 256],

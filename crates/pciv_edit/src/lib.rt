@@ -1,5 +1,7 @@
 // The editor (docs/FORMAT.md, "The editor"): one slot of the file at the front of the caller's buffer gets a new
 // distance, in place. What it answers and leaves is defined in pciv_format, specs/Edit.antt.
+#![tactic(auto)]
+
 pub mod run;
 
 ghost use Rattle.std.specs.Prelude.{◌≡◌};

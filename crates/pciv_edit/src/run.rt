@@ -16,7 +16,7 @@ use pciv_layout::refusals::refuse_number;
 use pciv_slot::edit_checked;
 
 // What is known of the map between two edits: its overflow entries, and the sum of its distances.
-#[derive(Drop)]
+#[derive(Clone, Copy)]
 struct Carried {
     k: usize,
     sum: usize,

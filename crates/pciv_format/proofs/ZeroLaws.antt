@@ -40,7 +40,7 @@ use Rattle.pciv_format.proofs.BitLaws.{bit_at-none}
 use Rattle.pciv_format.proofs.ReadLaws.{items-fit}
 use Rattle.pciv_format.proofs.MaskLaws.{mask_has-mask_of, mask_has-mask_of-past, length-mask_of}
 use Rattle.pciv_format.proofs.MaskLaws.{table-mask_of}
-use Rattle.pciv_format.proofs.ListLaws.{Writes, file-threshold, file-near_mask, shifted_value, file-shift}
+use Rattle.pciv_format.proofs.ListLaws.{Writes, file-threshold, file-near_mask, shifted_at, file-shift}
 
 -- ---- a shift, one distance
 
@@ -124,7 +124,7 @@ module _ (d : ℤ) (xs : List ℕ) where
   pub shift-large : Limits xs → (c i : ℕ) → shift_outcome (file_of xs) d c ≡ refuse 11 0 i → (i < length xs) × (1 ≤ at xs i)
   shift-large l c i e =
       elim (dec_le (length xs) first) [
-        | yes none ↦ absurd (other (ltb c (length (file (length xs) (shifted_value d xs)))) _
+        | yes none ↦ absurd (other (ltb c (length (file (length xs) (shifted_at d xs)))) _
             (rw (le-ltb first (length xs) none) at into))
         | no some ↦ (let is : first ≡ i = named (rw (lt-ltb first (length xs) (omega arith)) at into) in
             let large : max_distance < shifted_by d (at xs first) =
@@ -137,12 +137,12 @@ module _ (d : ℤ) (xs : List ℕ) where
       ]
     where
       bad : ℕ → Bool
-      bad j = ltb max_distance (shifted_value d xs j)
+      bad j = ltb max_distance (shifted_at d xs j)
 
       first : ℕ
       first = first_below bad (length xs)
 
-      into : map_into (length xs) (shifted_value d xs) c ≡ refuse 11 0 i
+      into : map_into (length xs) (shifted_at d xs) c ≡ refuse 11 0 i
       into = sym (rw (length-replicate {A = ℕ} c 0) at (file-shift xs l d (replicate c 0)).0) ∙ e
 
       -- the other refusal has another number

@@ -1,5 +1,6 @@
 // The PCIV format: its numbers and the types of all answers. What they mean is defined in specs/, in the order
 // of docs/FORMAT.md; the laws of the definitions are in proofs/.
+#![tactic(auto)]
 
 // The most slots that a map may have.
 pub const MAX_SLOTS: usize = 1048576;
@@ -50,7 +51,7 @@ pub const BAD_BUNDLE: usize = 14;
 pub const ZERO_CONSTANT: usize = 19;
 
 // The counts of a file: slots, overflow entries, index entries, the index's step, and its length in bytes.
-#[derive(Drop)]
+#[derive(Clone, Copy)]
 pub struct Counts {
     pub n: usize,
     pub k: usize,
@@ -60,7 +61,7 @@ pub struct Counts {
 }
 
 // The summary of a file: its counts, and the sum of all its distances.
-#[derive(Drop)]
+#[derive(Clone, Copy)]
 pub struct Summary {
     pub n: usize,
     pub k: usize,
@@ -72,7 +73,7 @@ pub struct Summary {
 
 // Why a call is refused: the refusal's number, the map at fault (1 or 2, or a bundle's frame from 1 to 8, else 0) and the
 // place.
-#[derive(Drop)]
+#[derive(Clone, Copy)]
 pub struct Refusal {
     pub number: usize,
     pub map: usize,
@@ -80,63 +81,63 @@ pub struct Refusal {
 }
 
 // Whether a call is accepted. It stands beside the result where that is an array.
-#[derive(Drop)]
+#[derive(Clone, Copy)]
 pub enum Verdict {
     Accepted,
     Refused(Refusal),
 }
 
 // The answer of a check without the sum, and of the beginning of a file: the file's counts.
-#[derive(Drop)]
+#[derive(Clone, Copy)]
 pub enum CountsAnswer {
     Counted(Counts),
     Refused(Refusal),
 }
 
 // The answer of a check, and of every routine that writes a file: the file's summary.
-#[derive(Drop)]
+#[derive(Clone, Copy)]
 pub enum FileAnswer {
     Done(Summary),
     Refused(Refusal),
 }
 
 // The answer of a total, and of every routine that writes a list: the number of items written.
-#[derive(Drop)]
+#[derive(Clone, Copy)]
 pub enum NumberAnswer {
     Number(usize),
     Refused(Refusal),
 }
 
 // Where a distance is stored: `Inline` in the primary array, `Overflow` in the overflow entry with this number, from 0.
-#[derive(Drop)]
+#[derive(Clone, Copy)]
 pub enum Origin {
     Inline,
     Overflow(usize),
 }
 
 // The distance at a slot, and where it is stored.
-#[derive(Drop)]
+#[derive(Clone, Copy)]
 pub struct Located {
     pub distance: u32,
     pub origin: Origin,
 }
 
 // The answer of a lookup of one slot.
-#[derive(Drop)]
+#[derive(Clone, Copy)]
 pub enum LookupAnswer {
     Found(Located),
     Refused(Refusal),
 }
 
 // The answer of a comparison figure.
-#[derive(Drop)]
+#[derive(Clone, Copy)]
 pub enum FigureAnswer {
     Quotient(f64),
     Refused(Refusal),
 }
 
 // The answer of the editor: the new file's summary or a refusal, and how many overflow entries the edit moved.
-#[derive(Drop)]
+#[derive(Clone, Copy)]
 pub struct EditAnswer {
     pub outcome: FileAnswer,
     pub moved: usize,
@@ -144,14 +145,14 @@ pub struct EditAnswer {
 
 // An overflow entry: a slot and the distance there. It goes to C as it is.
 #[repr(C)]
-#[derive(Drop)]
+#[derive(Clone, Copy)]
 pub struct Entry {
     pub slot: u64,
     pub distance: u32,
 }
 
 // How a distance is compared with a threshold.
-#[derive(Drop)]
+#[derive(Clone, Copy)]
 pub enum Comparison {
     Below,
     AtMost,
@@ -160,7 +161,7 @@ pub enum Comparison {
 }
 
 // What is done with the bits of two masks.
-#[derive(Drop)]
+#[derive(Clone, Copy)]
 pub enum MaskOp {
     And,
     Or,
@@ -168,7 +169,7 @@ pub enum MaskOp {
 }
 
 // What is done with the distances of two maps, slot by slot.
-#[derive(Drop)]
+#[derive(Clone, Copy)]
 pub enum SlotOp {
     Minimum,
     Maximum,

@@ -1,5 +1,7 @@
 // What the layout derives from n slots and k overflow entries: counts, lengths (docs/FORMAT.md, "Derived counts"); a
 // summary of its parts; the primary byte of a distance; the test of an overflow entry; refusals as answers.
+#![tactic(auto)]
+
 pub mod entries;
 pub mod refusals;
 

@@ -8,7 +8,7 @@ use crate::entries::{entry_distance, entry_slot};
 use pciv_format::{HEADER_LEN, SENTINEL};
 
 // The distance at a slot, and the cursor behind it.
-#[derive(Drop)]
+#[derive(Clone, Copy)]
 pub struct Taken {
     pub distance: u32,
     pub next: usize,

@@ -1,6 +1,8 @@
 // The distance at a slot of a checked map and where it is stored, through the sparse index where there is one; of a
 // list of slots in `list`. What is counted is defined in specs/Lookup.antt; in pciv_format, a slot's distance and entry
 // in specs/Parts.antt, and its origin in specs/Read.antt.
+#![tactic(auto)]
+
 mod eight;
 pub mod list;
 

@@ -1,4 +1,6 @@
 // Files made from masks (docs/FORMAT.md, "Masks").
+#![tactic(auto)]
+
 mod kept;
 mod masked;
 

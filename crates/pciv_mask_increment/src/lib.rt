@@ -1,4 +1,6 @@
 // The overflow entries of a map with 1 added where a mask is 1: its own, and those of the set slots with distance 254.
+#![tactic(auto)]
+
 ghost use Rattle.std.specs.Prelude.{◌≡◌, ℕ, ◌+◌, ◌*◌, ◌≤◌, length, ltb};
 ghost use Rattle.std.proofs.lemmas.List.Edits.{sets};
 ghost use Rattle.pciv_bytes.specs.Ranges.{first_below, sum_from};

@@ -1,6 +1,8 @@
 // Masks of masks (docs/FORMAT.md, "Masks"): and, or, exclusive or, not, and the number of set bits, of masks of n slots.
 // Refusals: 3 with map 1, then 13, then 12 where words are written. A refused call changes nothing, and what follows a
 // result in the caller's list stays as it was.
+#![tactic(auto)]
+
 ghost use Rattle.std.specs.Prelude.{◌≡◌, not, ◌≤◌, length};
 ghost use Rattle.std.proofs.lemmas.List.Edits.{sets};
 ghost use Rattle.pciv_bytes.specs.Ranges.{table};

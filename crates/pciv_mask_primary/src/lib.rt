@@ -1,5 +1,7 @@
 // The primary bytes of a map to which a mask is applied (docs/FORMAT.md, "Masks"): the bits of a word as bytes 0 and 1,
 // and each with the map's byte.
+#![tactic(auto)]
+
 ghost use Rattle.std.specs.Prelude.{◌≡◌, ◌+◌, ◌≤◌, length, take, drop};
 ghost use Rattle.std.proofs.lemmas.List.Edits.{sets};
 ghost use Rattle.pciv_bytes.specs.Ranges.{table};
@@ -17,7 +19,7 @@ use pciv_mask_bytes::rows::bit_rows;
 
 // What is done with the distances of a map: kept where the mask is 1, else 0 ("cut"); or one more where it is 1
 // ("tally").
-#[derive(Drop)]
+#[derive(Clone, Copy)]
 pub enum MaskedOp {
     Keep,
     Increment,

@@ -1,6 +1,8 @@
 // Masks of a map (docs/FORMAT.md, "Masks"): the slots whose distance is below, at most, above or at least t, and the near
 // mask, those whose distance is from 1 to t. The file is checked first, and refused as the check refuses it, with map 1;
 // then 12. A refused call changes no word, and words past the mask stay as they were.
+#![tactic(auto)]
+
 mod entries;
 
 ghost use Rattle.std.specs.Prelude.{◌≡◌, true, ◌≤◌, length};
@@ -47,7 +49,7 @@ fn is_negated(comparison: Comparison) -> bool
 }
 
 // What is asked of a distance: that it is below a limit, or, negated, that it is not; or that it is from 1 to t.
-#[derive(Drop)]
+#[derive(Clone, Copy)]
 enum Asked {
     Limit(u64, bool),
     Near(u32),

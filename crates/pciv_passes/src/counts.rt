@@ -6,14 +6,14 @@ ghost use Rattle.pciv_bytes.specs.ByteAt.{byte_at, byte_is, byte_from};
 ghost use Rattle.pciv_passes.specs.Counts.{passes, test_at, term_at, Part};
 
 // A test of bytes: equal to the given one, or not below it.
-#[derive(Drop)]
+#[derive(Clone, Copy)]
 pub enum Test {
     Equal(u8),
     AtLeast(u8),
 }
 
 // What is added up: 1 for each byte that passes a test, or the bytes themselves.
-#[derive(Drop)]
+#[derive(Clone, Copy)]
 pub enum Term {
     Passing(Test),
     Byte,

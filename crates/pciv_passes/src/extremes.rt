@@ -9,20 +9,20 @@ use crate::counts::{Term, Test, passing};
 use crate::pairs::{ByteOp, byte_op};
 
 // What the smaller bytes and the larger ones add up to.
-#[derive(Drop)]
+#[derive(Clone, Copy)]
 pub struct Extremes {
     pub least: usize,
     pub most: usize,
 }
 
 // The same of a block, as counts and as sums of bytes.
-#[derive(Drop)]
+#[derive(Clone, Copy)]
 struct BlockCounts {
     least: u8,
     most: u8,
 }
 
-#[derive(Drop)]
+#[derive(Clone, Copy)]
 struct BlockSums {
     least: u16,
     most: u16,

@@ -8,7 +8,7 @@ ghost use Rattle.pciv_passes.specs.Pairs.{byte_op, pair_at, one_at, full_at};
 
 // What is done with two bytes. Lower and Raise are difference and sum that leave a first byte 0 as it is; another one
 // is at least 1 afterwards.
-#[derive(Drop)]
+#[derive(Clone, Copy)]
 pub enum ByteOp {
     Min,
     Max,

@@ -1,6 +1,8 @@
 // Reading a map (docs/FORMAT.md, "Reading"): its primary array, one slot, a list of slots, all slots, totals.
 // Every routine checks the file first and refuses as the check does, with map 1; then come 9 and 12.
 // A refused call changes no byte, and what follows a result in the caller's list stays as it was.
+#![tactic(auto)]
+
 ghost use Rattle.std.specs.Prelude.{◌≡◌, ℕ, ◌+◌, ◌≤◌, ◌<◌, min, length, get_or, take, drop, ltb, leb};
 ghost use Rattle.pciv_bytes.specs.Ranges.{first_below};
 ghost use Rattle.pciv_format.specs.Refusals.{number_answer, lookup_answer};

@@ -4,7 +4,7 @@
 --   applies    what the bytes and the list give
 -- Axioms: none.
 use mathlib.Core.Path.{◌≡◌, refl}
-use Prim.Native.Nat.{ℕ, ◌+◌}
+use Prim.Native.Nat.{ℕ}
 use mathlib.Core.List.{List, [], ◌∷◌, ◌++◌}
 use lib.ListN.{drop, take, set}
 use Rattle.pciv_bytes.specs.Ranges.{first_from, first_below, table, positions, joined, sum_from}

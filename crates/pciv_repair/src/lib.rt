@@ -1,5 +1,7 @@
 // Repair: the file that can be rebuilt from a primary array and overflow entries, with a list of every change
 // (docs/FORMAT.md, "Repair"). What is to change is counted first, so that a call that is refused changes nothing.
+#![tactic(auto)]
+
 pub mod lines;
 
 ghost use Rattle.std.specs.Prelude.{◌≡◌, ◌+◌, ◌*◌, ◌≤◌, ◌++◌, length, drop};
@@ -26,14 +28,14 @@ use pciv_repair_file::put_repaired;
 pub const CORRECTION_LEN: usize = 4;
 
 // What a repair tells: the summary of the rebuilt file, and how many changes were listed.
-#[derive(Drop)]
+#[derive(Clone, Copy)]
 pub struct Repaired {
     pub summary: Summary,
     pub lines: usize,
 }
 
 // The answer of a repair.
-#[derive(Drop)]
+#[derive(Clone, Copy)]
 pub enum RepairAnswer {
     Done(Repaired),
     Refused(Refusal),

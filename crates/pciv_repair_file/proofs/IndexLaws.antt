@@ -51,9 +51,9 @@ same_false xs ys other = go (same xs ys) refl
 -- ---- one index entry, and a walk over the entries
 
 pub record RightIndex (b : List ℕ) (n k i : ℕ) : Type 0 where
-  pub kept_slot : get 8 b (40 + n + 12 * k + 16 * i)
+  pub slot_is : get 8 b (40 + n + 12 * k + 16 * i)
       ≡ (kept_parts (file_parts b n k)).slot (i * index_step (length (kept_entries (file_parts b n k))))
-  pub number_at : get 8 b (40 + n + 12 * k + 16 * i + 8) ≡ i * index_step (length (kept_entries (file_parts b n k)))
+  pub number_is : get 8 b (40 + n + 12 * k + 16 * i + 8) ≡ i * index_step (length (kept_entries (file_parts b n k)))
 
 pub record Comparing (b : List ℕ) (n k i entry lowest j : ℕ) : Type 0 where
   pub judged : Judged (file_parts b n k) j lowest
@@ -126,8 +126,8 @@ module _ (b : List ℕ) (n k : ℕ) (bytes : Bytes b) (given : PartsGiven b n k)
       ap (take 16) (drop-drop (16 * i) behind b)
       ∙ sym
       (ap (index_entry slots (index_step kept)) (number_at i l)
-      ∙ ap₂ (λ (x y : ℕ). le 8 x ++ le 8 y) (kept_slot (i * index_step kept) (index-inside kept i l) ∙ sym r.kept_slot)
-      (sym r.number_at)
+      ∙ ap₂ (λ (x y : ℕ). le 8 x ++ le 8 y) (kept_slot (i * index_step kept) (index-inside kept i l) ∙ sym r.slot_is)
+      (sym r.number_is)
       ∙ two-numbers 8 8 X b bytes (omega (arith, size, long)))))
       ∙ take_all (16 * length numbers) rest (omega (arith, long, numbers-count))))
 
@@ -150,8 +150,8 @@ module _ (b : List ℕ) (n k : ℕ) (bytes : Bytes b) (given : PartsGiven b n k)
       ∙ ap (λ (x : ℕ). le 8 x ++ le 8 t) (kept_slot t lt))
       ∙ append_assoc (le 8 s) (le 8 t) more in
       record {
-        kept_slot = get_at 8 b X s (le 8 t ++ more) piece (get-lt 8 b _ bytes);
-        number_at = get_at 8 b (X + 8) t more
+        slot_is = get_at 8 b X s (le 8 t ++ more) piece (get-lt 8 b _ bytes);
+        number_is = get_at 8 b (X + 8) t more
             (sym (drop-drop 8 X b) ∙ ap (drop 8) piece ∙ drop_at (le 8 s) (le 8 t ++ more) 8 (length-le 8 s))
             (omega (arith, lt, kept_small));
       }
@@ -258,11 +258,11 @@ module _ (b : List ℕ) (n k : ℕ) (bytes : Bytes b) (given : PartsGiven b n k)
               → get 8 b (40 + n + 12 * k + 16 * i) ≡ next - 1 → get 8 b (40 + n + 12 * k + 16 * i + 8) ≡ entry
               → RightIndex b n k i
           comparing-right here slot number =
-              record { kept_slot = slot ∙ comparing-slot ∙ ap (kept_parts parts).slot here; number_at = number ∙ here }
+              record { slot_is = slot ∙ comparing-slot ∙ ap (kept_parts parts).slot here; number_is = number ∙ here }
 
           pub comparing-wrong : entry ≡ i * index_step (length (kept_entries (file_parts b n k)))
               → (get 8 b (40 + n + 12 * k + 16 * i) ≡ next - 1 → get 8 b (40 + n + 12 * k + 16 * i + 8) ≡ entry → ⊥)
               → same (bytes_after b n k) (rebuilt_index b n k) ≡ false
           comparing-wrong here wrong =
               index-wrong i more
-              (λ r. wrong (r.kept_slot ∙ sym (comparing-slot ∙ ap (kept_parts parts).slot here)) (r.number_at ∙ sym here))
+              (λ r. wrong (r.slot_is ∙ sym (comparing-slot ∙ ap (kept_parts parts).slot here)) (r.number_is ∙ sym here))

@@ -1,5 +1,7 @@
 // The file that is rebuilt from a primary array and overflow entries alone (docs/FORMAT.md, "Repair"). Counts and index
 // are derived; entries that are wrong are dropped, and a byte 255 without an entry becomes 254.
+#![tactic(auto)]
+
 pub mod index;
 pub mod kept;
 

@@ -1,5 +1,7 @@
 // The report of a file as text (docs/FORMAT.md, "The report program"). Its meaning is defined in
 // pciv_format's specs/Report.antt; src/text.rt writes the pieces.
+#![tactic(auto)]
+
 mod text;
 
 ghost use Rattle.std.specs.Prelude.{◌≡◌, ◌≤◌, length};

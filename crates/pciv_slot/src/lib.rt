@@ -1,5 +1,7 @@
 // An edit of a buffer with a checked file at its front, the sum of whose distances is known. Each routine answers as the
 // editor does; they differ in what the slot's old and new distances are. The sum is adjusted and not taken again.
+#![tactic(auto)]
+
 mod change;
 
 ghost use Rattle.std.specs.Prelude.{◌≡◌, ◌+◌, ◌-◌, ◌^◌, ◌≤◌, ◌<◌, get_or, eqb, ltb};

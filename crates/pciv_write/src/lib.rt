@@ -1,6 +1,8 @@
 // Writing a map (docs/FORMAT.md, "Writing"): the file of a list of distances, to the front of the caller's buffer.
 // The distances are counted and cut to their primary bytes in two passes, each of which the compiler does for many slots
 // at once; the primary bytes then tell the slots in overflow. pciv_build adds the header and the sparse index.
+#![tactic(auto)]
+
 ghost use Rattle.std.specs.Prelude.{◌≡◌, ◌+◌, ◌*◌, ◌≤◌, length};
 ghost use Rattle.std.proofs.lemmas.List.Edits.{sets};
 ghost use Rattle.pciv_bytes.specs.Ranges.{flag};

@@ -1,4 +1,6 @@
 // Reads a file from standard input and prints the report on it (docs/FORMAT.md, "The report program").
+#![tactic(auto)]
+
 use pciv_format::NumberAnswer;
 use pciv_report::{MAX_INPUT, MAX_TEXT, report};
 

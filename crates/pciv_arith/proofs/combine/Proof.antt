@@ -10,50 +10,46 @@ use Rattle.pciv_arith.proofs.combine.Statement.{statement}
 use Rattle.pciv_arith.proofs.combine.Tie as tie
 
 -- what the check has shown: the counts of both
-are-maps : (c : tie.After-checked2)
-    → (let a = c.before.before.before.before.before.before.args in
-    pair_counts a.a.now a.b.now ≡ done c.checked2.given.0.0)
-are-maps c = pair_answer-ready _ _ (sym c.checked2.given.1 ∙ c.before.before.check-pair.ensures)
+are-maps : (c : tie.In-Ready)
+    → (let a = c.args in
+    pair_counts a.a.now a.b.now ≡ done c.in-Ready.s)
+are-maps c = pair_answer-ready _ _ (sym c.in-Ready.is ∙ c.check_pair-checked.ensures)
 
-check-pair-requires : tie.Need-check-pair-requires
-check-pair-requires c κs = search rules
+check_pair-checked-requires : tie.Need-check_pair-checked-requires
+check_pair-checked-requires c κs = search rules
 
-enum-known-checked : tie.Need-enum-known-checked
-enum-known-checked c = search rules
+enum_known-checked : tie.Need-enum_known-checked
+enum_known-checked c = search rules
 
-enum-known-checked-2 : tie.Need-enum-known-checked-2
-enum-known-checked-2 c = search rules
+enum_known-checked-in-Ready-1 : tie.Need-enum_known-checked-in-Ready-1
+enum_known-checked-in-Ready-1 c = search rules
 
-combine-into-requires : tie.Need-combine-into-requires
-combine-into-requires c κs = pair-checked _ _ _ (are-maps c.before.before)
+combine_into-requires : tie.Need-combine_into-requires
+combine_into-requires c κs = pair-checked _ _ _ (are-maps c.before)
 
-returns : tie.Need-returns
-returns c =
-    let k = c.before in
-    let h = k.before.before in
-    let a = h.before.before.before.before.args in
+returns-in-Refused : tie.Need-returns-in-Refused
+returns-in-Refused c =
+    let a = c.args in
     combined-refused (slot_op_of a.op) a.a.now a.b.now a.out.now _
-    (pair_answer-refused _ _ (sym k.checked.given.1 ∙ h.check-pair.ensures))
+    (pair_answer-refused _ _ (sym c.in-Refused.is ∙ c.check_pair-checked.ensures))
 
-same_length : tie.Need-same-length
-same_length c = search rules
+shape_of-out : tie.Need-shape_of-out
+shape_of-out c = search rules
 
-returns-2 : tie.Need-returns-2
-returns-2 c =
-    let x = c.before.before in
-    let k = x.before.before.before in
-    let a = k.before.before.before.before.before.before.args in
-    combined-written (slot_op_of a.op) a.a.now a.b.now a.out.now _ (are-maps k) _ _
-    x.combine-into.ensures.0 x.combine-into.ensures.1
+returns-in-Ready : tie.Need-returns-in-Ready
+returns-in-Ready c =
+    let a = c.args in
+    combined-written (slot_op_of a.op) a.a.now a.b.now a.out.now _ (are-maps c.before.before.before.before) _ _
+    c.combine_into.ensures.0 c.combine_into.ensures.1
 
-pub combine-spec : {M : Type 1} → statement M
-combine-spec =
+pub combine_spec : {M : Type 1} → statement M
+combine_spec =
     tie.close
     (tie.spec
-    check-pair-requires
-    enum-known-checked
-    enum-known-checked-2
-    combine-into-requires
-    returns
-    same_length
-    returns-2)
+    check_pair-checked-requires
+    enum_known-checked
+    enum_known-checked-in-Ready-1
+    combine_into-requires
+    returns-in-Refused
+    shape_of-out
+    returns-in-Ready)

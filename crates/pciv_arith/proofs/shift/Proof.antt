@@ -12,110 +12,100 @@ use borrow.Author.Rules.{rules}
 use Rattle.pciv_arith.proofs.shift.Statement.{statement}
 use Rattle.pciv_arith.proofs.shift.Tie as tie
 
-abbrev entry : tie.After-check-counts → tie.Start
+abbrev entry : tie.After-check_counts-checked → tie.Start
 entry c = c.before.before.before
 
 -- what the check has shown: why the file is refused, or its counts
-is-refused : (c : tie.After-checked)
-    → counts_file 1 (entry c.before.before).args.file.now ≡ refused c.checked.given.0.0
-is-refused c = counts_answer-refused _ _ (sym c.checked.given.1 ∙ c.before.before.check-counts.ensures)
+is-refused : (c : tie.In-Refused)
+    → counts_file 1 (entry c.before).args.file.now ≡ refused c.in-Refused.r
+is-refused c = counts_answer-refused _ _ (sym c.in-Refused.is ∙ c.check_counts-checked.ensures)
 
-is-map : (c : tie.After-checked2)
-    → counts_file 1 (entry c.before.before).args.file.now ≡ done c.checked2.given.0.0
-is-map c = counts_answer-counted _ _ (sym c.checked2.given.1 ∙ c.before.before.check-counts.ensures)
+is-map : (c : tie.In-Counted)
+    → counts_file 1 (entry c.before).args.file.now ≡ done c.in-Counted.s
+is-map c = counts_answer-counted _ _ (sym c.in-Counted.is ∙ c.check_counts-checked.ensures)
 
 -- which way it goes
-answered : (c : tie.After-which-way)
-    → c.which-way.result ≡ direction_of (entry c.before.before.before.before).args.by
+answered : (c : tie.After-which_way-way)
+    → c.which_way-way.result ≡ direction_of (entry c.before.before).args.by
 answered c =
+    let s = entry c.before.before in
+    c.which_way-way.ensures ∙ ap direction_of (to_z-of_z {w = w32} {z = s.args.by} s.ranges.by)
+
+down : (c : tie.In-Down)
+    → Down c.in-Down.m ≡ direction_of (entry c.before.before.before).args.by
+down c = sym c.in-Down.is ∙ answered c.before
+
+up : (c : tie.In-Up)
+    → Up c.in-Up.m ≡ direction_of (entry c.before.before.before).args.by
+up c = sym c.in-Up.is ∙ answered c.before
+
+check_counts-checked-requires : tie.Need-check_counts-checked-requires
+check_counts-checked-requires c κs = search rules
+
+enum_known-checked : tie.Need-enum_known-checked
+enum_known-checked c = search rules
+
+enum_known-checked-in-Counted-1 : tie.Need-enum_known-checked-in-Counted-1
+enum_known-checked-in-Counted-1 c = search rules
+
+which_way-way-requires : tie.Need-which_way-way-requires
+which_way-way-requires c κs = search rules
+
+enum_known-way : tie.Need-enum_known-way
+enum_known-way c = search rules
+
+lowered_into-requires : tie.Need-lowered_into-requires
+lowered_into-requires c κs =
+    checked _ _ (is-map c.before.before.before) (entry c.before.before.before.before).args.by
+
+enum_known-way-in-Up-1 : tie.Need-enum_known-way-in-Up-1
+enum_known-way-in-Up-1 c = search rules
+
+added_into-requires : tie.Need-added_into-requires
+added_into-requires c κs =
     let s = entry c.before.before.before.before in
-    c.which-way.ensures ∙ ap direction_of (to_z-of_z {w = w32} {z = s.args.by} s.fits.by)
+    let map = checked _ _ (is-map c.before.before.before) s.args.by in
+    (record { first = map; second = map }, up_small s.args.by c.in-Up.m s.ranges.by (up c.before))
 
-down : (c : tie.After-way)
-    → Down c.way.given.0.0 ≡ direction_of (entry c.before.before.before.before.before.before).args.by
-down c = sym c.way.given.1 ∙ answered c.before.before
+returns-in-Refused : tie.Need-returns-in-Refused
+returns-in-Refused c =
+    let a = (entry c.before).args in
+    shift-refused a.file.now _ (is-refused c) a.by a.out.now
 
-up : (c : tie.After-way2)
-    → Up c.way2.given.0.0 ≡ direction_of (entry c.before.before.before.before.before.before).args.by
-up c = sym c.way2.given.1 ∙ answered c.before.before
+shape_of-out-in-Down : tie.Need-shape_of-out-in-Down
+shape_of-out-in-Down c = search rules
 
-check-counts-requires : tie.Need-check-counts-requires
-check-counts-requires c κs = search rules
+returns-in-Down : tie.Need-returns-in-Down
+returns-in-Down c =
+    let a = (entry c.before.before.before.before.before.before.before).args in
+    shift-written a.file.now _ (is-map c.before.before.before.before.before.before) a.by _
+    (down_is a.file.now _ (is-map c.before.before.before.before.before.before) a.by c.in-Down.m (down c.before.before.before.before))
+    a.out.now _ _ c.lowered_into.ensures.0 c.lowered_into.ensures.1
 
-enum-known-checked : tie.Need-enum-known-checked
-enum-known-checked c = search rules
+shape_of-out-in-Up : tie.Need-shape_of-out-in-Up
+shape_of-out-in-Up c = search rules
 
-enum-known-checked-2 : tie.Need-enum-known-checked-2
-enum-known-checked-2 c = search rules
+returns-in-Up : tie.Need-returns-in-Up
+returns-in-Up c =
+    let a = (entry c.before.before.before.before.before.before.before).args in
+    shift-written a.file.now _ (is-map c.before.before.before.before.before.before) a.by _
+    (up_is a.file.now _ (is-map c.before.before.before.before.before.before) a.by c.in-Up.m (up c.before.before.before.before))
+    a.out.now _ _ c.added_into.ensures.0 c.added_into.ensures.1
 
-which-way-requires : tie.Need-which-way-requires
-which-way-requires c κs = search rules
-
-enum-known-way : tie.Need-enum-known-way
-enum-known-way c = search rules
-
-lowered-into-requires : tie.Need-lowered-into-requires
-lowered-into-requires c κs =
-    let k = c.before.before.before.before.before.before in
-    checked _ _ (is-map k) (entry k.before.before).args.by
-
-enum-known-way-2 : tie.Need-enum-known-way-2
-enum-known-way-2 c = search rules
-
-added-into-requires : tie.Need-added-into-requires
-added-into-requires c κs =
-    let w = c.before.before in
-    let k = w.before.before.before.before in
-    let s = entry k.before.before in
-    let map = checked _ _ (is-map k) s.args.by in
-    (record { first = map; second = map }, up_small s.args.by w.way2.given.0.0 s.fits.by (up w))
-
-returns : tie.Need-returns
-returns c =
-    let k = c.before in
-    let a = (entry k.before.before).args in
-    shift-refused a.file.now _ (is-refused k) a.by a.out.now
-
-same_length : tie.Need-same-length
-same_length c = search rules
-
-returns-2 : tie.Need-returns-2
-returns-2 c =
-    let x = c.before.before in
-    let w = x.before.before.before in
-    let k = w.before.before.before.before in
-    let a = (entry k.before.before).args in
-    shift-written a.file.now _ (is-map k) a.by _
-    (down_is a.file.now _ (is-map k) a.by w.way.given.0.0 (down w))
-    a.out.now _ _ x.lowered-into.ensures.0 x.lowered-into.ensures.1
-
-same-length-2 : tie.Need-same-length-2
-same-length-2 c = search rules
-
-returns-3 : tie.Need-returns-3
-returns-3 c =
-    let x = c.before.before in
-    let w = x.before.before.before in
-    let k = w.before.before.before.before in
-    let a = (entry k.before.before).args in
-    shift-written a.file.now _ (is-map k) a.by _
-    (up_is a.file.now _ (is-map k) a.by w.way2.given.0.0 (up w))
-    a.out.now _ _ x.added-into.ensures.0 x.added-into.ensures.1
-
-pub shift-spec : {M : Type 1} → statement M
-shift-spec =
+pub shift_spec : {M : Type 1} → statement M
+shift_spec =
     tie.close
     (tie.spec
-    check-counts-requires
-    enum-known-checked
-    enum-known-checked-2
-    which-way-requires
-    enum-known-way
-    lowered-into-requires
-    enum-known-way-2
-    added-into-requires
-    returns
-    same_length
-    returns-2
-    same-length-2
-    returns-3)
+    check_counts-checked-requires
+    enum_known-checked
+    enum_known-checked-in-Counted-1
+    which_way-way-requires
+    enum_known-way
+    lowered_into-requires
+    enum_known-way-in-Up-1
+    added_into-requires
+    returns-in-Refused
+    shape_of-out-in-Down
+    returns-in-Down
+    shape_of-out-in-Up
+    returns-in-Up)

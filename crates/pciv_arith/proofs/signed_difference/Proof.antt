@@ -10,73 +10,67 @@ use borrow.Author.Rules.{rules}
 use Rattle.pciv_arith.proofs.signed_difference.Statement.{statement}
 use Rattle.pciv_arith.proofs.signed_difference.Tie as tie
 
-abbrev entry : tie.After-check-pair → tie.Start
+abbrev entry : tie.After-check_pair-checked → tie.Start
 entry c = c.before.before.before
 
 -- what the check has shown: why the pair is refused, or its counts
-is-refused : (c : tie.After-checked)
-    → pair_counts (entry c.before.before).args.a.now (entry c.before.before).args.b.now
-    ≡ refused c.checked.given.0.0
-is-refused c = pair_answer-refused _ _ (sym c.checked.given.1 ∙ c.before.before.check-pair.ensures)
+is-refused : (c : tie.In-Refused)
+    → pair_counts (entry c.before).args.a.now (entry c.before).args.b.now
+    ≡ refused c.in-Refused.r
+is-refused c = pair_answer-refused _ _ (sym c.in-Refused.is ∙ c.check_pair-checked.ensures)
 
-are-maps : (c : tie.After-checked2)
-    → pair_counts (entry c.before.before).args.a.now (entry c.before.before).args.b.now
-    ≡ done c.checked2.given.0.0
-are-maps c = pair_answer-ready _ _ (sym c.checked2.given.1 ∙ c.before.before.check-pair.ensures)
+are-maps : (c : tie.In-Ready)
+    → pair_counts (entry c.before).args.a.now (entry c.before).args.b.now
+    ≡ done c.in-Ready.c
+are-maps c = pair_answer-ready _ _ (sym c.in-Ready.is ∙ c.check_pair-checked.ensures)
 
-check-pair-requires : tie.Need-check-pair-requires
-check-pair-requires c κs = search rules
+check_pair-checked-requires : tie.Need-check_pair-checked-requires
+check_pair-checked-requires c κs = search rules
 
-enum-known-checked : tie.Need-enum-known-checked
-enum-known-checked c = search rules
+enum_known-checked : tie.Need-enum_known-checked
+enum_known-checked c = search rules
 
-enum-known-checked-2 : tie.Need-enum-known-checked-2
-enum-known-checked-2 c = search rules
+enum_known-checked-in-Ready-1 : tie.Need-enum_known-checked-in-Ready-1
+enum_known-checked-in-Ready-1 c = search rules
 
-refuse-number-requires : tie.Need-refuse-number-requires
-refuse-number-requires c κs = search rules
+refuse_number-requires : tie.Need-refuse_number-requires
+refuse_number-requires c κs = search rules
 
-returns : tie.Need-returns
-returns c =
-    let t = c.before in
-    let k = t.before.before in
-    let a = (entry k.before.before).args in
-    let e = difference-short a.a.now a.b.now _ (are-maps k) (length a.out.now) t.if1.true in
-    (c.refuse-number.ensures ∙ ap number_answer (sym e), difference-kept a.a.now a.b.now _ a.out.now e)
+returns-then-out-n : tie.Need-returns-then-out-n
+returns-then-out-n c =
+    let a = (entry c.before.before.before).args in
+    let e = difference-short a.a.now a.b.now _ (are-maps c.before.before) (length a.out.now) c.if-out-n.true in
+    (c.refuse_number.ensures ∙ ap number_answer (sym e), difference-kept a.a.now a.b.now _ a.out.now e)
 
-differences-into-requires : tie.Need-differences-into-requires
-differences-into-requires c κs =
-    let k = c.before.before.before in
-    (pair-checked _ _ _ (are-maps k), c.before.if1.false)
+differences_into-requires : tie.Need-differences_into-requires
+differences_into-requires c κs =
+    (pair-checked _ _ _ (are-maps c.before.before), c.if-out-n.false)
 
-returns-2 : tie.Need-returns-2
-returns-2 c =
-    let k = c.before in
-    let a = (entry k.before.before).args in
-    let e = difference-refused a.a.now a.b.now _ (is-refused k) (length a.out.now) in
+returns-in-Refused : tie.Need-returns-in-Refused
+returns-in-Refused c =
+    let a = (entry c.before).args in
+    let e = difference-refused a.a.now a.b.now _ (is-refused c) (length a.out.now) in
     (ap number_answer (sym e), difference-kept a.a.now a.b.now _ a.out.now e)
 
-same_length : tie.Need-same-length
-same_length c = search rules
+shape_of-out : tie.Need-shape_of-out
+shape_of-out c = search rules
 
-returns-3 : tie.Need-returns-3
-returns-3 c =
-    let x = c.before in
-    let k = x.before.before.before.before in
-    let a = (entry k.before.before).args in
-    difference-written a.a.now a.b.now _ (are-maps k) a.out.now _ x.before.before.if1.false
-    x.differences-into.ensures
+returns-else-out-n : tie.Need-returns-else-out-n
+returns-else-out-n c =
+    let a = (entry c.before.before.before.before.before).args in
+    difference-written a.a.now a.b.now _ (are-maps c.before.before.before.before) a.out.now _ c.if-out-n.false
+    c.differences_into.ensures
 
-pub signed-difference-spec : {M : Type 1} → statement M
-signed-difference-spec =
+pub signed_difference_spec : {M : Type 1} → statement M
+signed_difference_spec =
     tie.close
     (tie.spec
-    check-pair-requires
-    enum-known-checked
-    enum-known-checked-2
-    refuse-number-requires
-    returns
-    differences-into-requires
-    returns-2
-    same_length
-    returns-3)
+    check_pair-checked-requires
+    enum_known-checked
+    enum_known-checked-in-Ready-1
+    refuse_number-requires
+    returns-then-out-n
+    differences_into-requires
+    returns-in-Refused
+    shape_of-out
+    returns-else-out-n)

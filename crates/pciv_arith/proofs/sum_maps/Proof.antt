@@ -10,50 +10,46 @@ use Rattle.pciv_arith.proofs.sum_maps.Statement.{statement}
 use Rattle.pciv_arith.proofs.sum_maps.Tie as tie
 
 -- what the check has shown: the counts of both
-are-maps : (c : tie.After-checked2)
-    → (let a = c.before.before.before.before.before.before.args in
-    pair_counts a.a.now a.b.now ≡ done c.checked2.given.0.0)
-are-maps c = pair_answer-ready _ _ (sym c.checked2.given.1 ∙ c.before.before.check-pair.ensures)
+are-maps : (c : tie.In-Ready)
+    → (let a = c.args in
+    pair_counts a.a.now a.b.now ≡ done c.in-Ready.c)
+are-maps c = pair_answer-ready _ _ (sym c.in-Ready.is ∙ c.check_pair-checked.ensures)
 
-check-pair-requires : tie.Need-check-pair-requires
-check-pair-requires c κs = search rules
+check_pair-checked-requires : tie.Need-check_pair-checked-requires
+check_pair-checked-requires c κs = search rules
 
-enum-known-checked : tie.Need-enum-known-checked
-enum-known-checked c = search rules
+enum_known-checked : tie.Need-enum_known-checked
+enum_known-checked c = search rules
 
-enum-known-checked-2 : tie.Need-enum-known-checked-2
-enum-known-checked-2 c = search rules
+enum_known-checked-in-Ready-1 : tie.Need-enum_known-checked-in-Ready-1
+enum_known-checked-in-Ready-1 c = search rules
 
-added-into-requires : tie.Need-added-into-requires
-added-into-requires c κs = (pair-checked _ _ _ (are-maps c.before.before), tt)
+added_into-requires : tie.Need-added_into-requires
+added_into-requires c κs = (pair-checked _ _ _ (are-maps c.before), tt)
 
-returns : tie.Need-returns
-returns c =
-    let k = c.before in
-    let h = k.before.before in
-    let a = h.before.before.before.before.args in
+returns-in-Refused : tie.Need-returns-in-Refused
+returns-in-Refused c =
+    let a = c.args in
     combined-refused Sum a.a.now a.b.now a.out.now _
-    (pair_answer-refused _ _ (sym k.checked.given.1 ∙ h.check-pair.ensures))
+    (pair_answer-refused _ _ (sym c.in-Refused.is ∙ c.check_pair-checked.ensures))
 
-same_length : tie.Need-same-length
-same_length c = search rules
+shape_of-out : tie.Need-shape_of-out
+shape_of-out c = search rules
 
-returns-2 : tie.Need-returns-2
-returns-2 c =
-    let x = c.before.before in
-    let k = x.before.before.before in
-    let a = k.before.before.before.before.before.before.args in
-    combined-written Sum a.a.now a.b.now a.out.now _ (are-maps k) _ _ x.added-into.ensures.0
-    x.added-into.ensures.1
+returns-in-Ready : tie.Need-returns-in-Ready
+returns-in-Ready c =
+    let a = c.args in
+    combined-written Sum a.a.now a.b.now a.out.now _ (are-maps c.before.before.before.before) _ _ c.added_into.ensures.0
+    c.added_into.ensures.1
 
-pub sum-maps-spec : {M : Type 1} → statement M
-sum-maps-spec =
+pub sum_maps_spec : {M : Type 1} → statement M
+sum_maps_spec =
     tie.close
     (tie.spec
-    check-pair-requires
-    enum-known-checked
-    enum-known-checked-2
-    added-into-requires
-    returns
-    same_length
-    returns-2)
+    check_pair-checked-requires
+    enum_known-checked
+    enum_known-checked-in-Ready-1
+    added_into-requires
+    returns-in-Refused
+    shape_of-out
+    returns-in-Ready)

@@ -16,43 +16,44 @@ wide : (s : tie.Start) → SFits w64 s.args.by
 wide s = record { sfits = omega (arith, s.ranges.by.sfits) }
 
 -- what the test says of it
-below : (c : tie.Then1) → Opposite c.before.args.by
+below : (c : tie.Then-d-lt0) → Opposite c.args.by
 below c =
-    let s = c.before in
-    opposite s.args.by s.ranges.by (rw (narrow s, to_z-of_z (wide s)) at c.if1.true)
+    opposite c.args.by c.ranges.by (rw (narrow c.before, to_z-of_z (wide c.before)) at c.if-d-lt0.true)
 
-above : (c : tie.Else1) → Itself c.before.args.by
+above : (c : tie.Else-d-lt0) → Itself c.args.by
 above c =
-    let s = c.before in
-    itself s.args.by s.ranges.by (rw (narrow s, to_z-of_z (wide s)) at c.if1.false)
+    itself c.args.by c.ranges.by (rw (narrow c.before, to_z-of_z (wide c.before)) at c.if-d-lt0.false)
 
-cast-d : tie.Need-overflow-cast-d
-cast-d c = rw (narrow c) (wide c)
+overflow_cast-d : tie.Need-overflow_cast-d
+overflow_cast-d c = rw (narrow c) (wide c)
 
-sub-t4 : tie.Need-overflow-sub-t4
-sub-t4 c =
-    let s = c.before in
-    rw (narrow s, to_z-of_z (wide s)) (below c).ranges
+overflow_sub-result : tie.Need-overflow_sub-result
+overflow_sub-result c =
+    rw (narrow c.before, to_z-of_z (wide c.before)) (below c).fits
 
-cast-t5 : tie.Need-overflow-cast-t5
-cast-t5 c =
-    let s = c.before in
-    rw (narrow s, to_z-of_z (wide s), to_z-of_z (below c).ranges) ((below c).sign, (below c).small)
+overflow_cast-result : tie.Need-overflow_cast-result
+overflow_cast-result c =
+    rw (narrow c.before, to_z-of_z (wide c.before), to_z-of_z (below c).fits) ((below c).sign, (below c).small)
+
+returns-then-d-lt0 : tie.Need-returns-then-d-lt0
+returns-then-d-lt0 c =
+    rw (narrow c.before, to_z-of_z (wide c.before), to_z-of_z (below c).fits) (below c).is
+
+overflow_cast-result-2 : tie.Need-overflow_cast-result-2
+overflow_cast-result-2 c =
+    rw (narrow c.before, to_z-of_z (wide c.before)) ((above c).sign, (above c).small)
 
 returns : tie.Need-returns
 returns c =
-    let s = c.before in
-    rw (narrow s, to_z-of_z (wide s), to_z-of_z (below c).ranges) (below c).is
+    rw (narrow c.before, to_z-of_z (wide c.before)) (above c).is
 
-cast-t6 : tie.Need-overflow-cast-t6
-cast-t6 c =
-    let s = c.before in
-    rw (narrow s, to_z-of_z (wide s)) ((above c).sign, (above c).small)
-
-returns-2 : tie.Need-returns-2
-returns-2 c =
-    let s = c.before in
-    rw (narrow s, to_z-of_z (wide s)) (above c).is
-
-pub which-way-spec : {M : Type 1} → statement M
-which-way-spec = tie.close (tie.spec cast-d sub-t4 cast-t5 returns cast-t6 returns-2)
+pub which_way_spec : {M : Type 1} → statement M
+which_way_spec =
+    tie.close
+    (tie.spec
+    overflow_cast-d
+    overflow_sub-result
+    overflow_cast-result
+    returns-then-d-lt0
+    overflow_cast-result-2
+    returns)

@@ -16,7 +16,7 @@ use borrow.Author.Rules.{rules}
 use Rattle.pciv_arith_add.proofs.added_into.Statement.{statement}
 use Rattle.pciv_arith_add.proofs.added_into.Tie as tie
 
-abbrev entry : tie.After-first-too-large → tie.Start
+abbrev entry : tie.After-first_too_large-large → tie.Start
 entry c = c.before.before.before.before
 
 -- the distances of the result
@@ -28,134 +28,111 @@ v s =
 abbrev into : tie.Start → Outcome Summary
 into s = map_into s.args.n (v s) (length s.args.out.now)
 
-abbrev at_count : tie.After-count-added → tie.Start
+abbrev at_count : tie.After-count_added-k → tie.Start
 at_count c = entry c.before.before
 
 -- no slot is too large
-fits : (c : tie.Else1) → Fits (entry c.before).args.n (v (entry c.before))
+fits : (c : tie.Else-large-n) → Fits (entry c.before).args.n (v (entry c.before))
 fits c =
     let s = entry c.before in
-    fits-none s.args.n (v s) c.before.first-too-large.result c.before.first-too-large.ensures
-    c.if1.false
+    fits-none s.args.n (v s) c.first_too_large-large.result c.first_too_large-large.ensures
+    c.if-large-n.false
 
-opened : (b : tie.After-begin)
-    → (let e = b.before.before in
-    let s = at_count e in
-    Opened s.args.n e.count-added.result (v s) (into s) s.args.out.now b.begin.result
-    b.begin.new.0)
+opened : (b : tie.After-begin-begun)
+    → (let s = at_count b.before.before in
+    Opened s.args.n b.count_added-k.result (v s) (into s) s.args.out.now b.begin-begun.result
+    b.begin-begun.new.out)
 opened b =
-    let e = b.before.before in
-    let s = at_count e in
+    let s = at_count b.before.before in
     record {
-      few = s.pre.0.first.header.small;
-      each = fits e.before;
-      count = e.count-added.ensures;
-      into = map-fits s.args.n (v s) (length s.args.out.now) (fits e.before);
-      answer = b.begin.ensures.0;
-      buffer = b.begin.ensures.1;
+      few = s.requires.0.first.header.small;
+      each = fits b.before.before.before;
+      count = b.count_added-k.ensures;
+      into = map-fits s.args.n (v s) (length s.args.out.now) (fits b.before.before.before);
+      answer = b.begin-begun.ensures.0;
+      buffer = b.begin-begun.ensures.1;
     }
 
-first-too-large-requires : tie.Need-first-too-large-requires
-first-too-large-requires c κs =
-    let s = c.before.before.before in
-    (s.requires.0, s.requires.1)
+first_too_large-large-requires : tie.Need-first_too_large-large-requires
+first_too_large-large-requires c κs =
+    (c.requires.0, c.requires.1)
 
-refuse-file-requires : tie.Need-refuse-file-requires
-refuse-file-requires c κs = search rules
+refuse_file-requires : tie.Need-refuse_file-requires
+refuse_file-requires c κs = search rules
 
-returns : tie.Need-returns
-returns c =
-    let f = c.before.before in
-    let s = entry f in
-    map-large s.args.n (v s) f.first-too-large.result f.first-too-large.ensures c.before.if1.true
-    s.args.out.now c.refuse-file.result c.refuse-file.ensures
+returns-then-large-n : tie.Need-returns-then-large-n
+returns-then-large-n c =
+    let s = entry c.before.before in
+    map-large s.args.n (v s) c.first_too_large-large.result c.first_too_large-large.ensures c.if-large-n.true
+    s.args.out.now c.refuse_file.result c.refuse_file.ensures
 
-count-added-requires : tie.Need-count-added-requires
-count-added-requires c κs = (entry c.before).requires.0
+count_added-k-requires : tie.Need-count_added-k-requires
+count_added-k-requires c κs = (entry c.before).requires.0
 
-begin-requires : tie.Need-begin-requires
-begin-requires c κs =
-    let e = c.before in
-    let s = at_count e in
-    begin-few s.args.n e.count-added.result (v s) s.pre.0.first.header.small e.count-added.ensures
+begin-begun-requires : tie.Need-begin-begun-requires
+begin-begun-requires c κs =
+    let s = at_count c.before in
+    begin-few s.args.n c.count_added-k.result (v s) s.requires.0.first.header.small c.count_added-k.ensures
 
-enum-known-begun : tie.Need-enum-known-begun
-enum-known-begun c = search rules
+enum_known-begun : tie.Need-enum_known-begun
+enum_known-begun c = search rules
 
-enum-known-begun-2 : tie.Need-enum-known-begun-2
-enum-known-begun-2 c = search rules
+enum_known-begun-in-Counted-1 : tie.Need-enum_known-begun-in-Counted-1
+enum_known-begun-in-Counted-1 c = search rules
 
-put-primary-requires : tie.Need-put-primary-requires
-put-primary-requires c κs =
-    let k = c.before.before in
-    let b = k.before.before.before.before in
-    let s = at_count b.before.before in
-    (s.pre.0, omega (arith, opened-space (opened b) _ k.begun2.given.1))
+put_primary-requires : tie.Need-put_primary-requires
+put_primary-requires c κs =
+    let s = at_count c.before.before.before.before.before.before in
+    (s.requires.0, omega (arith, opened-space (opened c.before.before.before.before) _ c.in-Counted.is))
 
-put-entries-requires : tie.Need-put-entries-requires
-put-entries-requires c κs =
-    let p = c.before.before.before in
-    let k = p.before.before.before in
-    let b = k.before.before.before.before in
-    let e = b.before.before in
-    let o = opened-entries (opened b) _ k.begun2.given.1 _ p.put-primary.ensures in
-    ((at_count e).requires.0, (fits e.before, (o.0, (e.count-added.ensures, o.1))))
+put_entries-requires : tie.Need-put_entries-requires
+put_entries-requires c κs =
+    let o = opened-entries (opened c.before.before.before.before.before.before.before.before) _ c.in-Counted.is _ c.put_primary.ensures in
+    ((at_count c.before.before.before.before.before.before.before.before.before.before).requires.0, (fits c.before.before.before.before.before.before.before.before.before.before.before, (o.0, (c.count_added-k.ensures, o.1))))
 
 finish-requires : tie.Need-finish-requires
 finish-requires c κs =
-    let q = c.before.before.before in
-    let p = q.before.before.before.before in
-    let k = p.before.before.before in
-    opened-finish (opened k.before.before.before.before) _ k.begun2.given.1 _ p.put-primary.ensures _
-    q.put_entries.ensures
+    opened-finish (opened c.before.before.before.before.before.before.before.before.before.before.before.before) _ c.in-Counted.is _ c.put_primary.ensures _
+    c.put_entries.ensures
 
-summary-of-requires : tie.Need-summary-of-requires
-summary-of-requires c κs =
-    let f = c.before.before.before in
-    let q = f.before.before.before.before in
-    let p = q.before.before.before.before in
-    let k = p.before.before.before in
-    opened_map (opened k.before.before.before.before) _ k.begun2.given.1 _ p.put-primary.ensures _
-    q.put_entries.ensures
-    _ f.finish.ensures
+summary_of-requires : tie.Need-summary_of-requires
+summary_of-requires c κs =
+    opened_map (opened c.before.before.before.before.before.before.before.before.before.before.before.before.before.before.before) _ c.in-Counted.is _ c.put_primary.ensures _
+    c.put_entries.ensures
+    _ c.finish.ensures
 
-same_length : tie.Need-same-length
-same_length c = search rules
+shape_of-out-in-Refused : tie.Need-shape_of-out-in-Refused
+shape_of-out-in-Refused c = search rules
 
-returns-2 : tie.Need-returns-2
-returns-2 c =
-    let k = c.before in
-    opened-refused (opened k.before.before.before.before) _ k.begun.given.1
+returns-in-Refused : tie.Need-returns-in-Refused
+returns-in-Refused c =
+    opened-refused (opened c.before.before.before) _ c.in-Refused.is
 
-same-length-2 : tie.Need-same-length-2
-same-length-2 c = search rules
+shape_of-out-in-Counted : tie.Need-shape_of-out-in-Counted
+shape_of-out-in-Counted c = search rules
 
-returns-3 : tie.Need-returns-3
-returns-3 c =
-    let f = c.before.before.before.before in
-    let q = f.before.before.before.before in
-    let p = q.before.before.before.before in
-    let k = p.before.before.before in
-    opened-done (opened k.before.before.before.before) _ k.begun2.given.1 _ p.put-primary.ensures _
-    q.put_entries.ensures
-    _ f.finish.ensures _ c.summary-of.ensures
+returns-in-Counted : tie.Need-returns-in-Counted
+returns-in-Counted c =
+    opened-done (opened c.before.before.before.before.before.before.before.before.before.before.before.before.before.before.before.before) _ c.in-Counted.is _ c.put_primary.ensures _
+    c.put_entries.ensures
+    _ c.finish.ensures _ c.summary_of.ensures
 
-pub added-into-spec : {M : Type 1} → statement M
-added-into-spec =
+pub added_into_spec : {M : Type 1} → statement M
+added_into_spec =
     tie.close
     (tie.spec
-    first-too-large-requires
-    refuse-file-requires
-    returns
-    count-added-requires
-    begin-requires
-    enum-known-begun
-    enum-known-begun-2
-    put-primary-requires
-    put-entries-requires
+    first_too_large-large-requires
+    refuse_file-requires
+    returns-then-large-n
+    count_added-k-requires
+    begin-begun-requires
+    enum_known-begun
+    enum_known-begun-in-Counted-1
+    put_primary-requires
+    put_entries-requires
     finish-requires
-    summary-of-requires
-    same_length
-    returns-2
-    same-length-2
-    returns-3)
+    summary_of-requires
+    shape_of-out-in-Refused
+    returns-in-Refused
+    shape_of-out-in-Counted
+    returns-in-Counted)

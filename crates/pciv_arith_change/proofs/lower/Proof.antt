@@ -14,79 +14,77 @@ use borrow.Author.Rules.{rules}
 use Rattle.pciv_arith_change.proofs.lower.Statement.{statement}
 use Rattle.pciv_arith_change.proofs.lower.Tie as tie
 
-abbrev invariant-loop : tie.invariant-loop
-invariant-loop out₀ raised at count i₀ out i =
+abbrev invariant-loop-i : tie.invariant-loop-i
+invariant-loop-i out₀ raised at count i₀ out i =
     (i ≤ count)
     × (length out ≡ length out₀)
     × (sets out₀ at (table (lowered_at raised) 0 count) ≡ sets out (at + i) (table (lowered_at raised) i (count - i)))
 
-abbrev decreases-loop : tie.decreases-loop
-decreases-loop out₀ raised at count i₀ out i = count - i
+abbrev decreases-loop-i : tie.decreases-loop-i
+decreases-loop-i out₀ raised at count i₀ out i = count - i
 
-loop-holds : tie.Need-loop-init invariant-loop decreases-loop
-loop-holds c =
-    let a = c.before.args in
+loop-i-init : tie.Need-loop-i-init invariant-loop-i decreases-loop-i
+loop-i-init c =
+    let a = c.args in
     (omega arith, refl, sets-table-start (lowered_at a.raised.now) a.at a.count a.out.now)
 
-mul-lowered : tie.Need-overflow-mul-lowered invariant-loop decreases-loop
-mul-lowered c = search rules
+offset_bounds-raised-i : tie.Need-offset_bounds-raised-i invariant-loop-i decreases-loop-i
+offset_bounds-raised-i c = search rules
 
-shared-slice-read-lowered : tie.Need-shared-slice-read-lowered invariant-loop decreases-loop
-shared-slice-read-lowered c = search rules
+bounds-raised-i : tie.Need-bounds-raised-i invariant-loop-i decreases-loop-i
+bounds-raised-i c = search rules
 
-lowered-requires : tie.Need-lowered-requires invariant-loop decreases-loop
+lowered-requires : tie.Need-lowered-requires invariant-loop-i decreases-loop-i
 lowered-requires c κs = search rules
 
-add-t11 : tie.Need-overflow-add-t11 invariant-loop decreases-loop
-add-t11 c = search rules
+overflow_add-at : tie.Need-overflow_add-at invariant-loop-i decreases-loop-i
+overflow_add-at c = search rules
 
-mul-t12 : tie.Need-overflow-mul-t12 invariant-loop decreases-loop
-mul-t12 c = search rules
+offset_bounds-out-at : tie.Need-offset_bounds-out-at invariant-loop-i decreases-loop-i
+offset_bounds-out-at c = search rules
 
-slice-set-from-out : tie.Need-slice-set-from-out invariant-loop decreases-loop
-slice-set-from-out c = search rules
+bounds-out-at : tie.Need-bounds-out-at invariant-loop-i decreases-loop-i
+bounds-out-at c = search rules
 
-add-i : tie.Need-overflow-add-i invariant-loop decreases-loop
-add-i c = search rules
+overflow_add-i : tie.Need-overflow_add-i invariant-loop-i decreases-loop-i
+overflow_add-i c = search rules
 
-loop-less : tie.Need-loop-smaller invariant-loop decreases-loop
-loop-less c = search rules
+loop-i-smaller : tie.Need-loop-i-smaller invariant-loop-i decreases-loop-i
+loop-i-smaller c = search rules
 
-loop-again : tie.Need-loop-preserved invariant-loop decreases-loop
-loop-again c =
-    let d = c.before.before.before in
-    let a = d.before.before.args in
-    let l = d.loop in
+loop-i-preserved : tie.Need-loop-i-preserved invariant-loop-i decreases-loop-i
+loop-i-preserved c =
+    let a = c.args in
+    let l = c.loop-i in
     let f = lowered_at a.raised.now in
-    let stored = to_z-of_z {w = w64} {z = c.lowered.result} (record { sfits = c.lowered.type-inv }) in
+    let stored = to_z-of_z {w = w64} {z = c.lowered.result} (record { sfits = c.lowered.type_inv }) in
     let more = sets-table-more f a.at a.count l.i l.out (omega arith) in
     (omega arith, simp length-set l.invariant.1, l.invariant.2 ∙ rw (stored, c.lowered.ensures) more)
 
-same_length : tie.Need-same-length invariant-loop decreases-loop
-same_length c = search rules
+shape_of-out : tie.Need-shape_of-out invariant-loop-i decreases-loop-i
+shape_of-out c = search rules
 
-returns : tie.Need-returns invariant-loop decreases-loop
+returns : tie.Need-returns invariant-loop-i decreases-loop-i
 returns c =
-    let d = c.before in
-    let a = d.before.before.args in
-    let l = d.loop in
+    let a = c.args in
+    let l = c.loop-i in
     sym (l.invariant.2 ∙ sets-table-end (lowered_at a.raised.now) a.at a.count l.i l.out (omega arith))
 
 pub lower_spec : {M : Type 1} → statement M
 lower_spec =
     tie.close
     (tie.spec
-    invariant-loop
-    decreases-loop
-    loop-holds
-    mul-lowered
-    shared-slice-read-lowered
+    invariant-loop-i
+    decreases-loop-i
+    loop-i-init
+    offset_bounds-raised-i
+    bounds-raised-i
     lowered-requires
-    add-t11
-    mul-t12
-    slice-set-from-out
-    add-i
-    loop-less
-    loop-again
-    same_length
+    overflow_add-at
+    offset_bounds-out-at
+    bounds-out-at
+    overflow_add-i
+    loop-i-smaller
+    loop-i-preserved
+    shape_of-out
     returns)

@@ -12,14 +12,14 @@ use Rattle.pciv_arith_change.proofs.lowered.Tie as tie
 fits : (c : tie.Start) → SFits w64 (pos c.args.raised -ℤ pos 255)
 fits c = record { sfits = omega (arith, mag-sub (pos c.args.raised) 255) }
 
-cast-result : tie.Need-overflow-cast-result
-cast-result c = search rules
+overflow_cast-result : tie.Need-overflow_cast-result
+overflow_cast-result c = search rules
 
-sub-result : tie.Need-overflow-sub-result
-sub-result c = rw (to_z_pos w64 {n = c.args.raised} (omega arith)) (fits c)
+overflow_sub-result : tie.Need-overflow_sub-result
+overflow_sub-result c = rw (to_z_pos w64 {n = c.args.raised} (omega arith)) (fits c)
 
 returns : tie.Need-returns
 returns c = rw (to_z_pos w64 {n = c.args.raised} (omega arith)) (to_z-of_z (fits c))
 
-pub lowered-spec : {M : Type 1} → statement M
-lowered-spec = tie.close (tie.spec cast-result sub-result returns)
+pub lowered_spec : {M : Type 1} → statement M
+lowered_spec = tie.close (tie.spec overflow_cast-result overflow_sub-result returns)

@@ -23,47 +23,43 @@ sub-fits s = record { sfits = omega (arith, s.requires, mag-sub s.args.z s.args.
 add-fits : (s : tie.Start) → SFits w64 (s.args.z +ℤ pos s.args.excess)
 add-fits s = record { sfits = omega (arith, s.requires, mag_sum s.args.z (pos s.args.excess)) }
 
-enum_told : tie.Need-enum-told
-enum_told c = search rules
+enum_told-1 : tie.Need-enum_told-1
+enum_told-1 c = search rules
 
-cast-result : tie.Need-overflow-cast-result
-cast-result c = search rules
+overflow_cast-result : tie.Need-overflow_cast-result
+overflow_cast-result c = search rules
 
-sub-result : tie.Need-overflow-sub-result
-sub-result c =
-    let s = c.before.before in
-    rw (read-z s, read-excess s) (sub-fits s)
+overflow_sub-result : tie.Need-overflow_sub-result
+overflow_sub-result c =
+    rw (read-z c.before, read-excess c.before) (sub-fits c.before)
 
-enum-told-2 : tie.Need-enum-told-2
-enum-told-2 c = search rules
+enum_told-in-Reduced : tie.Need-enum_told-in-Reduced
+enum_told-in-Reduced c = search rules
 
-cast-result-2 : tie.Need-overflow-cast-result-2
-cast-result-2 c = search rules
+overflow_cast-result-in-Reduced : tie.Need-overflow_cast-result-in-Reduced
+overflow_cast-result-in-Reduced c = search rules
 
-add-result : tie.Need-overflow-add-result
-add-result c =
-    let s = c.before.before in
-    rw (read-z s, read-excess s) (add-fits s)
+overflow_add-result : tie.Need-overflow_add-result
+overflow_add-result c =
+    rw (read-z c.before, read-excess c.before) (add-fits c.before)
 
-returns : tie.Need-returns
-returns c =
-    let s = c.before.before in
-    rw (c.enum_told.given.1, read-z s, read-excess s) (to_z-of_z (sub-fits s))
+returns-in-Subtracted : tie.Need-returns-in-Subtracted
+returns-in-Subtracted c =
+    rw (c.in-Subtracted.is, read-z c.before, read-excess c.before) (to_z-of_z (sub-fits c.before))
 
-returns-2 : tie.Need-returns-2
-returns-2 c =
-    let s = c.before.before in
-    rw (c.enum-told2.given.1, read-z s, read-excess s) (to_z-of_z (add-fits s))
+returns-in-Reduced : tie.Need-returns-in-Reduced
+returns-in-Reduced c =
+    rw (c.in-Reduced.is, read-z c.before, read-excess c.before) (to_z-of_z (add-fits c.before))
 
-pub moved-spec : {M : Type 1} → statement M
-moved-spec =
+pub moved_spec : {M : Type 1} → statement M
+moved_spec =
     tie.close
     (tie.spec
-    enum_told
-    cast-result
-    sub-result
-    enum-told-2
-    cast-result-2
-    add-result
-    returns
-    returns-2)
+    enum_told-1
+    overflow_cast-result
+    overflow_sub-result
+    enum_told-in-Reduced
+    overflow_cast-result-in-Reduced
+    overflow_add-result
+    returns-in-Subtracted
+    returns-in-Reduced)

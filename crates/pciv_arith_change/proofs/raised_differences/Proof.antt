@@ -15,84 +15,82 @@ use borrow.Author.Rules.{rules}
 use Rattle.pciv_arith_change.proofs.raised_differences.Statement.{statement}
 use Rattle.pciv_arith_change.proofs.raised_differences.Tie as tie
 
-abbrev invariant-loop : tie.invariant-loop
-invariant-loop out₀ a b from count i₀ out i =
+abbrev invariant-loop-i : tie.invariant-loop-i
+invariant-loop-i out₀ a b from count i₀ out i =
     (i ≤ count)
     × (length out ≡ length out₀)
     × (sets out₀ 0 (table (raised_at (byte_at a) (byte_at b) from) 0 count)
     ≡ sets out i (table (raised_at (byte_at a) (byte_at b) from) i (count - i)))
 
-abbrev decreases-loop : tie.decreases-loop
-decreases-loop out₀ a b from count i₀ out i = count - i
+abbrev decreases-loop-i : tie.decreases-loop-i
+decreases-loop-i out₀ a b from count i₀ out i = count - i
 
-loop-holds : tie.Need-loop-init invariant-loop decreases-loop
-loop-holds c = (omega arith, refl, rw sub-zero)
+loop-i-init : tie.Need-loop-i-init invariant-loop-i decreases-loop-i
+loop-i-init c = (omega arith, refl, rw sub-zero)
 
-add-raised-difference : tie.Need-overflow-add-raised-difference invariant-loop decreases-loop
-add-raised-difference c = search rules
+overflow_add-from : tie.Need-overflow_add-from invariant-loop-i decreases-loop-i
+overflow_add-from c = search rules
 
-shared-slice-read-raised-difference : tie.Need-shared-slice-read-raised-difference invariant-loop decreases-loop
-shared-slice-read-raised-difference c = search rules
+bounds-a-from : tie.Need-bounds-a-from invariant-loop-i decreases-loop-i
+bounds-a-from c = search rules
 
-add-raised-difference-2 : tie.Need-overflow-add-raised-difference-2 invariant-loop decreases-loop
-add-raised-difference-2 c = search rules
+overflow_add-from-in-loop-i : tie.Need-overflow_add-from-in-loop-i invariant-loop-i decreases-loop-i
+overflow_add-from-in-loop-i c = search rules
 
-shared-slice-read-raised-difference-2 :
-    tie.Need-shared-slice-read-raised-difference-2 invariant-loop decreases-loop
-shared-slice-read-raised-difference-2 c = search rules
+bounds-b-from :
+    tie.Need-bounds-b-from invariant-loop-i decreases-loop-i
+bounds-b-from c = search rules
 
-raised-difference-requires : tie.Need-raised-difference-requires invariant-loop decreases-loop
-raised-difference-requires c κs = search rules
+raised_difference-requires : tie.Need-raised_difference-requires invariant-loop-i decreases-loop-i
+raised_difference-requires c κs = search rules
 
-mul-out : tie.Need-overflow-mul-out invariant-loop decreases-loop
-mul-out c = search rules
+offset_bounds-out-i : tie.Need-offset_bounds-out-i invariant-loop-i decreases-loop-i
+offset_bounds-out-i c = search rules
 
-slice-write-out : tie.Need-slice-write-out invariant-loop decreases-loop
-slice-write-out c = search rules
+bounds-out-i : tie.Need-bounds-out-i invariant-loop-i decreases-loop-i
+bounds-out-i c = search rules
 
-add-i : tie.Need-overflow-add-i invariant-loop decreases-loop
-add-i c = search rules
+overflow_add-i : tie.Need-overflow_add-i invariant-loop-i decreases-loop-i
+overflow_add-i c = search rules
 
-loop-less : tie.Need-loop-smaller invariant-loop decreases-loop
-loop-less c = search rules
+loop-i-smaller : tie.Need-loop-i-smaller invariant-loop-i decreases-loop-i
+loop-i-smaller c = search rules
 
-loop-again : tie.Need-loop-preserved invariant-loop decreases-loop
-loop-again c =
-    let d = c.before.before.before.before in
-    let a = d.before.before.before.before.args in
-    let l = d.loop in
+loop-i-preserved : tie.Need-loop-i-preserved invariant-loop-i decreases-loop-i
+loop-i-preserved c =
+    let a = c.args in
+    let l = c.loop-i in
     let f = raised_at (byte_at a.a.now) (byte_at a.b.now) a.from in
     let more = sets-cons l.out _ (f l.i) _ l.i (l.i + 1) (table-rest f a.count l.i (omega arith))
     refl in
-    (omega arith, simp length-set l.invariant.1, l.invariant.2 ∙ rw c.raised-difference.ensures more)
+    (omega arith, simp length-set l.invariant.1, l.invariant.2 ∙ rw c.raised_difference.ensures more)
 
-same_length : tie.Need-same-length invariant-loop decreases-loop
-same_length c = search rules
+shape_of-out : tie.Need-shape_of-out invariant-loop-i decreases-loop-i
+shape_of-out c = search rules
 
-returns : tie.Need-returns invariant-loop decreases-loop
+returns : tie.Need-returns invariant-loop-i decreases-loop-i
 returns c =
-    let d = c.before in
-    let a = d.before.before.before.before.args in
+    let a = c.args in
     let f = raised_at (byte_at a.a.now) (byte_at a.b.now) a.from in
-    let l = d.loop in
+    let l = c.loop-i in
     sym (l.invariant.2 ∙ ap (sets l.out l.i) (table_done f a.count l.i (omega arith)))
 
-pub raised-differences-spec : {M : Type 1} → statement M
-raised-differences-spec =
+pub raised_differences_spec : {M : Type 1} → statement M
+raised_differences_spec =
     tie.close
     (tie.spec
-    invariant-loop
-    decreases-loop
-    loop-holds
-    add-raised-difference
-    shared-slice-read-raised-difference
-    add-raised-difference-2
-    shared-slice-read-raised-difference-2
-    raised-difference-requires
-    mul-out
-    slice-write-out
-    add-i
-    loop-less
-    loop-again
-    same_length
+    invariant-loop-i
+    decreases-loop-i
+    loop-i-init
+    overflow_add-from
+    bounds-a-from
+    overflow_add-from-in-loop-i
+    bounds-b-from
+    raised_difference-requires
+    offset_bounds-out-i
+    bounds-out-i
+    overflow_add-i
+    loop-i-smaller
+    loop-i-preserved
+    shape_of-out
     returns)

@@ -15,109 +15,98 @@ use borrow.Author.Rules.{rules}
 use Rattle.pciv_arith_lower.proofs.count_lowered.Statement.{statement}
 use Rattle.pciv_arith_lower.proofs.count_lowered.Tie as tie
 
-abbrev invariant-loop : tie.invariant-loop
-invariant-loop file n k m count₀ j₀ count j =
+abbrev invariant-loop-j : tie.invariant-loop-j
+invariant-loop-j file n k m count₀ j₀ count j =
     (j ≤ k)
     × Counted n (lowered_at (file_parts file n k) m) (lowest_slot (file_parts file n k) j) count
 
-abbrev decreases-loop : tie.decreases-loop
-decreases-loop file n k m count₀ j₀ count j = k - j
+abbrev decreases-loop-j : tie.decreases-loop-j
+decreases-loop-j file n k m count₀ j₀ count j = k - j
 
-abbrev parts : tie.Start invariant-loop decreases-loop → Parts
+abbrev parts : tie.Start invariant-loop-j decreases-loop-j → Parts
 parts s = file_parts s.args.file.now s.args.n s.args.k
 
-abbrev start : tie.At-loop invariant-loop decreases-loop → tie.Start invariant-loop decreases-loop
+abbrev start : tie.At-loop-j invariant-loop-j decreases-loop-j → tie.Start invariant-loop-j decreases-loop-j
 start l = l.before.before
 
 -- the result is in overflow only where the map is
-along : (l : tie.At-loop invariant-loop decreases-loop) → Along (parts (start l)) (lowered_at (parts (start l)) (start l).args.m)
+along : (l : tie.At-loop-j invariant-loop-j decreases-loop-j) → Along (parts (start l)) (lowered_at (parts (start l)) (start l).args.m)
 along l =
     let s = start l in
-    lowered-along (parts s) s.pre.parts (λ i. (l.before.shared-slice-known.given (40 + i)).fits) s.args.m
+    lowered-along (parts s) s.requires.parts (λ i. (l.shared_slice_known-1.given (40 + i)).fits) s.args.m
 
 -- its distance at entry j
-distance : (c : tie.After-lower invariant-loop decreases-loop)
-    → (let l = c.before.before.before in
-    let s = start l in
-    c.lower.result ≡ lowered_at (parts s) s.args.m ((parts s).slot l.loop.j))
+distance : (c : tie.After-lower-x invariant-loop-j decreases-loop-j)
+    → (let s = start c.before.before.before in
+    c.lower-x.result ≡ lowered_at (parts s) s.args.m ((parts s).slot c.loop-j.j))
 distance c =
-    let d = c.before.before in
-    let s = start d.before in
-    c.lower.ensures
-    ∙ ap (lowered s.args.m) c.before.entry-distance.ensures
-    ∙ sym (lowered-slot (parts s) s.pre.parts s.args.m d.before.loop.j d.loop-test.true)
+    let s = start c.before.before.before in
+    c.lower-x.ensures
+    ∙ ap (lowered s.args.m) c.entry_distance.ensures
+    ∙ sym (lowered-slot (parts s) s.requires.parts s.args.m c.loop-j.j c.loop-j-test.true)
 
-loop-holds : tie.Need-loop-init invariant-loop decreases-loop
-loop-holds c =
-    (omega arith, counted_start c.before.args.n (lowered_at (parts c.before) c.before.args.m))
+loop-j-init : tie.Need-loop-j-init invariant-loop-j decreases-loop-j
+loop-j-init c =
+    (omega arith, counted_start c.args.n (lowered_at (parts c.before) c.args.m))
 
-entry-distance-requires : tie.Need-entry-distance-requires invariant-loop decreases-loop
-entry-distance-requires c κs =
-    let s = c.before.before.before in
-    entry-inside s.args.file.now s.args.n s.args.k s.requires c.before.loop.j (omega arith)
+entry_distance-requires : tie.Need-entry_distance-requires invariant-loop-j decreases-loop-j
+entry_distance-requires c κs =
+    entry-inside c.args.file.now c.args.n c.args.k c.requires c.loop-j.j (omega arith)
 
-lower-requires : tie.Need-lower-requires invariant-loop decreases-loop
-lower-requires c κs =
-    let d = c.before in
-    let s = start d.before in
+lower-x-requires : tie.Need-lower-x-requires invariant-loop-j decreases-loop-j
+lower-x-requires c κs =
+    let s = start c.before.before in
     omega (
       arith,
-      c.entry-distance.ensures,
-      (entry-good (parts s) s.pre.parts d.before.loop.j d.loop-test.true).overflows,
+      c.entry_distance.ensures,
+      (entry-good (parts s) s.requires.parts c.loop-j.j c.loop-j-test.true).overflows,
     )
 
-add-j : tie.Need-overflow-add-j invariant-loop decreases-loop
-add-j c = search rules
+overflow_add-j : tie.Need-overflow_add-j invariant-loop-j decreases-loop-j
+overflow_add-j c = search rules
 
-add-count : tie.Need-overflow-add-count invariant-loop decreases-loop
-add-count c =
-    let d = c.before.before.before in
-    let s = d.before.before.before in
-    let l = d.before.loop in
-    omega (arith, l.invariant.1.below, l.invariant.1.inside, s.requires.header.small)
+overflow_add-count : tie.Need-overflow_add-count invariant-loop-j decreases-loop-j
+overflow_add-count c =
+    let l = c.loop-j in
+    omega (arith, l.invariant.1.below, l.invariant.1.inside, c.requires.header.small)
 
-loop-less : tie.Need-loop-smaller invariant-loop decreases-loop
-loop-less c = search rules
+loop-j-smaller-then-x-ge255 : tie.Need-loop-j-smaller-then-x-ge255 invariant-loop-j decreases-loop-j
+loop-j-smaller-then-x-ge255 c = search rules
 
-loop-again : tie.Need-loop-preserved invariant-loop decreases-loop
-loop-again c =
-    let d = c.before.before.before in
-    let l = d.before in (
-      omega arith,
-      counted-entry (along l) l.loop.j d.loop-test.true l.loop.invariant.1
-          (omega (arith, distance c.before, c.if1.true)),
-    )
+loop-j-preserved-then-x-ge255 : tie.Need-loop-j-preserved-then-x-ge255 invariant-loop-j decreases-loop-j
+loop-j-preserved-then-x-ge255 c = (
+  omega arith,
+  counted-entry (along c.before.before.before.before) c.loop-j.j c.loop-j-test.true c.loop-j.invariant.1
+      (omega (arith, distance c.before, c.if-x-ge255.true)),
+)
 
-loop-less-2 : tie.Need-loop-smaller-2 invariant-loop decreases-loop
-loop-less-2 c = search rules
+loop-j-smaller : tie.Need-loop-j-smaller invariant-loop-j decreases-loop-j
+loop-j-smaller c = search rules
 
-loop-again-2 : tie.Need-loop-preserved-2 invariant-loop decreases-loop
-loop-again-2 c =
-    let d = c.before.before.before in
-    let l = d.before in (
-      omega arith,
-      counted-pass (along l) l.loop.j d.loop-test.true l.loop.invariant.1
-          (omega (arith, distance c.before, c.if1.false)),
-    )
+loop-j-preserved : tie.Need-loop-j-preserved invariant-loop-j decreases-loop-j
+loop-j-preserved c = (
+  omega arith,
+  counted-pass (along c.before.before.before.before) c.loop-j.j c.loop-j-test.true c.loop-j.invariant.1
+      (omega (arith, distance c.before, c.if-x-ge255.false)),
+)
 
-returns : tie.Need-returns invariant-loop decreases-loop
+returns : tie.Need-returns invariant-loop-j decreases-loop-j
 returns c =
-    let l = c.before in
-    counted-last (along l) l.loop.j l.loop.invariant.0 c.loop-test.false l.loop.invariant.1
+    counted-last (along c.before) c.loop-j.j c.loop-j.invariant.0 c.loop-j-test.false c.loop-j.invariant.1
 
-pub count-lowered-spec : {M : Type 1} → statement M
-count-lowered-spec =
+pub count_lowered_spec : {M : Type 1} → statement M
+count_lowered_spec =
     tie.close
     (tie.spec
-    invariant-loop
-    decreases-loop
-    loop-holds
-    entry-distance-requires
-    lower-requires
-    add-j
-    add-count
-    loop-less
-    loop-again
-    loop-less-2
-    loop-again-2
+    invariant-loop-j
+    decreases-loop-j
+    loop-j-init
+    entry_distance-requires
+    lower-x-requires
+    overflow_add-j
+    overflow_add-count
+    loop-j-smaller-then-x-ge255
+    loop-j-preserved-then-x-ge255
+    loop-j-smaller
+    loop-j-preserved
     returns)

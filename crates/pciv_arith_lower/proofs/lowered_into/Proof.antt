@@ -18,7 +18,7 @@ use borrow.Author.Rules.{rules}
 use Rattle.pciv_arith_lower.proofs.lowered_into.Statement.{statement}
 use Rattle.pciv_arith_lower.proofs.lowered_into.Tie as tie
 
-abbrev entry : tie.After-count-lowered → tie.Start
+abbrev entry : tie.After-count_lowered-count → tie.Start
 entry c = c.before.before.before
 
 -- the distances of the result
@@ -28,111 +28,90 @@ v s = lowered_at (file_parts s.args.file.now s.args.n s.args.k) s.args.m
 abbrev into : tie.Start → Outcome Summary
 into s = map_into s.args.n (v s) (length s.args.out.now)
 
-fits : (c : tie.After-count-lowered) → Fits (entry c).args.n (v (entry c))
+fits : (c : tie.After-count_lowered-count) → Fits (entry c).args.n (v (entry c))
 fits c i h =
     let s = entry c in
-    let bytes : Bytes s.args.file.now = λ t. (c.before.before.shared-slice-known.given t).fits in
-    omega (arith, value-lt s.args.file.now s.args.n s.args.k s.pre bytes i h)
+    let bytes : Bytes s.args.file.now = λ t. (c.shared_slice_known-1.given t).fits in
+    omega (arith, value-lt s.args.file.now s.args.n s.args.k s.requires bytes i h)
 
-opened : (b : tie.After-begin)
-    → (let e = b.before.before in
-    let s = entry e in
-    Opened s.args.n e.count-lowered.result (v s) (into s) s.args.out.now b.begin.result
-    b.begin.new.0)
+opened : (b : tie.After-begin-begun)
+    → (let s = entry b.before.before in
+    Opened s.args.n b.count_lowered-count.result (v s) (into s) s.args.out.now b.begin-begun.result
+    b.begin-begun.new.out)
 opened b =
-    let e = b.before.before in
-    let s = entry e in
+    let s = entry b.before.before in
     record {
-      few = s.pre.header.small;
-      each = fits e;
-      count = e.count-lowered.ensures;
-      into = map-fits s.args.n (v s) (length s.args.out.now) (fits e);
-      answer = b.begin.ensures.0;
-      buffer = b.begin.ensures.1;
+      few = s.requires.header.small;
+      each = fits b.before.before;
+      count = b.count_lowered-count.ensures;
+      into = map-fits s.args.n (v s) (length s.args.out.now) (fits b.before.before);
+      answer = b.begin-begun.ensures.0;
+      buffer = b.begin-begun.ensures.1;
     }
 
-count-lowered-requires : tie.Need-count-lowered-requires
-count-lowered-requires c κs = search rules
+count_lowered-count-requires : tie.Need-count_lowered-count-requires
+count_lowered-count-requires c κs = search rules
 
-begin-requires : tie.Need-begin-requires
-begin-requires c κs =
-    let e = c.before in
-    let s = entry e in
-    begin-few s.args.n e.count-lowered.result (v s) s.pre.header.small e.count-lowered.ensures
+begin-begun-requires : tie.Need-begin-begun-requires
+begin-begun-requires c κs =
+    let s = entry c.before in
+    begin-few s.args.n c.count_lowered-count.result (v s) s.requires.header.small c.count_lowered-count.ensures
 
-enum-known-begun : tie.Need-enum-known-begun
-enum-known-begun c = search rules
+enum_known-begun : tie.Need-enum_known-begun
+enum_known-begun c = search rules
 
-enum-known-begun-2 : tie.Need-enum-known-begun-2
-enum-known-begun-2 c = search rules
+enum_known-begun-in-Counted-1 : tie.Need-enum_known-begun-in-Counted-1
+enum_known-begun-in-Counted-1 c = search rules
 
-put-primary-requires : tie.Need-put-primary-requires
-put-primary-requires c κs =
-    let k = c.before.before in
-    let b = k.before.before.before.before in
-    ((entry b.before.before).requires, omega (arith, opened-space (opened b) _ k.begun2.given.1))
+put_primary-requires : tie.Need-put_primary-requires
+put_primary-requires c κs =
+    ((entry c.before.before.before.before.before.before).requires, omega (arith, opened-space (opened c.before.before.before.before) _ c.in-Counted.is))
 
-put-entries-requires : tie.Need-put-entries-requires
-put-entries-requires c κs =
-    let p = c.before.before.before in
-    let k = p.before.before.before in
-    let b = k.before.before.before.before in
-    let e = b.before.before in
-    let o = opened-entries (opened b) _ k.begun2.given.1 _ p.put-primary.ensures in
-    ((entry e).requires, omega (arith, o.1, e.count-lowered.ensures))
+put_entries-requires : tie.Need-put_entries-requires
+put_entries-requires c κs =
+    let o = opened-entries (opened c.before.before.before.before.before.before.before.before) _ c.in-Counted.is _ c.put_primary.ensures in
+    ((entry c.before.before.before.before.before.before.before.before.before.before).requires, omega (arith, o.1, c.count_lowered-count.ensures))
 
 finish-requires : tie.Need-finish-requires
 finish-requires c κs =
-    let q = c.before.before.before in
-    let p = q.before.before.before.before in
-    let k = p.before.before.before in
-    opened-finish (opened k.before.before.before.before) _ k.begun2.given.1 _ p.put-primary.ensures _
-    q.put_entries.ensures
+    opened-finish (opened c.before.before.before.before.before.before.before.before.before.before.before.before) _ c.in-Counted.is _ c.put_primary.ensures _
+    c.put_entries.ensures
 
-summary-of-requires : tie.Need-summary-of-requires
-summary-of-requires c κs =
-    let f = c.before.before.before in
-    let q = f.before.before.before.before in
-    let p = q.before.before.before.before in
-    let k = p.before.before.before in
-    opened_map (opened k.before.before.before.before) _ k.begun2.given.1 _ p.put-primary.ensures _
-    q.put_entries.ensures
-    _ f.finish.ensures
+summary_of-requires : tie.Need-summary_of-requires
+summary_of-requires c κs =
+    opened_map (opened c.before.before.before.before.before.before.before.before.before.before.before.before.before.before.before) _ c.in-Counted.is _ c.put_primary.ensures _
+    c.put_entries.ensures
+    _ c.finish.ensures
 
-same_length : tie.Need-same-length
-same_length c = search rules
+shape_of-out-in-Refused : tie.Need-shape_of-out-in-Refused
+shape_of-out-in-Refused c = search rules
 
-returns : tie.Need-returns
-returns c =
-    let k = c.before in
-    opened-refused (opened k.before.before.before.before) _ k.begun.given.1
+returns-in-Refused : tie.Need-returns-in-Refused
+returns-in-Refused c =
+    opened-refused (opened c.before.before.before) _ c.in-Refused.is
 
-same-length-2 : tie.Need-same-length-2
-same-length-2 c = search rules
+shape_of-out-in-Counted : tie.Need-shape_of-out-in-Counted
+shape_of-out-in-Counted c = search rules
 
-returns-2 : tie.Need-returns-2
-returns-2 c =
-    let f = c.before.before.before.before in
-    let q = f.before.before.before.before in
-    let p = q.before.before.before.before in
-    let k = p.before.before.before in
-    opened-done (opened k.before.before.before.before) _ k.begun2.given.1 _ p.put-primary.ensures _
-    q.put_entries.ensures
-    _ f.finish.ensures _ c.summary-of.ensures
+returns-in-Counted : tie.Need-returns-in-Counted
+returns-in-Counted c =
+    opened-done (opened c.before.before.before.before.before.before.before.before.before.before.before.before.before.before.before.before) _ c.in-Counted.is _ c.put_primary.ensures _
+    c.put_entries.ensures
+    _ c.finish.ensures _ c.summary_of.ensures
 
-pub lowered-into-spec : {M : Type 1} → statement M
-lowered-into-spec =
+pub lowered_into_spec : {M : Type 1} → statement M
+lowered_into_spec =
     tie.close
     (tie.spec
-    count-lowered-requires
-    begin-requires
-    enum-known-begun
-    enum-known-begun-2
-    put-primary-requires
-    put-entries-requires
+    count_lowered-count-requires
+    begin-begun-requires
+    enum_known-begun
+    enum_known-begun-in-Counted-1
+    put_primary-requires
+    put_entries-requires
     finish-requires
-    summary-of-requires
-    same_length
-    returns
-    same-length-2
-    returns-2)
+    summary_of-requires
+    shape_of-out-in-Refused
+    returns-in-Refused
+    shape_of-out-in-Counted
+    returns-in-Counted)

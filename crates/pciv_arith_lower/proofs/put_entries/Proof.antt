@@ -15,130 +15,115 @@ use borrow.Author.Rules.{rules}
 use Rattle.pciv_arith_lower.proofs.put_entries.Statement.{statement}
 use Rattle.pciv_arith_lower.proofs.put_entries.Tie as tie
 
-abbrev invariant-loop : tie.invariant-loop
-invariant-loop out₀ file n k m at₀ j₀ out at j =
+abbrev invariant-loop-j : tie.invariant-loop-j
+invariant-loop-j out₀ file n k m at₀ j₀ out at j =
     (j ≤ k)
     × EntriesLeft n (lowered_at (file_parts file n k) m) out₀ (40 + n) (lowest_slot (file_parts file n k) j) out at
 
-abbrev decreases-loop : tie.decreases-loop
-decreases-loop out₀ file n k m at₀ j₀ out at j = k - j
+abbrev decreases-loop-j : tie.decreases-loop-j
+decreases-loop-j out₀ file n k m at₀ j₀ out at j = k - j
 
-abbrev parts : tie.Start invariant-loop decreases-loop → Parts
+abbrev parts : tie.Start invariant-loop-j decreases-loop-j → Parts
 parts s = file_parts s.args.file.now s.args.n s.args.k
 
-abbrev start : tie.At-loop invariant-loop decreases-loop → tie.Start invariant-loop decreases-loop
+abbrev start : tie.At-loop-j invariant-loop-j decreases-loop-j → tie.Start invariant-loop-j decreases-loop-j
 start l = l.before.before.before
 
 -- the result is in overflow only where the map is
-along : (l : tie.At-loop invariant-loop decreases-loop) → Along (parts (start l)) (lowered_at (parts (start l)) (start l).args.m)
+along : (l : tie.At-loop-j invariant-loop-j decreases-loop-j) → Along (parts (start l)) (lowered_at (parts (start l)) (start l).args.m)
 along l =
     let s = start l in
-    lowered-along (parts s) s.pre.0.parts (λ i. (l.before.shared-slice-known.given (40 + i)).fits) s.args.m
+    lowered-along (parts s) s.requires.0.parts (λ i. (l.shared_slice_known-1.given (40 + i)).fits) s.args.m
 
 -- its distance at entry j
-distance : (c : tie.After-lower invariant-loop decreases-loop)
-    → (let l = c.before.before.before.before in
-    let s = start l in
-    c.lower.result ≡ lowered_at (parts s) s.args.m ((parts s).slot l.loop.j))
+distance : (c : tie.After-lower-x invariant-loop-j decreases-loop-j)
+    → (let s = start c.before.before.before.before in
+    c.lower-x.result ≡ lowered_at (parts s) s.args.m ((parts s).slot c.loop-j.j))
 distance c =
-    let d = c.before.before.before in
-    let s = start d.before in
-    c.lower.ensures
-    ∙ ap (lowered s.args.m) c.before.entry-distance.ensures
-    ∙ sym (lowered-slot (parts s) s.pre.0.parts s.args.m d.before.loop.j d.loop-test.true)
+    let s = start c.before.before.before.before in
+    c.lower-x.ensures
+    ∙ ap (lowered s.args.m) c.entry_distance.ensures
+    ∙ sym (lowered-slot (parts s) s.requires.0.parts s.args.m c.loop-j.j c.loop-j-test.true)
 
-add_at : tie.Need-overflow-add-at invariant-loop decreases-loop
-add_at c = search rules
+overflow_add-at : tie.Need-overflow_add-at invariant-loop-j decreases-loop-j
+overflow_add-at c = search rules
 
-loop-holds : tie.Need-loop-init invariant-loop decreases-loop
-loop-holds c =
-    let s = c.before.before in (
-      omega arith,
-      entries-start s.args.n (lowered_at (parts s) s.args.m) s.args.out.now
-          (40 + s.args.n) s.requires.1,
-    )
+loop-j-init : tie.Need-loop-j-init invariant-loop-j decreases-loop-j
+loop-j-init c = (
+  omega arith,
+  entries-start c.args.n (lowered_at (parts c.before.before) c.args.m) c.args.out.now
+      (40 + c.args.n) c.requires.1,
+)
 
-entry-slot-requires : tie.Need-entry-slot-requires invariant-loop decreases-loop
-entry-slot-requires c κs =
+entry_slot-slot-requires : tie.Need-entry_slot-slot-requires invariant-loop-j decreases-loop-j
+entry_slot-slot-requires c κs =
     let s = start c.before in
-    entry-inside s.args.file.now s.args.n s.args.k s.pre.0 c.before.loop.j (omega arith)
+    entry-inside s.args.file.now s.args.n s.args.k s.requires.0 c.loop-j.j (omega arith)
 
-entry-distance-requires : tie.Need-entry-distance-requires invariant-loop decreases-loop
-entry-distance-requires c κs = entry-slot-requires c.before κs
+entry_distance-requires : tie.Need-entry_distance-requires invariant-loop-j decreases-loop-j
+entry_distance-requires c κs = entry_slot-slot-requires c.before κs
 
-lower-requires : tie.Need-lower-requires invariant-loop decreases-loop
-lower-requires c κs =
-    let d = c.before.before in
-    let s = start d.before in
+lower-x-requires : tie.Need-lower-x-requires invariant-loop-j decreases-loop-j
+lower-x-requires c κs =
+    let s = start c.before.before.before in
     omega (
       arith,
-      c.entry-distance.ensures,
-      (entry-good (parts s) s.pre.0.parts d.before.loop.j d.loop-test.true).overflows,
+      c.entry_distance.ensures,
+      (entry-good (parts s) s.requires.0.parts c.loop-j.j c.loop-j-test.true).overflows,
     )
 
-add-j : tie.Need-overflow-add-j invariant-loop decreases-loop
-add-j c = search rules
+overflow_add-j : tie.Need-overflow_add-j invariant-loop-j decreases-loop-j
+overflow_add-j c = search rules
 
-put-entry-requires : tie.Need-put-entry-requires invariant-loop decreases-loop
-put-entry-requires c κs =
-    let t = c.before in
-    let d = t.before.before.before.before in
-    let l = d.before in
-    entries_fit (along l) l.loop.j d.loop-test.true l.loop.invariant.1
-    (omega (arith, distance t.before, t.if1.true))
+put_entry-at-requires : tie.Need-put_entry-at-requires invariant-loop-j decreases-loop-j
+put_entry-at-requires c κs =
+    entries_fit (along c.before.before.before.before.before.before) c.loop-j.j c.loop-j-test.true c.loop-j.invariant.1
+    (omega (arith, distance c.before.before, c.if-x-ge255.true))
 
-loop-less : tie.Need-loop-smaller invariant-loop decreases-loop
-loop-less c = search rules
+loop-j-smaller-then-x-ge255 : tie.Need-loop-j-smaller-then-x-ge255 invariant-loop-j decreases-loop-j
+loop-j-smaller-then-x-ge255 c = search rules
 
-loop-again : tie.Need-loop-preserved invariant-loop decreases-loop
-loop-again c =
-    let e = c.before.before in
-    let t = e.before.before in
-    let w = t.before.before.before in
-    let d = w.before in
-    let l = d.before in
-    let is = distance t.before in (
+loop-j-preserved-then-x-ge255 : tie.Need-loop-j-preserved-then-x-ge255 invariant-loop-j decreases-loop-j
+loop-j-preserved-then-x-ge255 c =
+    let is = distance c.before.before.before.before.before in (
       omega arith,
-      entries-entry (along l) l.loop.j d.loop-test.true l.loop.invariant.1 (omega (arith, is, t.if1.true))
-          _ _ _ _ w.entry-slot.ensures is e.put-entry.ensures.1 e.put-entry.ensures.0,
+      entries-entry (along c.before.before.before.before.before.before.before.before.before) c.loop-j.j c.loop-j-test.true c.loop-j.invariant.1 (omega (arith, is, c.if-x-ge255.true))
+          _ _ _ _ c.entry_slot-slot.ensures is c.put_entry-at.ensures.1 c.put_entry-at.ensures.0,
     )
 
-loop-less-2 : tie.Need-loop-smaller-2 invariant-loop decreases-loop
-loop-less-2 c = search rules
+loop-j-smaller : tie.Need-loop-j-smaller invariant-loop-j decreases-loop-j
+loop-j-smaller c = search rules
 
-loop-again-2 : tie.Need-loop-preserved-2 invariant-loop decreases-loop
-loop-again-2 c =
-    let d = c.before.before.before.before in
-    let l = d.before in (
-      omega arith,
-      entries-pass (along l) l.loop.j d.loop-test.true l.loop.invariant.1
-          (omega (arith, distance c.before, c.if1.false)),
-    )
+loop-j-preserved : tie.Need-loop-j-preserved invariant-loop-j decreases-loop-j
+loop-j-preserved c = (
+  omega arith,
+  entries-pass (along c.before.before.before.before.before) c.loop-j.j c.loop-j-test.true c.loop-j.invariant.1
+      (omega (arith, distance c.before, c.if-x-ge255.false)),
+)
 
-same_length : tie.Need-same-length invariant-loop decreases-loop
-same_length c = search rules
+shape_of-out : tie.Need-shape_of-out invariant-loop-j decreases-loop-j
+shape_of-out c = search rules
 
-returns : tie.Need-returns invariant-loop decreases-loop
+returns : tie.Need-returns invariant-loop-j decreases-loop-j
 returns c =
-    let l = c.before in
-    entries-last (along l) l.loop.j l.loop.invariant.0 c.loop-test.false l.loop.invariant.1
+    entries-last (along c.before) c.loop-j.j c.loop-j.invariant.0 c.loop-j-test.false c.loop-j.invariant.1
 
-pub put-entries-spec : {M : Type 1} → statement M
-put-entries-spec =
+pub put_entries_spec : {M : Type 1} → statement M
+put_entries_spec =
     tie.close
     (tie.spec
-    invariant-loop
-    decreases-loop
-    add_at
-    loop-holds
-    entry-slot-requires
-    entry-distance-requires
-    lower-requires
-    add-j
-    put-entry-requires
-    loop-less
-    loop-again
-    loop-less-2
-    loop-again-2
-    same_length
+    invariant-loop-j
+    decreases-loop-j
+    overflow_add-at
+    loop-j-init
+    entry_slot-slot-requires
+    entry_distance-requires
+    lower-x-requires
+    overflow_add-j
+    put_entry-at-requires
+    loop-j-smaller-then-x-ge255
+    loop-j-preserved-then-x-ge255
+    loop-j-smaller
+    loop-j-preserved
+    shape_of-out
     returns)

@@ -19,178 +19,170 @@ use borrow.Author.Rules.{rules}
 use Rattle.pciv_arith_lower.proofs.put_primary.Statement.{statement}
 use Rattle.pciv_arith_lower.proofs.put_primary.Tie as tie
 
-abbrev invariant-loop : tie.invariant-loop
-invariant-loop out₀ file n k m end j₀ out j =
+abbrev invariant-loop-j : tie.invariant-loop-j
+invariant-loop-j out₀ file n k m end j₀ out j =
     (j ≤ k) × (length out ≡ length out₀) × (out ≡ sets out₀ 40 (patched (low_byte m) (file_parts file n k) j))
 
-abbrev decreases-loop : tie.decreases-loop
-decreases-loop out₀ file n k m end j₀ out j = k - j
+abbrev decreases-loop-j : tie.decreases-loop-j
+decreases-loop-j out₀ file n k m end j₀ out j = k - j
 
-abbrev parts : tie.Start invariant-loop decreases-loop → Parts
+abbrev parts : tie.Start invariant-loop-j decreases-loop-j → Parts
 parts s = file_parts s.args.file.now s.args.n s.args.k
 
-abbrev entry : tie.After-map-into-arg invariant-loop decreases-loop → tie.Start invariant-loop decreases-loop
+abbrev entry : tie.After-map_into-arg-1 invariant-loop-j decreases-loop-j → tie.Start invariant-loop-j decreases-loop-j
 entry c = c.before.before.before
 
 -- once the primary bytes are lowered: that the file is bytes, and what stands in out
-bytes : (c : tie.After-map-into invariant-loop decreases-loop) → Bytes (entry c.before.before.before).args.file.now
-bytes c i = (c.before.before.before.before.shared-slice-known.given i).fits
+bytes : (c : tie.After-map_into invariant-loop-j decreases-loop-j) → Bytes (entry c.before.before.before).args.file.now
+bytes c i = (c.shared_slice_known-1.given i).fits
 
-lowered : (c : tie.After-map-into invariant-loop decreases-loop)
+lowered : (c : tie.After-map_into invariant-loop-j decreases-loop-j)
     → (let s = entry c.before.before.before in
-    c.map-into.new.1.1.1.0 ≡ sets s.args.out.now 40 (patched (low_byte s.args.m) (parts s) 0))
+    c.map_into.new.out ≡ sets s.args.out.now 40 (patched (low_byte s.args.m) (parts s) 0))
 lowered c =
     let s = entry c.before.before.before in
     let a = s.args in
-    (rw (add-sub_cancel_left 40 a.n, c.before.before.primary-byte.ensures) at c.map-into.ensures)
-    ∙ ap (sets a.out.now 40) (lowered-bytes-start a.file.now a.n a.k a.m s.pre.0 (bytes c))
+    (rw (add-sub_cancel_left 40 a.n, c.primary_byte.ensures) at c.map_into.ensures)
+    ∙ ap (sets a.out.now 40) (lowered-bytes-start a.file.now a.n a.k a.m s.requires.0 (bytes c))
 
-abbrev start : tie.In-loop invariant-loop decreases-loop → tie.Start invariant-loop decreases-loop
+abbrev start : tie.In-loop-j invariant-loop-j decreases-loop-j → tie.Start invariant-loop-j decreases-loop-j
 start c = entry c.before.before.before.before.before.before.before
 
-good : (c : tie.In-loop invariant-loop decreases-loop) → GoodEntry (parts (start c)) c.before.loop.j
-good c = entry-good (parts (start c)) (start c).requires.0.parts c.before.loop.j c.loop-test.true
+good : (c : tie.In-loop-j invariant-loop-j decreases-loop-j) → GoodEntry (parts (start c)) c.loop-j.j
+good c = entry-good (parts (start c)) (start c).requires.0.parts c.loop-j.j c.loop-j-test.true
 
-add-end : tie.Need-overflow-add-end invariant-loop decreases-loop
-add-end c = search rules
+overflow_add-end : tie.Need-overflow_add-end invariant-loop-j decreases-loop-j
+overflow_add-end c = search rules
 
-sub-map-into : tie.Need-overflow-sub-map-into invariant-loop decreases-loop
-sub-map-into c = search rules
+slice_bounds-map_into-count : tie.Need-slice_bounds-map_into-count invariant-loop-j decreases-loop-j
+slice_bounds-map_into-count c = search rules
 
-part-map-into-start : tie.Need-slice-bounds-map-into-start invariant-loop decreases-loop
-part-map-into-start c = search rules
+slice_bounds-map_into-start : tie.Need-slice_bounds-map_into-start invariant-loop-j decreases-loop-j
+slice_bounds-map_into-start c = search rules
 
-part-map-into-end : tie.Need-slice-bounds-map-into-end invariant-loop decreases-loop
-part-map-into-end c =
-    let s = c.before.before in
-    primary-inside s.args.file.now s.args.n s.args.k s.requires.0
+slice_bounds-map_into-end : tie.Need-slice_bounds-map_into-end invariant-loop-j decreases-loop-j
+slice_bounds-map_into-end c =
+    primary-inside c.args.file.now c.args.n c.args.k c.requires.0
 
-primary-byte-requires : tie.Need-primary-byte-requires invariant-loop decreases-loop
-primary-byte-requires c κs = search rules
+primary_byte-requires : tie.Need-primary_byte-requires invariant-loop-j decreases-loop-j
+primary_byte-requires c κs = search rules
 
-map-into-requires : tie.Need-map-into-requires invariant-loop decreases-loop
-map-into-requires c κs =
+map_into-requires : tie.Need-map_into-requires invariant-loop-j decreases-loop-j
+map_into-requires c κs =
     let s = entry c.before.before in
     let a = s.args in
-    rw (add-sub_cancel_left 40 a.n, primary-length a.file.now a.n a.k s.pre.0) s.pre.1
+    rw (add-sub_cancel_left 40 a.n, primary-length a.file.now a.n a.k s.requires.0) s.requires.1
 
-loop-holds : tie.Need-loop-init invariant-loop decreases-loop
-loop-holds c =
-    let w = c.before.before in
-    let s = entry w.before.before.before in
+loop-j-init : tie.Need-loop-j-init invariant-loop-j decreases-loop-j
+loop-j-init c =
+    let s = entry c.before.before.before.before.before in
     let a = s.args in
-    let front = lowered w in
-    let again = lowered-bytes-again a.file.now a.n a.k a.m s.pre.0 (bytes w) 0 0 a.out.now
-    s.pre.1 in (
+    let front = lowered c.before.before in
+    let again = lowered-bytes-again a.file.now a.n a.k a.m s.requires.0 (bytes c.before.before) 0 0 a.out.now
+    s.requires.1 in (
       omega arith,
       refl,
       front
           ∙ sym (ap (λ (d : List ℕ). sets d 40 (patched (low_byte a.m) (parts s) 0)) front ∙ again),
     )
 
-entry-slot-requires : tie.Need-entry-slot-requires invariant-loop decreases-loop
-entry-slot-requires c κs =
+entry_slot-slot-requires : tie.Need-entry_slot-slot-requires invariant-loop-j decreases-loop-j
+entry_slot-slot-requires c κs =
     let s = start c in
-    entry-inside s.args.file.now s.args.n s.args.k s.pre.0 c.before.loop.j (omega arith)
+    entry-inside s.args.file.now s.args.n s.args.k s.requires.0 c.loop-j.j (omega arith)
 
-entry-distance-requires : tie.Need-entry-distance-requires invariant-loop decreases-loop
-entry-distance-requires c κs = entry-slot-requires c.before κs
+entry_distance-requires : tie.Need-entry_distance-requires invariant-loop-j decreases-loop-j
+entry_distance-requires c κs = entry_slot-slot-requires c.before κs
 
-lower-requires : tie.Need-lower-requires invariant-loop decreases-loop
-lower-requires c κs = omega (arith, c.entry-distance.ensures, (good c.before.before).overflows)
+lower-requires : tie.Need-lower-requires invariant-loop-j decreases-loop-j
+lower-requires c κs = omega (arith, c.entry_distance.ensures, (good c.before.before).overflows)
 
-primary-byte-requires-2 : tie.Need-primary-byte-requires-2 invariant-loop decreases-loop
-primary-byte-requires-2 c κs = search rules
+primary_byte-requires-in-loop-j : tie.Need-primary_byte-requires-in-loop-j invariant-loop-j decreases-loop-j
+primary_byte-requires-in-loop-j c κs = search rules
 
-add-out : tie.Need-overflow-add-out invariant-loop decreases-loop
-add-out c =
-    let e = c.before.before.before in
-    let s = start e.before in
-    omega (arith, (good e.before).inside, e.entry-slot.ensures, s.pre.0.header.small)
+overflow_add-out : tie.Need-overflow_add-out invariant-loop-j decreases-loop-j
+overflow_add-out c =
+    let s = start c.before.before.before.before in
+    omega (arith, (good c.before.before.before.before).inside, c.entry_slot-slot.ensures, s.requires.0.header.small)
 
-slice-write-out : tie.Need-slice-write-out invariant-loop decreases-loop
-slice-write-out c =
-    let e = c.before.before.before in
-    let d = e.before in
-    let s = start d in
+bounds-out-slot : tie.Need-bounds-out-slot invariant-loop-j decreases-loop-j
+bounds-out-slot c =
+    let s = start c.before.before.before.before in
     omega (
       arith,
-      (good d).inside,
-      e.entry-slot.ensures,
-      d.before.loop.invariant.1,
-      s.pre.1,
-      d.before.before.before.before.map-into.auto,
+      (good c.before.before.before.before).inside,
+      c.entry_slot-slot.ensures,
+      c.loop-j.invariant.1,
+      s.requires.1,
+      c.map_into.auto,
     )
 
-add-j : tie.Need-overflow-add-j invariant-loop decreases-loop
-add-j c = search rules
+overflow_add-j : tie.Need-overflow_add-j invariant-loop-j decreases-loop-j
+overflow_add-j c = search rules
 
-loop-less : tie.Need-loop-smaller invariant-loop decreases-loop
-loop-less c = search rules
+loop-j-smaller : tie.Need-loop-j-smaller invariant-loop-j decreases-loop-j
+loop-j-smaller c = search rules
 
-loop-again : tie.Need-loop-preserved invariant-loop decreases-loop
-loop-again c =
-    let e = c.before.before.before in
-    let d = e.before in
-    let s = start d in
+loop-j-preserved : tie.Need-loop-j-preserved invariant-loop-j decreases-loop-j
+loop-j-preserved c =
+    let s = start c.before.before.before.before in
     let a = s.args in
-    let l = d.before.loop in
+    let l = c.loop-j in
     let space : 40 + a.n
-    ≤ length d.before.before.before.before.map-into.new.1.1.1.0 = omega (
+    ≤ length c.map_into.new.out = omega (
       arith,
-      s.pre.1,
-      d.before.before.before.before.map-into.auto,
+      s.requires.1,
+      c.map_into.auto,
     ) in
-    let more = lowered-bytes-more a.file.now a.n a.k a.m s.pre.0
-    (bytes d.before.before.before.before) l.j _ (omega arith) space in (
+    let more = lowered-bytes-more a.file.now a.n a.k a.m s.requires.0
+    (bytes c.before.before.before.before.before.before.before.before) l.j _ (omega arith) space in (
       omega arith,
       simp length-set l.invariant.1,
       rw (
         l.invariant.2,
-        e.entry-slot.ensures,
-        c.primary-byte2.ensures,
-        c.before.lower.ensures,
-        c.before.before.entry-distance.ensures,
+        c.entry_slot-slot.ensures,
+        c.primary_byte-in-loop-j.ensures,
+        c.lower.ensures,
+        c.entry_distance.ensures,
       ) more,
     )
 
-same_length : tie.Need-same-length invariant-loop decreases-loop
-same_length c = search rules
+shape_of-out : tie.Need-shape_of-out invariant-loop-j decreases-loop-j
+shape_of-out c = search rules
 
-returns : tie.Need-returns invariant-loop decreases-loop
+returns : tie.Need-returns invariant-loop-j decreases-loop-j
 returns c =
-    let w = c.before.before.before.before in
-    let s = entry w.before.before.before in
+    let s = entry c.before.before.before.before.before.before.before in
     let a = s.args in
-    let l = c.before.loop in
-    let all : l.j ≡ a.k = omega (arith, l.invariant.0, c.loop-test.false) in
+    let l = c.loop-j in
+    let all : l.j ≡ a.k = omega (arith, l.invariant.0, c.loop-j-test.false) in
     l.invariant.2
-    ∙ ap (λ (j : ℕ). sets w.map-into.new.1.1.1.0 40 (patched (low_byte a.m) (parts s) j)) all
-    ∙ ap (λ (d : List ℕ). sets d 40 (patched (low_byte a.m) (parts s) a.k)) (lowered w)
-    ∙ lowered-bytes-again a.file.now a.n a.k a.m s.pre.0 (bytes w) a.k 0 a.out.now s.pre.1
-    ∙ ap (sets a.out.now 40) (lowered-bytes-end a.file.now a.n a.k a.m s.pre.0 (bytes w))
+    ∙ ap (λ (j : ℕ). sets c.map_into.new.out 40 (patched (low_byte a.m) (parts s) j)) all
+    ∙ ap (λ (d : List ℕ). sets d 40 (patched (low_byte a.m) (parts s) a.k)) (lowered c.before.before.before.before)
+    ∙ lowered-bytes-again a.file.now a.n a.k a.m s.requires.0 (bytes c.before.before.before.before) a.k 0 a.out.now s.requires.1
+    ∙ ap (sets a.out.now 40) (lowered-bytes-end a.file.now a.n a.k a.m s.requires.0 (bytes c.before.before.before.before))
 
-pub put-primary-spec : {M : Type 1} → statement M
-put-primary-spec =
+pub put_primary_spec : {M : Type 1} → statement M
+put_primary_spec =
     tie.close
     (tie.spec
-    invariant-loop
-    decreases-loop
-    add-end
-    sub-map-into
-    part-map-into-start
-    part-map-into-end
-    primary-byte-requires
-    map-into-requires
-    loop-holds
-    entry-slot-requires
-    entry-distance-requires
+    invariant-loop-j
+    decreases-loop-j
+    overflow_add-end
+    slice_bounds-map_into-count
+    slice_bounds-map_into-start
+    slice_bounds-map_into-end
+    primary_byte-requires
+    map_into-requires
+    loop-j-init
+    entry_slot-slot-requires
+    entry_distance-requires
     lower-requires
-    primary-byte-requires-2
-    add-out
-    slice-write-out
-    add-j
-    loop-less
-    loop-again
-    same_length
+    primary_byte-requires-in-loop-j
+    overflow_add-out
+    bounds-out-slot
+    overflow_add-j
+    loop-j-smaller
+    loop-j-preserved
+    shape_of-out
     returns)

@@ -9,28 +9,33 @@ use Rattle.pciv_build.proofs.put_entry.Tie as tie
 put64-requires : tie.Need-put64-requires
 put64-requires c κs = search rules
 
-add-put32 : tie.Need-overflow-add-put32
-add-put32 c = search rules
+overflow_add-at : tie.Need-overflow_add-at
+overflow_add-at c = search rules
 
 put32-requires : tie.Need-put32-requires
 put32-requires c κs = search rules
 
-add-result : tie.Need-overflow-add-result
-add-result c = search rules
+overflow_add-result : tie.Need-overflow_add-result
+overflow_add-result c = search rules
 
-same_length : tie.Need-same-length
-same_length c = search rules
+shape_of-out : tie.Need-shape_of-out
+shape_of-out c = search rules
 
 returns : tie.Need-returns
 returns c =
-    let second = c.before.before in
-    let first = second.before.before.before.before in
-    let a = first.before.before.before.args in (
+    let a = c.args in (
       refl,
-      sets-two a.slot (le 4 a.distance) a.out.now _ _ a.at _ refl first.put64.ensures
-          second.put32.ensures,
+      sets-two a.slot (le 4 a.distance) a.out.now _ _ a.at _ refl c.put64.ensures
+          c.put32.ensures,
     )
 
-pub put-entry-spec : {M : Type 1} → statement M
-put-entry-spec =
-    tie.close (tie.spec put64-requires add-put32 put32-requires add-result same_length returns)
+pub put_entry_spec : {M : Type 1} → statement M
+put_entry_spec =
+    tie.close
+    (tie.spec
+    put64-requires
+    overflow_add-at
+    put32-requires
+    overflow_add-result
+    shape_of-out
+    returns)

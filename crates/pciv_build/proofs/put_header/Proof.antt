@@ -13,45 +13,38 @@ put64-requires-2 c κs = search rules
 put64-requires-3 : tie.Need-put64-requires-3
 put64-requires-3 c κs = search rules
 
-index-len-requires : tie.Need-index-len-requires
-index-len-requires c κs = search rules
+index_len-requires : tie.Need-index_len-requires
+index_len-requires c κs = search rules
 
 put64-requires-4 : tie.Need-put64-requires-4
 put64-requires-4 c κs = search rules
 
-index-step-requires : tie.Need-index-step-requires
-index-step-requires c κs = search rules
+index_step-requires : tie.Need-index_step-requires
+index_step-requires c κs = search rules
 
 put64-requires-5 : tie.Need-put64-requires-5
 put64-requires-5 c κs = search rules
 
-same_length : tie.Need-same-length
-same_length c = search rules
+shape_of-out : tie.Need-shape_of-out
+shape_of-out c = search rules
 
 returns : tie.Need-returns
 returns c =
-    let fifth = c.before.before in
-    let step = fifth.before in
-    let fourth = step.before.before.before.before in
-    let len = fourth.before in
-    let third = len.before.before.before.before in
-    let second = third.before.before.before.before in
-    let first = second.before.before.before.before in
-    let a = first.before.before.before.args in
-    sets-header a.n a.k _ _ a.out.now _ _ _ _ _ len.index-len.ensures step.index-step.ensures
-    first.put64.ensures second.put642.ensures third.put643.ensures fourth.put644.ensures
-    fifth.put645.ensures
+    let a = c.args in
+    sets-header a.n a.k _ _ a.out.now _ _ _ _ _ c.index_len.ensures c.index_step.ensures
+    c.put64.ensures c.put64-2.ensures c.put64-3.ensures c.put64-4.ensures
+    c.put64-5.ensures
 
-pub put-header-spec : {M : Type 1} → statement M
-put-header-spec =
+pub put_header_spec : {M : Type 1} → statement M
+put_header_spec =
     tie.close
     (tie.spec
     put64-requires
     put64-requires-2
     put64-requires-3
-    index-len-requires
+    index_len-requires
     put64-requires-4
-    index-step-requires
+    index_step-requires
     put64-requires-5
-    same_length
+    shape_of-out
     returns)

@@ -11,78 +11,71 @@ use Rattle.pciv_bundle.proofs.nearest.Statement.{statement}
 use Rattle.pciv_bundle.proofs.nearest.Tie as tie
 
 -- what the check has shown: why the bundle is refused, or its counts
-is-refused : (c : tie.After-answer)
-    → (let s = c.before.before.before.before.before.before in
-    bundle_outcome s.args.bundle.now ≡ refused c.answer.given.0.0)
+is-refused : (c : tie.In-Refused)
+    → (bundle_outcome c.args.bundle.now ≡ refused c.in-Refused.r)
 is-refused c =
-    bundle_answer-refused _ _ (sym c.answer.given.1 ∙ c.before.before.before.check-bundle.ensures.0)
+    bundle_answer-refused _ _ (sym c.in-Refused.is ∙ c.check_bundle-split.ensures.0)
 
-is-bundle : (c : tie.After-answer2)
-    → (let s = c.before.before.before.before.before.before in
-    bundle_outcome s.args.bundle.now ≡ done c.answer2.given.0.0)
+is-bundle : (c : tie.In-Counted)
+    → (bundle_outcome c.args.bundle.now ≡ done c.in-Counted.c)
 is-bundle c =
-    bundle_answer-counted _ _ (sym c.answer2.given.1 ∙ c.before.before.before.check-bundle.ensures.0)
+    bundle_answer-counted _ _ (sym c.in-Counted.is ∙ c.check_bundle-split.ensures.0)
 
-check-bundle-requires : tie.Need-check-bundle-requires
-check-bundle-requires c κs = search rules
+check_bundle-split-requires : tie.Need-check_bundle-split-requires
+check_bundle-split-requires c κs = search rules
 
-enum-known-answer : tie.Need-enum-known-answer
-enum-known-answer c = search rules
+enum_known-answer : tie.Need-enum_known-answer
+enum_known-answer c = search rules
 
-enum-known-answer-2 : tie.Need-enum-known-answer-2
-enum-known-answer-2 c = search rules
+enum_known-answer-in-Counted-1 : tie.Need-enum_known-answer-in-Counted-1
+enum_known-answer-in-Counted-1 c = search rules
 
-refuse-number-requires : tie.Need-refuse-number-requires
-refuse-number-requires c κs = search rules
+refuse_number-requires : tie.Need-refuse_number-requires
+refuse_number-requires c κs = search rules
 
-returns : tie.Need-returns
+returns-then-out-n : tie.Need-returns-then-out-n
 unfolding nearest_buffer
-returns c =
-    let k = c.before.before.before in
-    let a = k.before.before.before.before.before.before.args in
-    let short = nearest-short a.bundle.now _ (is-bundle k) (length a.out.now) c.before.if1.true in
-    (c.refuse-number.ensures ∙ ap number_answer (sym short), rw short)
+returns-then-out-n c =
+    let a = c.args in
+    let short = nearest-short a.bundle.now _ (is-bundle c.before.before) (length a.out.now) c.if-out-n.true in
+    (c.refuse_number.ensures ∙ ap number_answer (sym short), rw short)
 
-nearest-into-requires : tie.Need-nearest-into-requires
-nearest-into-requires c κs =
-    let k = c.before.before.before in
-    let e = is-bundle k in
+nearest_into-requires : tie.Need-nearest_into-requires
+nearest_into-requires c κs =
+    let e = is-bundle c.before.before in
     let all = accepted-frames _ _ e in (
-      (all.0, all.1, c.before.if1.false),
-      (k.before.before.before.check-bundle.ensures.1 _ e, bundle-checked _ _ e),
+      (all.0, all.1, c.if-out-n.false),
+      (c.check_bundle-split.ensures.1 _ e, bundle-checked _ _ e),
     )
 
-returns-2 : tie.Need-returns-2
+returns-in-Refused : tie.Need-returns-in-Refused
 unfolding nearest_buffer
-returns-2 c =
-    let k = c.before in
-    let a = k.before.before.before.before.before.before.args in
-    let no = nearest-refused a.bundle.now _ (is-refused k) (length a.out.now) in
+returns-in-Refused c =
+    let a = c.args in
+    let no = nearest-refused a.bundle.now _ (is-refused c) (length a.out.now) in
     (ap number_answer (sym no), rw no)
 
-same_length : tie.Need-same-length
-same_length c = search rules
+shape_of-out : tie.Need-shape_of-out
+shape_of-out c = search rules
 
-returns-3 : tie.Need-returns-3
-returns-3 c =
-    let x = c.before.before in
-    let k = x.before.before.before.before in
-    let a = k.before.before.before.before.before.before.args in
-    let fits = x.before.before.if1.false in (
-      ap number_answer (sym (nearest-done a.bundle.now _ (is-bundle k) (length a.out.now) fits)),
-      x.nearest-into.ensures ∙ nearest-buffer a.bundle.now _ (is-bundle k) a.out.now fits,
+returns-else-out-n : tie.Need-returns-else-out-n
+returns-else-out-n c =
+    let a = c.args in
+    let fits = c.if-out-n.false in (
+      ap number_answer (sym (nearest-done a.bundle.now _ (is-bundle c.before.before.before.before.before) (length a.out.now) fits)),
+      c.nearest_into.ensures ∙ nearest-buffer a.bundle.now _ (is-bundle c.before.before.before.before.before) a.out.now fits,
     )
 
-pub nearest-spec : {M : Type 1} → statement M
-nearest-spec =
+pub nearest_spec : {M : Type 1} → statement M
+nearest_spec =
     tie.close
     (tie.spec
-    check-bundle-requires
-    enum-known-answer
-    enum-known-answer-2
-    refuse-number-requires
-    returns
-    nearest-into-requires
-    returns-2
-    same_length
-    returns-3)
+    check_bundle-split-requires
+    enum_known-answer
+    enum_known-answer-in-Counted-1
+    refuse_number-requires
+    returns-then-out-n
+    nearest_into-requires
+    returns-in-Refused
+    shape_of-out
+    returns-else-out-n)

@@ -12,68 +12,64 @@ use Rattle.pciv_bundle.proofs.row.Statement.{statement}
 use Rattle.pciv_bundle.proofs.row.Tie as tie
 
 -- what the check has shown: why the bundle is refused, or its counts
-is-refused : (c : tie.After-answer)
-    → bundle_outcome c.before.before.before.before.before.args.bundle.now ≡ refused c.answer.given.0.0
+is-refused : (c : tie.In-Refused)
+    → bundle_outcome c.args.bundle.now ≡ refused c.in-Refused.r
 is-refused c =
-    bundle_answer-refused _ _ (sym c.answer.given.1 ∙ c.before.before.before.check-bundle.ensures.0)
+    bundle_answer-refused _ _ (sym c.in-Refused.is ∙ c.check_bundle-split.ensures.0)
 
-is-bundle : (c : tie.After-answer2)
-    → bundle_outcome c.before.before.before.before.before.args.bundle.now ≡ done c.answer2.given.0.0
+is-bundle : (c : tie.In-Counted)
+    → bundle_outcome c.args.bundle.now ≡ done c.in-Counted.c
 is-bundle c =
-    bundle_answer-counted _ _ (sym c.answer2.given.1 ∙ c.before.before.before.check-bundle.ensures.0)
+    bundle_answer-counted _ _ (sym c.in-Counted.is ∙ c.check_bundle-split.ensures.0)
 
-check-bundle-requires : tie.Need-check-bundle-requires
-check-bundle-requires c κs = search rules
+check_bundle-split-requires : tie.Need-check_bundle-split-requires
+check_bundle-split-requires c κs = search rules
 
-enum-known-answer : tie.Need-enum-known-answer
-enum-known-answer c = search rules
+enum_known-answer : tie.Need-enum_known-answer
+enum_known-answer c = search rules
 
-refuse-row-requires : tie.Need-refuse-row-requires
-refuse-row-requires c κs = search rules
+refuse_row-requires : tie.Need-refuse_row-requires
+refuse_row-requires c κs = search rules
 
-enum-known-answer-2 : tie.Need-enum-known-answer-2
-enum-known-answer-2 c = search rules
+enum_known-answer-in-Counted-1 : tie.Need-enum_known-answer-in-Counted-1
+enum_known-answer-in-Counted-1 c = search rules
 
-refuse-row-requires-2 : tie.Need-refuse-row-requires-2
-refuse-row-requires-2 c κs = search rules
+refuse_row-requires-then-n-slot : tie.Need-refuse_row-requires-then-n-slot
+refuse_row-requires-then-n-slot c κs = search rules
 
-returns : tie.Need-returns
-returns c =
-    let k = c.before.before.before in
-    let a = k.before.before.before.before.before.args in
-    c.refuse-row2.ensures
-    ∙ ap row_answer (sym (row-outside a.bundle.now _ (is-bundle k) a.slot c.before.if1.true))
+returns-then-n-slot : tie.Need-returns-then-n-slot
+returns-then-n-slot c =
+    let a = c.args in
+    c.refuse_row-then-n-slot.ensures
+    ∙ ap row_answer (sym (row-outside a.bundle.now _ (is-bundle c.before.before) a.slot c.if-n-slot.true))
 
-row-of-requires : tie.Need-row-of-requires
-row-of-requires c κs =
-    let k = c.before.before in
-    let e = is-bundle k in
+row_of-requires : tie.Need-row_of-requires
+row_of-requires c κs =
+    let e = is-bundle c.before in
     let all = accepted-frames _ _ e in
-    ((all.0, all.1, c.if1.false), (k.before.before.before.check-bundle.ensures.1 _ e, bundle-checked _ _ e))
+    ((all.0, all.1, c.if-n-slot.false), (c.check_bundle-split.ensures.1 _ e, bundle-checked _ _ e))
 
-returns-2 : tie.Need-returns-2
-returns-2 c =
-    let k = c.before.before in
-    let a = k.before.before.before.before.before.args in
-    c.refuse-row.ensures ∙ ap row_answer (sym (row-refused a.bundle.now _ (is-refused k) a.slot))
+returns-in-Refused : tie.Need-returns-in-Refused
+returns-in-Refused c =
+    let a = c.args in
+    c.refuse_row.ensures ∙ ap row_answer (sym (row-refused a.bundle.now _ (is-refused c.before) a.slot))
 
-returns-3 : tie.Need-returns-3
-returns-3 c =
-    let k = c.before.before.before in
-    let a = k.before.before.before.before.before.args in
+returns-else-n-slot : tie.Need-returns-else-n-slot
+returns-else-n-slot c =
+    let a = c.args in
     ap (λ (row : List ℕ). row_answer (done row)) c.row_of.ensures
-    ∙ ap row_answer (sym (row_inside a.bundle.now _ (is-bundle k) a.slot c.before.if1.false))
+    ∙ ap row_answer (sym (row_inside a.bundle.now _ (is-bundle c.before.before) a.slot c.if-n-slot.false))
 
-pub row-spec : {M : Type 1} → statement M
-row-spec =
+pub row_spec : {M : Type 1} → statement M
+row_spec =
     tie.close
     (tie.spec
-    check-bundle-requires
-    enum-known-answer
-    refuse-row-requires
-    enum-known-answer-2
-    refuse-row-requires-2
-    returns
-    row-of-requires
-    returns-2
-    returns-3)
+    check_bundle-split-requires
+    enum_known-answer
+    refuse_row-requires
+    enum_known-answer-in-Counted-1
+    refuse_row-requires-then-n-slot
+    returns-then-n-slot
+    row_of-requires
+    returns-in-Refused
+    returns-else-n-slot)

@@ -12,80 +12,73 @@ use borrow.Author.Rules.{rules}
 use Rattle.pciv_bundle_frames.proofs.check_frames.Statement.{statement}
 use Rattle.pciv_bundle_frames.proofs.check_frames.Tie as tie
 
-abbrev invariant-loop : tie.invariant-loop
-invariant-loop bundle places count n other₀ next₀ other next = Passed n (frames bundle) next other
+abbrev invariant-loop-next : tie.invariant-loop-next
+invariant-loop-next bundle places count n other₀ next₀ other next = Passed n (frames bundle) next other
 
-abbrev decreases-loop : tie.decreases-loop
-decreases-loop bundle places count n other₀ next₀ other next = count - next
+abbrev decreases-loop-next : tie.decreases-loop-next
+decreases-loop-next bundle places count n other₀ next₀ other next = count - next
 
 -- the next frame is there
-there : (c : tie.In-loop invariant-loop decreases-loop)
-    → (let s = c.before.before.before in c.before.loop.next < length (frames s.args.bundle.now))
-there c = let s = c.before.before.before in omega (arith, c.loop-test.true, s.requires.0.1)
+there : (c : tie.In-loop-next invariant-loop-next decreases-loop-next)
+    → (c.loop-next.next < length (frames c.args.bundle.now))
+there c = omega (arith, c.loop-next-test.true, c.requires.0.1)
 
-loop-holds : tie.Need-loop-init invariant-loop decreases-loop
-loop-holds c = passed_none _ _
+loop-next-init : tie.Need-loop-next-init invariant-loop-next decreases-loop-next
+loop-next-init c = passed_none _ _
 
-frame-at-requires : tie.Need-frame-at-requires invariant-loop decreases-loop
-frame-at-requires c κs =
-    let s = c.before.before.before in (omega (arith, s.requires.0.0), s.requires.1 _ (there c))
+frame_at-requires : tie.Need-frame_at-requires invariant-loop-next decreases-loop-next
+frame_at-requires c κs =
+    (omega (arith, c.requires.0.0), c.requires.1 _ (there c))
 
-check-next-requires : tie.Need-check-next-requires invariant-loop decreases-loop
-check-next-requires c κs = omega (arith, c.before.before.before.before.requires.0.0)
+check_next-checked-requires : tie.Need-check_next-checked-requires invariant-loop-next decreases-loop-next
+check_next-checked-requires c κs = omega (arith, c.requires.0.0)
 
-add-next : tie.Need-overflow-add-next invariant-loop decreases-loop
-add-next c = omega arith
+overflow_add-next : tie.Need-overflow_add-next invariant-loop-next decreases-loop-next
+overflow_add-next c = omega arith
 
-enum-known-checked : tie.Need-enum-known-checked invariant-loop decreases-loop
-enum-known-checked c = search rules
+enum_known-checked : tie.Need-enum_known-checked invariant-loop-next decreases-loop-next
+enum_known-checked c = search rules
 
-returns : tie.Need-returns invariant-loop decreases-loop
+returns-in-Refused : tie.Need-returns-in-Refused invariant-loop-next decreases-loop-next
+returns-in-Refused c =
+    passed-refused c.loop-next.invariant (there c.before.before.before) _ c.frame_at.ensures _ c.check_next-checked.ensures _
+    c.in-Refused.is
+
+enum_known-checked-in-Number-1 : tie.Need-enum_known-checked-in-Number-1 invariant-loop-next decreases-loop-next
+enum_known-checked-in-Number-1 c = search rules
+
+loop-next-smaller : tie.Need-loop-next-smaller invariant-loop-next decreases-loop-next
+loop-next-smaller c = omega arith
+
+loop-next-preserved : tie.Need-loop-next-preserved invariant-loop-next decreases-loop-next
+loop-next-preserved c =
+    passed-more c.loop-next.invariant (there c.before.before.before) _ c.frame_at.ensures _ c.check_next-checked.ensures _
+    c.in-Number.is
+
+same_slots-requires : tie.Need-same_slots-requires invariant-loop-next decreases-loop-next
+same_slots-requires c κs =
+    omega (arith, passed-le c.loop-next.invariant, c.requires.0.0, c.requires.0.1)
+
+returns : tie.Need-returns invariant-loop-next decreases-loop-next
 returns c =
-    let k = c.before.before.before in
-    let l = k.before.before.before in
-    passed-refused l.loop.invariant (there k.before.before) _ k.before.frame_at.ensures _ k.check-next.ensures _
-    c.before.checked.given.1
-
-enum-known-checked-2 : tie.Need-enum-known-checked-2 invariant-loop decreases-loop
-enum-known-checked-2 c = search rules
-
-loop-less : tie.Need-loop-smaller invariant-loop decreases-loop
-loop-less c = omega arith
-
-loop-again : tie.Need-loop-preserved invariant-loop decreases-loop
-loop-again c =
-    let k = c.before.before.before in
-    let l = k.before.before.before in
-    passed-more l.loop.invariant (there k.before.before) _ k.before.frame_at.ensures _ k.check-next.ensures _
-    c.before.checked2.given.1
-
-same-slots-requires : tie.Need-same-slots-requires invariant-loop decreases-loop
-same-slots-requires c κs =
-    let s = c.before.before.before in
-    omega (arith, passed-le c.before.loop.invariant, s.requires.0.0, s.requires.0.1)
-
-returns-2 : tie.Need-returns-2 invariant-loop decreases-loop
-returns-2 c =
-    let l = c.before.before in
-    let s = l.before.before in
-    c.same-slots.ensures
+    c.same_slots.ensures
     ∙ ap number_answer
-    (sym (frames-end l.loop.invariant s.args.count (sym s.requires.0.1) c.before.loop-test.false))
+    (sym (frames-end c.loop-next.invariant c.args.count (sym c.requires.0.1) c.loop-next-test.false))
 
-pub check-frames-spec : {M : Type 1} → statement M
-check-frames-spec =
+pub check_frames_spec : {M : Type 1} → statement M
+check_frames_spec =
     tie.close
     (tie.spec
-    invariant-loop
-    decreases-loop
-    loop-holds
-    frame-at-requires
-    check-next-requires
-    add-next
-    enum-known-checked
-    returns
-    enum-known-checked-2
-    loop-less
-    loop-again
-    same-slots-requires
-    returns-2)
+    invariant-loop-next
+    decreases-loop-next
+    loop-next-init
+    frame_at-requires
+    check_next-checked-requires
+    overflow_add-next
+    enum_known-checked
+    returns-in-Refused
+    enum_known-checked-in-Number-1
+    loop-next-smaller
+    loop-next-preserved
+    same_slots-requires
+    returns)

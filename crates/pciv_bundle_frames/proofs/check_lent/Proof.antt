@@ -13,97 +13,90 @@ use borrow.Author.Rules.{rules}
 use Rattle.pciv_bundle_frames.proofs.check_lent.Statement.{statement}
 use Rattle.pciv_bundle_frames.proofs.check_lent.Tie as tie
 
-abbrev invariant-loop : tie.invariant-loop
-invariant-loop frames count n all other₀ passed₀ other passed = Passed n (used frames count) passed other
+abbrev invariant-loop-passed : tie.invariant-loop-passed
+invariant-loop-passed frames count n all other₀ passed₀ other passed = Passed n (used frames count) passed other
 
-abbrev decreases-loop : tie.decreases-loop
-decreases-loop frames count n all other₀ passed₀ other passed = count - passed
+abbrev decreases-loop-passed : tie.decreases-loop-passed
+decreases-loop-passed frames count n all other₀ passed₀ other passed = count - passed
 
 -- all of them are there: a slice made of the array has eight
-many : (c : tie.After-all invariant-loop decreases-loop)
-    → (let a = c.before.args in length (used a.frames.now a.count) ≡ a.count)
-many c = used-length c.before.args.frames.now c.before.args.count c.all.given.0 c.before.requires
+many : (c : tie.After-all-1 invariant-loop-passed decreases-loop-passed)
+    → (let a = c.args in length (used a.frames.now a.count) ≡ a.count)
+many c = used-length c.args.frames.now c.args.count c.all-1.given c.requires
 
 -- the next frame is there
-there : (c : tie.In-loop invariant-loop decreases-loop)
-    → (let a = c.before.before.before.args in c.before.loop.passed < length (used a.frames.now a.count))
-there c = omega (arith, c.loop-test.true, many c.before.before)
+there : (c : tie.In-loop-passed invariant-loop-passed decreases-loop-passed)
+    → (let a = c.args in c.loop-passed.passed < length (used a.frames.now a.count))
+there c = omega (arith, c.loop-passed-test.true, many c.before.before)
 
 -- and its bytes are those that are checked
-here : (c : tie.In-loop invariant-loop decreases-loop)
-    → (let f = c.before.loop.passed in
-    let a = c.before.before.before.args in
+here : (c : tie.In-loop-passed invariant-loop-passed decreases-loop-passed)
+    → (let f = c.loop-passed.passed in
+    let a = c.args in
     (get_or a.frames.now f no_frame).now ≡ get_or (used a.frames.now a.count) f [])
 here c =
-    let a = c.before.before.before.args in
-    used-at a.frames.now a.count c.before.loop.passed c.loop-test.true
+    let a = c.args in
+    used-at a.frames.now a.count c.loop-passed.passed c.loop-passed-test.true
 
-loop-holds : tie.Need-loop-init invariant-loop decreases-loop
-loop-holds c = passed_none _ _
+loop-passed-init : tie.Need-loop-passed-init invariant-loop-passed decreases-loop-passed
+loop-passed-init c = passed_none _ _
 
-mul-check-next : tie.Need-overflow-mul-check-next invariant-loop decreases-loop
-mul-check-next c = omega (arith, c.loop-test.true, c.before.before.before.requires)
+offset_bounds-all-passed : tie.Need-offset_bounds-all-passed invariant-loop-passed decreases-loop-passed
+offset_bounds-all-passed c = omega (arith, c.loop-passed-test.true, c.requires)
 
-shared-slice-copy-out-check-next : tie.Need-shared-slice-copy-out-check-next invariant-loop decreases-loop
-shared-slice-copy-out-check-next c =
-    let s = c.before.before in omega (arith, c.loop-test.true, s.before.requires, s.all.given.0)
+bounds-all-passed : tie.Need-bounds-all-passed invariant-loop-passed decreases-loop-passed
+bounds-all-passed c =
+    omega (arith, c.loop-passed-test.true, c.requires, c.all-1.given)
 
-check-next-requires : tie.Need-check-next-requires invariant-loop decreases-loop
-check-next-requires c κs = omega (arith, c.before.loop-test.true, c.before.before.before.before.requires)
+check_next-checked-requires : tie.Need-check_next-checked-requires invariant-loop-passed decreases-loop-passed
+check_next-checked-requires c κs = omega (arith, c.loop-passed-test.true, c.requires)
 
-add-passed : tie.Need-overflow-add-passed invariant-loop decreases-loop
-add-passed c = omega arith
+overflow_add-passed : tie.Need-overflow_add-passed invariant-loop-passed decreases-loop-passed
+overflow_add-passed c = omega arith
 
-enum-known-checked : tie.Need-enum-known-checked invariant-loop decreases-loop
-enum-known-checked c = search rules
+enum_known-checked : tie.Need-enum_known-checked invariant-loop-passed decreases-loop-passed
+enum_known-checked c = search rules
 
-returns : tie.Need-returns invariant-loop decreases-loop
+returns-in-Refused : tie.Need-returns-in-Refused invariant-loop-passed decreases-loop-passed
+returns-in-Refused c =
+    passed-refused c.loop-passed.invariant (there c.before.before.before) _ (here c.before.before.before) _ c.check_next-checked.ensures _
+    c.in-Refused.is
+
+enum_known-checked-in-Number-1 : tie.Need-enum_known-checked-in-Number-1 invariant-loop-passed decreases-loop-passed
+enum_known-checked-in-Number-1 c = search rules
+
+loop-passed-smaller : tie.Need-loop-passed-smaller invariant-loop-passed decreases-loop-passed
+loop-passed-smaller c = omega arith
+
+loop-passed-preserved : tie.Need-loop-passed-preserved invariant-loop-passed decreases-loop-passed
+loop-passed-preserved c =
+    passed-more c.loop-passed.invariant (there c.before.before.before) _ (here c.before.before.before) _ c.check_next-checked.ensures _
+    c.in-Number.is
+
+same_slots-requires : tie.Need-same_slots-requires invariant-loop-passed decreases-loop-passed
+same_slots-requires c κs =
+    omega (arith, passed-le c.loop-passed.invariant, c.requires, many c.before.before)
+
+returns : tie.Need-returns invariant-loop-passed decreases-loop-passed
 returns c =
-    let k = c.before.before.before in
-    let l = k.before.before.before in
-    passed-refused l.loop.invariant (there k.before.before) _ (here k.before.before) _ k.check-next.ensures _
-    c.before.checked.given.1
+    c.same_slots.ensures
+    ∙ ap number_answer (sym (frames-end c.loop-passed.invariant c.args.count (many c.before.before.before) c.loop-passed-test.false))
 
-enum-known-checked-2 : tie.Need-enum-known-checked-2 invariant-loop decreases-loop
-enum-known-checked-2 c = search rules
-
-loop-less : tie.Need-loop-smaller invariant-loop decreases-loop
-loop-less c = omega arith
-
-loop-again : tie.Need-loop-preserved invariant-loop decreases-loop
-loop-again c =
-    let k = c.before.before.before in
-    let l = k.before.before.before in
-    passed-more l.loop.invariant (there k.before.before) _ (here k.before.before) _ k.check-next.ensures _
-    c.before.checked2.given.1
-
-same-slots-requires : tie.Need-same-slots-requires invariant-loop decreases-loop
-same-slots-requires c κs =
-    let s = c.before.before in
-    omega (arith, passed-le c.before.loop.invariant, s.before.requires, many s)
-
-returns-2 : tie.Need-returns-2 invariant-loop decreases-loop
-returns-2 c =
-    let l = c.before.before in
-    let s = l.before in
-    c.same-slots.ensures
-    ∙ ap number_answer (sym (frames-end l.loop.invariant s.before.args.count (many s) c.before.loop-test.false))
-
-pub check-lent-spec : {M : Type 1} → statement M
-check-lent-spec =
+pub check_lent_spec : {M : Type 1} → statement M
+check_lent_spec =
     tie.close
     (tie.spec
-    invariant-loop
-    decreases-loop
-    loop-holds
-    mul-check-next
-    shared-slice-copy-out-check-next
-    check-next-requires
-    add-passed
-    enum-known-checked
-    returns
-    enum-known-checked-2
-    loop-less
-    loop-again
-    same-slots-requires
-    returns-2)
+    invariant-loop-passed
+    decreases-loop-passed
+    loop-passed-init
+    offset_bounds-all-passed
+    bounds-all-passed
+    check_next-checked-requires
+    overflow_add-passed
+    enum_known-checked
+    returns-in-Refused
+    enum_known-checked-in-Number-1
+    loop-passed-smaller
+    loop-passed-preserved
+    same_slots-requires
+    returns)

@@ -8,45 +8,45 @@ use borrow.Author.Rules.{rules}
 use Rattle.pciv_bundle_frames.proofs.check_next.Statement.{statement}
 use Rattle.pciv_bundle_frames.proofs.check_next.Tie as tie
 
-add-check-counts : tie.Need-overflow-add-check-counts
-add-check-counts c = search rules
+overflow_add-f : tie.Need-overflow_add-f
+overflow_add-f c = search rules
 
-check-counts-requires : tie.Need-check-counts-requires
-check-counts-requires c κs = search rules
+check_counts-checked-requires : tie.Need-check_counts-checked-requires
+check_counts-checked-requires c κs = search rules
 
-enum-known-checked : tie.Need-enum-known-checked
-enum-known-checked c = search rules
+enum_known-checked : tie.Need-enum_known-checked
+enum_known-checked c = search rules
 
-enum-known-checked-2 : tie.Need-enum-known-checked-2
-enum-known-checked-2 c = search rules
+enum_known-checked-in-Counted-1 : tie.Need-enum_known-checked-in-Counted-1
+enum_known-checked-in-Counted-1 c = search rules
 
-next-other-requires : tie.Need-next-other-requires
-next-other-requires c κs = search rules
+next_other-requires : tie.Need-next_other-requires
+next_other-requires c κs = search rules
 
-is-refused : (c : tie.After-checked)
-    → (let a = c.before.before.before.before.args in
-    counts_file (a.f + 1) a.frame.now ≡ refused c.checked.given.0.0)
-is-refused c = counts_answer-refused _ _ (sym c.checked.given.1 ∙ c.before.before.check-counts.ensures)
+is-refused : (c : tie.In-Refused)
+    → (let a = c.args in
+    counts_file (a.f + 1) a.frame.now ≡ refused c.in-Refused.r)
+is-refused c = counts_answer-refused _ _ (sym c.in-Refused.is ∙ c.check_counts-checked.ensures)
 
-is-sound : (c : tie.After-checked2)
-    → (let a = c.before.before.before.before.args in
-    counts_file (a.f + 1) a.frame.now ≡ done c.checked2.given.0.0)
-is-sound c = counts_answer-counted _ _ (sym c.checked2.given.1 ∙ c.before.before.check-counts.ensures)
+is-sound : (c : tie.In-Counted)
+    → (let a = c.args in
+    counts_file (a.f + 1) a.frame.now ≡ done c.in-Counted.s)
+is-sound c = counts_answer-counted _ _ (sym c.in-Counted.is ∙ c.check_counts-checked.ensures)
 
-returns : tie.Need-returns
-returns c = rw (is-refused c.before)
+returns-in-Refused : tie.Need-returns-in-Refused
+returns-in-Refused c = rw (is-refused c)
 
-returns-2 : tie.Need-returns-2
-returns-2 c = rw (is-sound c.before.before, c.next-other.ensures)
+returns-in-Counted : tie.Need-returns-in-Counted
+returns-in-Counted c = rw (is-sound c.before, c.next_other.ensures)
 
-pub check-next-spec : {M : Type 1} → statement M
-check-next-spec =
+pub check_next_spec : {M : Type 1} → statement M
+check_next_spec =
     tie.close
     (tie.spec
-    add-check-counts
-    check-counts-requires
-    enum-known-checked
-    enum-known-checked-2
-    next-other-requires
-    returns
-    returns-2)
+    overflow_add-f
+    check_counts-checked-requires
+    enum_known-checked
+    enum_known-checked-in-Counted-1
+    next_other-requires
+    returns-in-Refused
+    returns-in-Counted)

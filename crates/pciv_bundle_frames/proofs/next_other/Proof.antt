@@ -5,22 +5,22 @@ use Rattle.pciv_bundle_frames.proofs.next_other.Statement.{statement}
 use Rattle.pciv_bundle_frames.proofs.next_other.Tie as tie
 
 -- a frame below f has not n slots
-returns : tie.Need-returns
-returns c = let a = c.before.args in rw (ne_eqb a.other a.f c.if1.true)
+returns-then-other-f : tie.Need-returns-then-other-f
+returns-then-other-f c = let a = c.args in rw (ne_eqb a.other a.f c.if-other-f.true)
 
 -- frame f is the first
-returns-2 : tie.Need-returns-2
-returns-2 c =
-    let a = c.before.before.args in
-    rw (eq-eqb a.other a.f c.before.if1.false, ne_eqb a.have a.n c.if2.true)
+returns-then-have-n : tie.Need-returns-then-have-n
+returns-then-have-n c =
+    let a = c.args in
+    rw (eq-eqb a.other a.f c.if-other-f.false, ne_eqb a.have a.n c.if-have-n.true)
 
-add-result : tie.Need-overflow-add-result
-add-result c = search rules
+overflow_add-result : tie.Need-overflow_add-result
+overflow_add-result c = search rules
 
-returns-3 : tie.Need-returns-3
-returns-3 c =
-    let a = c.before.before.args in
-    rw (eq-eqb a.other a.f c.before.if1.false, eq-eqb a.have a.n c.if2.false)
+returns : tie.Need-returns
+returns c =
+    let a = c.args in
+    rw (eq-eqb a.other a.f c.if-other-f.false, eq-eqb a.have a.n c.if-have-n.false)
 
-pub next-other-spec : {M : Type 1} → statement M
-next-other-spec = tie.close (tie.spec returns returns-2 add-result returns-3)
+pub next_other_spec : {M : Type 1} → statement M
+next_other_spec = tie.close (tie.spec returns-then-other-f returns-then-have-n overflow_add-result returns)

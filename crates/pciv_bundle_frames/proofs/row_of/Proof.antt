@@ -18,101 +18,92 @@ use Rattle.pciv_bundle_frames.proofs.RowLaws.{row_at, row-filled}
 use Rattle.pciv_bundle_frames.proofs.row_of.Statement.{statement}
 use Rattle.pciv_bundle_frames.proofs.row_of.Tie as tie
 
-abbrev invariant-loop : tie.invariant-loop
-invariant-loop bundle places count n slot row₀ f₀ row f =
+abbrev invariant-loop-f : tie.invariant-loop-f
+invariant-loop-f bundle places count n slot row₀ f₀ row f =
     (f ≤ count) × Left (row_at (frames bundle) slot) (length (frames bundle)) row₀ row f
 
-abbrev decreases-loop : tie.decreases-loop
-decreases-loop bundle places count n slot row₀ f₀ row f = count - f
+abbrev decreases-loop-f : tie.decreases-loop-f
+decreases-loop-f bundle places count n slot row₀ f₀ row f = count - f
 
-loop-holds : tie.Need-loop-init invariant-loop decreases-loop
-loop-holds c = (omega arith, left-start _ _ _)
+loop-f-init : tie.Need-loop-f-init invariant-loop-f decreases-loop-f
+loop-f-init c = (omega arith, left-start _ _ _)
 
 -- frame f is there
-there : (c : tie.In-loop invariant-loop decreases-loop)
-    → (let s = c.before.before.before in c.before.loop.f < length (frames s.args.bundle.now))
-there c = let s = c.before.before.before in omega (arith, c.loop-test.true, s.requires.0.1)
+there : (c : tie.In-loop-f invariant-loop-f decreases-loop-f)
+    → (c.loop-f.f < length (frames c.args.bundle.now))
+there c = omega (arith, c.loop-f-test.true, c.requires.0.1)
 
-below : (c : tie.In-loop invariant-loop decreases-loop) → c.before.loop.f < 8
-below c = omega (arith, c.loop-test.true, c.before.before.before.requires.0.0)
+below : (c : tie.In-loop-f invariant-loop-f decreases-loop-f) → c.loop-f.f < 8
+below c = omega (arith, c.loop-f-test.true, c.requires.0.0)
 
 -- the frame at hand is frame f, and it is checked
-this : (c : tie.After-frame-at invariant-loop decreases-loop)
-    → (let l = c.before.before in
-    c.frame_at.result.now ≡ get_or (frames l.before.before.args.bundle.now) l.loop.f [])
-this c = c.frame_at.ensures
+this : (c : tie.After-frame_at-frame invariant-loop-f decreases-loop-f)
+    → (c.frame_at-frame.result.now ≡ get_or (frames c.args.bundle.now) c.loop-f.f [])
+this c = c.frame_at-frame.ensures
 
-checked : (c : tie.After-frame-at invariant-loop decreases-loop)
-    → (let b = c.frame_at.result.now in CheckedMap b c.before.before.before.before.args.n (k_field b))
+checked : (c : tie.After-frame_at-frame invariant-loop-f decreases-loop-f)
+    → (let b = c.frame_at-frame.result.now in CheckedMap b c.args.n (k_field b))
 checked c =
-    let l = c.before.before in
-    let s = l.before.before in
-    frame-checked (frames s.args.bundle.now) s.args.n s.requires.1.1 l.loop.f (there c.before) _ (this c)
+    frame-checked (frames c.args.bundle.now) c.args.n c.requires.1.1 c.loop-f.f (there c.before) _ (this c)
 
-located : (c : tie.After-get64 invariant-loop decreases-loop)
-    → (let g = c.before in
-    CheckedMap g.frame_at.result.now g.before.before.before.before.args.n c.get64.result)
-located c = rw c.get64.ensures (checked c.before)
+located : (c : tie.After-get64-k invariant-loop-f decreases-loop-f)
+    → (CheckedMap c.frame_at-frame.result.now c.args.n c.get64-k.result)
+located c = rw c.get64-k.ensures (checked c.before)
 
 -- its distance at the slot
-distance : (c : tie.After-locate invariant-loop decreases-loop)
-    → (let l = c.before.before.before.before in
-    let a = l.before.before.args in
-    c.locate.result.distance ≡ row_at (frames a.bundle.now) a.slot l.loop.f)
+distance : (c : tie.After-locate-found invariant-loop-f decreases-loop-f)
+    → (let a = c.args in
+    c.locate-found.result.distance ≡ row_at (frames a.bundle.now) a.slot c.loop-f.f)
 distance c =
-    let g = c.before.before in
-    let s = g.before.before.before.before in
     let header = (located c.before).header in
-    ap (λ (z : Located). z.distance) c.locate.ensures
-    ∙ sym (at-list _ _ _ header.n_is header.k_is s.args.slot s.requires.0.2)
-    ∙ ap (λ (b : List ℕ). at (list_of b) s.args.slot) (this g)
+    ap (λ (z : Located). z.distance) c.locate-found.ensures
+    ∙ sym (at-list _ _ _ header.n_is header.k_is c.args.slot c.requires.0.2)
+    ∙ ap (λ (b : List ℕ). at (list_of b) c.args.slot) (this c.before.before)
 
-frame-at-requires : tie.Need-frame-at-requires invariant-loop decreases-loop
-frame-at-requires c κs = (below c, c.before.before.before.requires.1.0 _ (there c))
+frame_at-frame-requires : tie.Need-frame_at-frame-requires invariant-loop-f decreases-loop-f
+frame_at-frame-requires c κs = (below c, c.requires.1.0 _ (there c))
 
-get64-requires : tie.Need-get64-requires invariant-loop decreases-loop
-get64-requires c κs = omega (arith, checked-length _ _ _ (checked c))
+get64-k-requires : tie.Need-get64-k-requires invariant-loop-f decreases-loop-f
+get64-k-requires c κs = omega (arith, checked-length _ _ _ (checked c))
 
-locate-requires : tie.Need-locate-requires invariant-loop decreases-loop
-locate-requires c κs =
-    (located c, c.before.before.before.before.before.requires.0.2)
+locate-found-requires : tie.Need-locate-found-requires invariant-loop-f decreases-loop-f
+locate-found-requires c κs =
+    (located c, c.requires.0.2)
 
-mul-row : tie.Need-overflow-mul-row invariant-loop decreases-loop
-mul-row c = omega (arith, below c.before.before.before)
+offset_bounds-row-f : tie.Need-offset_bounds-row-f invariant-loop-f decreases-loop-f
+offset_bounds-row-f c = omega (arith, below c.before.before.before)
 
-array-write-row : tie.Need-array-write-row invariant-loop decreases-loop
-array-write-row c = below c.before.before.before
+bounds-row-f : tie.Need-bounds-row-f invariant-loop-f decreases-loop-f
+bounds-row-f c = below c.before.before.before
 
-add-f : tie.Need-overflow-add-f invariant-loop decreases-loop
-add-f c = omega (arith, below c.before.before.before)
+overflow_add-f : tie.Need-overflow_add-f invariant-loop-f decreases-loop-f
+overflow_add-f c = omega (arith, below c.before.before.before)
 
-loop-less : tie.Need-loop-smaller invariant-loop decreases-loop
-loop-less c = omega arith
+loop-f-smaller : tie.Need-loop-f-smaller invariant-loop-f decreases-loop-f
+loop-f-smaller c = omega arith
 
-loop-again : tie.Need-loop-preserved invariant-loop decreases-loop
-loop-again c =
-    let l = c.before.before.before in
-    (omega (arith, l.loop-test.true), left-more l.before.loop.invariant.1 _ (there l) (distance c))
+loop-f-preserved : tie.Need-loop-f-preserved invariant-loop-f decreases-loop-f
+loop-f-preserved c =
+    (omega (arith, c.loop-f-test.true), left-more c.loop-f.invariant.1 _ (there c.before.before.before) (distance c))
 
-returns : tie.Need-returns invariant-loop decreases-loop
+returns : tie.Need-returns invariant-loop-f decreases-loop-f
 returns c =
-    let s = c.before.before.before in
-    row-filled (frames s.args.bundle.now) s.args.slot _ (omega (arith, s.requires.0.0, s.requires.0.1))
-    (left_end c.before.loop.invariant.1 (omega (arith, c.loop-test.false, s.requires.0.1)))
+    row-filled (frames c.args.bundle.now) c.args.slot _ (omega (arith, c.requires.0.0, c.requires.0.1))
+    (left_end c.loop-f.invariant.1 (omega (arith, c.loop-f-test.false, c.requires.0.1)))
 
-pub row-of-spec : {M : Type 1} → statement M
-row-of-spec =
+pub row_of_spec : {M : Type 1} → statement M
+row_of_spec =
     tie.close
     (tie.spec
-    invariant-loop
-    decreases-loop
-    loop-holds
-    frame-at-requires
-    get64-requires
-    locate-requires
-    mul-row
-    array-write-row
-    add-f
-    loop-less
-    loop-again
+    invariant-loop-f
+    decreases-loop-f
+    loop-f-init
+    frame_at-frame-requires
+    get64-k-requires
+    locate-found-requires
+    offset_bounds-row-f
+    bounds-row-f
+    overflow_add-f
+    loop-f-smaller
+    loop-f-preserved
     returns)

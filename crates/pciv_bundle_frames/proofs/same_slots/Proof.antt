@@ -4,19 +4,19 @@ use borrow.Author.Rules.{rules}
 use Rattle.pciv_bundle_frames.proofs.same_slots.Statement.{statement}
 use Rattle.pciv_bundle_frames.proofs.same_slots.Tie as tie
 
-add-refuse-number : tie.Need-overflow-add-refuse-number
-add-refuse-number c = search rules
+overflow_add-other : tie.Need-overflow_add-other
+overflow_add-other c = search rules
 
-refuse-number-requires : tie.Need-refuse-number-requires
-refuse-number-requires c κs = search rules
+refuse_number-requires : tie.Need-refuse_number-requires
+refuse_number-requires c κs = search rules
+
+returns-then-other-count : tie.Need-returns-then-other-count
+returns-then-other-count c =
+    let a = c.args in
+    rw (lt-ltb a.other a.count c.if-other-count.true) c.refuse_number.ensures
 
 returns : tie.Need-returns
-returns c =
-    let a = c.before.before.args in
-    rw (lt-ltb a.other a.count c.before.if1.true) c.refuse-number.ensures
+returns c = rw (le-ltb c.args.other c.args.count c.if-other-count.false)
 
-returns-2 : tie.Need-returns-2
-returns-2 c = rw (le-ltb c.before.args.other c.before.args.count c.if1.false)
-
-pub same-slots-spec : {M : Type 1} → statement M
-same-slots-spec = tie.close (tie.spec add-refuse-number refuse-number-requires returns returns-2)
+pub same_slots_spec : {M : Type 1} → statement M
+same_slots_spec = tie.close (tie.spec overflow_add-other refuse_number-requires returns-then-other-count returns)

@@ -6,26 +6,21 @@ use Rattle.pciv_bundle_nearest.proofs.PassesLaws.{nearest-passes}
 use Rattle.pciv_bundle_nearest.proofs.nearest_into.Statement.{statement}
 use Rattle.pciv_bundle_nearest.proofs.nearest_into.Tie as tie
 
-nearest-bytes-requires : tie.Need-nearest-bytes-requires
-nearest-bytes-requires c κs = search rules
+nearest_bytes-requires : tie.Need-nearest_bytes-requires
+nearest_bytes-requires c κs = search rules
 
-lower-all-requires : tie.Need-lower-all-requires
-lower-all-requires c κs = search rules
+lower_all-requires : tie.Need-lower_all-requires
+lower_all-requires c κs = search rules
 
-same_length : tie.Need-same-length
-same_length c = search rules
+shape_of-out : tie.Need-shape_of-out
+shape_of-out c = search rules
 
 returns : tie.Need-returns
 returns c =
-    let entries = c.before.before in
-    let bytes = entries.before.before.before.before in
-    let known = bytes.before.before.before in
-    let s = known.before in
-    let a = s.args in
-    nearest-passes (frames a.bundle.now) a.n s.requires.1.1
-    (frames-bytes a.bundle.now (λ i. (known.shared-slice-known.given i).fits))
-    a.out.now _ _ s.requires.0.2 bytes.nearest-bytes.ensures entries.lower-all.ensures
+    let a = c.args in
+    nearest-passes (frames a.bundle.now) a.n c.requires.1.1
+    (frames-bytes a.bundle.now (λ i. (c.shared_slice_known-1.given i).fits))
+    a.out.now _ _ c.requires.0.2 c.nearest_bytes.ensures c.lower_all.ensures
 
-pub nearest-into-spec : {M : Type 1} → statement M
-nearest-into-spec =
-    tie.close (tie.spec nearest-bytes-requires lower-all-requires same_length returns)
+pub nearest_into_spec : {M : Type 1} → statement M
+nearest_into_spec = tie.close (tie.spec nearest_bytes-requires lower_all-requires shape_of-out returns)

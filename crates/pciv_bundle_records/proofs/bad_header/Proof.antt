@@ -14,65 +14,61 @@ use borrow.Author.Rules.{rules}
 use Rattle.pciv_bundle_records.proofs.bad_header.Statement.{statement}
 use Rattle.pciv_bundle_records.proofs.bad_header.Tie as tie
 
-abbrev bundle : tie.After-get162 → List ℕ
-bundle g = g.before.before.before.before.before.args.bundle.now
+abbrev bundle : tie.After-get16-count → List ℕ
+bundle g = g.args.bundle.now
 
 -- there are 12 bytes
-long : (g : tie.After-get162) → ltb (length (bundle g)) 12 ≡ false
-long g = le-ltb (length (bundle g)) 12 (omega (arith, g.before.before.before.if1.false))
+long : (g : tie.After-get16-count) → ltb (length (bundle g)) 12 ≡ false
+long g = le-ltb (length (bundle g)) 12 (omega (arith, g.if-bundle-lt-HEADER_RECORD_LEN.false))
+
+returns-then-bundle-lt-HEADER_RECORD_LEN : tie.Need-returns-then-bundle-lt-HEADER_RECORD_LEN
+returns-then-bundle-lt-HEADER_RECORD_LEN c = let b = c.args.bundle.now in rw (lt-ltb (length b) 12 c.if-bundle-lt-HEADER_RECORD_LEN.true)
+
+get32-len-requires : tie.Need-get32-len-requires
+get32-len-requires c κs = search rules
+
+overflow_cast-len : tie.Need-overflow_cast-len
+overflow_cast-len c = search rules
+
+get16-kind-requires : tie.Need-get16-kind-requires
+get16-kind-requires c κs = search rules
+
+get16-count-requires : tie.Need-get16-count-requires
+get16-count-requires c κs = search rules
+
+returns-then-kind-ne-HEADER_KIND : tie.Need-returns-then-kind-ne-HEADER_KIND
+returns-then-kind-ne-HEADER_KIND c =
+    rw (long c.before, bad_kind (bundle c.before) (λ e. c.if-kind-ne-HEADER_KIND.true (c.get16-kind.ensures ∙ e)))
+
+overflow_sub-t-5 : tie.Need-overflow_sub-t-5
+overflow_sub-t-5 c = search rules
+
+returns-then-len : tie.Need-returns-then-len
+returns-then-len c =
+    rw (long c.before.before, bad-len (bundle c.before.before) (λ e. c.if-len.true (c.get32-len.ensures ∙ e)))
+
+returns-then-count-lt1 : tie.Need-returns-then-count-lt1
+returns-then-count-lt1 c =
+    rw (long c.before.before.before, bad-none (bundle c.before.before.before) (omega (arith, c.get16-count.ensures, c.if-count-lt1.true)))
 
 returns : tie.Need-returns
-returns c = let b = c.before.before.args.bundle.now in rw (lt-ltb (length b) 12 c.if1.true)
+returns c =
+    let kind : get 2 (bundle c.before.before.before) 4 ≡ 0 = omega (arith, c.get16-kind.ensures, c.if-kind-ne-HEADER_KIND.false) in
+    let len : get 4 (bundle c.before.before.before) 0 ≡ 8 = omega (arith, c.get32-len.ensures, c.if-len.false) in
+    let some : 1 ≤ frame_count (bundle c.before.before.before) = omega (arith, c.get16-count.ensures, c.if-count-lt1.false) in
+    rw (long c.before.before.before) (ap (ltb 8) c.get16-count.ensures ∙ sym (header-count (bundle c.before.before.before) kind len some))
 
-get32-requires : tie.Need-get32-requires
-get32-requires c κs = search rules
-
-cast-len : tie.Need-overflow-cast-len
-cast-len c = search rules
-
-get16-requires : tie.Need-get16-requires
-get16-requires c κs = search rules
-
-get16-requires-2 : tie.Need-get16-requires-2
-get16-requires-2 c κs = search rules
-
-returns-2 : tie.Need-returns-2
-returns-2 c =
-    let g = c.before in
-    rw (long g, bad_kind (bundle g) (λ e. c.if2.true (g.before.get16.ensures ∙ e)))
-
-sub-if3 : tie.Need-overflow-sub-if3
-sub-if3 c = search rules
-
-returns-3 : tie.Need-returns-3
-returns-3 c =
-    let g = c.before.before in
-    rw (long g, bad-len (bundle g) (λ e. c.if3.true (g.before.before.get32.ensures ∙ e)))
-
-returns-4 : tie.Need-returns-4
-returns-4 c =
-    let g = c.before.before.before in
-    rw (long g, bad-none (bundle g) (omega (arith, g.get162.ensures, c.if4.true)))
-
-returns-5 : tie.Need-returns-5
-returns-5 c =
-    let g = c.before.before.before in
-    let kind : get 2 (bundle g) 4 ≡ 0 = omega (arith, g.before.get16.ensures, c.before.before.if2.false) in
-    let len : get 4 (bundle g) 0 ≡ 8 = omega (arith, g.before.before.get32.ensures, c.before.if3.false) in
-    let some : 1 ≤ frame_count (bundle g) = omega (arith, g.get162.ensures, c.if4.false) in
-    rw (long g) (ap (ltb 8) g.get162.ensures ∙ sym (header-count (bundle g) kind len some))
-
-pub bad-header-spec : {M : Type 1} → statement M
-bad-header-spec =
+pub bad_header_spec : {M : Type 1} → statement M
+bad_header_spec =
     tie.close
     (tie.spec
-    returns
-    get32-requires
-    cast-len
-    get16-requires
-    get16-requires-2
-    returns-2
-    sub-if3
-    returns-3
-    returns-4
-    returns-5)
+    returns-then-bundle-lt-HEADER_RECORD_LEN
+    get32-len-requires
+    overflow_cast-len
+    get16-kind-requires
+    get16-count-requires
+    returns-then-kind-ne-HEADER_KIND
+    overflow_sub-t-5
+    returns-then-len
+    returns-then-count-lt1
+    returns)

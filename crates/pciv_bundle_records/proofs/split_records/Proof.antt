@@ -20,220 +20,209 @@ use borrow.Author.Rules.{rules}
 use Rattle.pciv_bundle_records.proofs.split_records.Statement.{statement}
 use Rattle.pciv_bundle_records.proofs.split_records.Tie as tie
 
-abbrev invariant-loop : tie.invariant-loop
-invariant-loop bundle slots count starts₀ ends₀ found₀ number₀ at₀ starts ends found number at =
+abbrev invariant-loop-at : tie.invariant-loop-at
+invariant-loop-at bundle slots count starts₀ ends₀ found₀ number₀ at₀ starts ends found number at =
     Splitting bundle starts ends found number at
 
-abbrev decreases-loop : tie.decreases-loop
-decreases-loop bundle slots count starts₀ ends₀ found₀ number₀ at₀ starts ends found number at = length bundle - at
+abbrev decreases-loop-at : tie.decreases-loop-at
+decreases-loop-at bundle slots count starts₀ ends₀ found₀ number₀ at₀ starts ends found number at = length bundle - at
 
 -- the bundle, past the test of record 0, and in the loop
-abbrev bundle : tie.Else1 invariant-loop decreases-loop → List ℕ
-bundle p = p.before.before.before.args.bundle.now
+abbrev bundle : tie.Else-bad_header invariant-loop-at decreases-loop-at → List ℕ
+bundle p = p.args.bundle.now
 
-abbrev passed : tie.At-loop invariant-loop decreases-loop → tie.Else1 invariant-loop decreases-loop
+abbrev passed : tie.At-loop-at invariant-loop-at decreases-loop-at → tie.Else-bad_header invariant-loop-at decreases-loop-at
 passed l = l.before.before.before
 
-abbrev at-loop : tie.Else2 invariant-loop decreases-loop → tie.At-loop invariant-loop decreases-loop
+abbrev at-loop : tie.Else-wrong_record invariant-loop-at decreases-loop-at → tie.At-loop-at invariant-loop-at decreases-loop-at
 at-loop q = q.before.before.before
 
 -- record 0 is not at fault
-header : (p : tie.Else1 invariant-loop decreases-loop) → (ltb (length (bundle p)) 12 ≡ false) × (bad_header (bundle p) ≡ false)
-header p = or-false (ltb (length (bundle p)) 12) (bad_header (bundle p)) (sym p.before.bad-header.ensures ∙ p.if1.false)
+header : (p : tie.Else-bad_header invariant-loop-at decreases-loop-at) → (ltb (length (bundle p)) 12 ≡ false) × (bad_header (bundle p) ≡ false)
+header p = or-false (ltb (length (bundle p)) 12) (bad_header (bundle p)) (sym p.bad_header.ensures ∙ p.if-bad_header.false)
 
-long : (p : tie.Else1 invariant-loop decreases-loop) → 12 ≤ length (bundle p)
+long : (p : tie.Else-bad_header invariant-loop-at decreases-loop-at) → 12 ≤ length (bundle p)
 long p = ltb-false _ _ (header p).0
 
 -- what the test of a record tells
-told : (w : tie.After-wrong-record invariant-loop decreases-loop)
-    → (let l = w.before.before in
-    let b = bundle (passed l) in
-    w.wrong-record.result ≡ wrong_record b l.loop.at l.loop.found (frame_count b))
+told : (w : tie.After-wrong_record invariant-loop-at decreases-loop-at)
+    → (let b = bundle (passed w.before.before) in
+    w.wrong_record.result ≡ wrong_record b w.loop-at.at w.loop-at.found (frame_count b))
 told w =
-    let l = w.before.before in
-    w.wrong-record.ensures ∙ ap (wrong_record (bundle (passed l)) l.loop.at l.loop.found) l.before.get16.ensures
+    w.wrong_record.ensures ∙ ap (wrong_record (bundle (passed w.before.before)) w.loop-at.at w.loop-at.found) w.get16-count.ensures
 
 -- it is not at fault
-right : (q : tie.Else2 invariant-loop decreases-loop)
+right : (q : tie.Else-wrong_record invariant-loop-at decreases-loop-at)
     → (let l = at-loop q in
     let b = bundle (passed l) in
-    wrong_record b l.loop.at l.loop.found (frame_count b) ≡ false)
-right q = sym (told q.before) ∙ q.if2.false
+    wrong_record b l.loop-at.at l.loop-at.found (frame_count b) ≡ false)
+right q = sym (told q.before) ∙ q.if-wrong_record.false
 
-says : (q : tie.Else2 invariant-loop decreases-loop)
+says : (q : tie.Else-wrong_record invariant-loop-at decreases-loop-at)
     → (let l = at-loop q in
     let b = bundle (passed l) in
-    Later b l.loop.at l.loop.found (frame_count b))
+    Later b l.loop-at.at l.loop-at.found (frame_count b))
 says q = wrong-right _ _ _ _ (right q)
 
 -- where the next record starts
-next : (n : tie.After-get322 invariant-loop decreases-loop)
+next : (n : tie.After-get32 invariant-loop-at decreases-loop-at)
     → (let l = at-loop n.before in
-    l.loop.at + 4 + n.get322.result ≡ behind_record (bundle (passed l)) l.loop.at)
-next n = ap (λ (x : ℕ). (at-loop n.before).loop.at + 4 + x) n.get322.ensures
+    l.loop-at.at + 4 + n.get32.result ≡ behind_record (bundle (passed l)) l.loop-at.at)
+next n = ap (λ (x : ℕ). (at-loop n.before).loop-at.at + 4 + x) n.get32.ensures
 
 -- a frame has a place
-few : (t : tie.Then3 invariant-loop decreases-loop) → (at-loop t.before.before.before).loop.found < 8
+few : (t : tie.Then-get16-eq-FRAME_KIND invariant-loop-at decreases-loop-at) → (at-loop t.before.before.before).loop-at.found < 8
 few t =
-    let q = t.before.before.before in
-    let room = (says q).room (sym t.before.get162.ensures ∙ t.if3.true) in
-    omega (arith, room, (splitting-header (at-loop q).loop.invariant).few)
+    let room = (says t.before.before.before).room (sym t.get16.ensures ∙ t.if-get16-eq-FRAME_KIND.true) in
+    omega (arith, room, (splitting-header (at-loop t.before.before.before).loop-at.invariant).few)
 
 -- the two counts
-abbrev counted : tie.At-loop invariant-loop decreases-loop → BundleCounts
-counted l = record { slots = l.before.before.get32.result; frames = l.before.get16.result }
+abbrev counted : tie.At-loop-at invariant-loop-at decreases-loop-at → BundleCounts
+counted l = record { slots = l.get32-slots.result; frames = l.get16-count.result }
 
-bad-header-requires : tie.Need-bad-header-requires invariant-loop decreases-loop
-bad-header-requires c κs = search rules
+bad_header-requires : tie.Need-bad_header-requires invariant-loop-at decreases-loop-at
+bad_header-requires c κs = search rules
 
-refuse-split-requires : tie.Need-refuse-split-requires invariant-loop decreases-loop
-refuse-split-requires c κs = search rules
+refuse_split-requires : tie.Need-refuse_split-requires invariant-loop-at decreases-loop-at
+refuse_split-requires c κs = search rules
 
 -- record 0 is at fault
-returns : tie.Need-returns invariant-loop decreases-loop
-returns c =
-    let h = c.before.before in
-    split-refused h.before.before.args.bundle.now c.refuse-split.result 0
-    (records-header _ (sym h.bad-header.ensures ∙ c.before.if1.true)) c.refuse-split.ensures
+returns-then-bad_header : tie.Need-returns-then-bad_header invariant-loop-at decreases-loop-at
+returns-then-bad_header c =
+    split-refused c.args.bundle.now c.refuse_split.result 0
+    (records-header _ (sym c.bad_header.ensures ∙ c.if-bad_header.true)) c.refuse_split.ensures
 
-get32-requires : tie.Need-get32-requires invariant-loop decreases-loop
-get32-requires c κs = omega (arith, long c)
+get32-slots-requires : tie.Need-get32-slots-requires invariant-loop-at decreases-loop-at
+get32-slots-requires c κs = omega (arith, long c)
 
-cast-slots : tie.Need-overflow-cast-slots invariant-loop decreases-loop
-cast-slots c = search rules
+overflow_cast-slots : tie.Need-overflow_cast-slots invariant-loop-at decreases-loop-at
+overflow_cast-slots c = search rules
 
-get16-requires : tie.Need-get16-requires invariant-loop decreases-loop
-get16-requires c κs = omega (arith, long c.before)
+get16-count-requires : tie.Need-get16-count-requires invariant-loop-at decreases-loop-at
+get16-count-requires c κs = omega (arith, long c.before)
 
-loop-holds : tie.Need-loop-init invariant-loop decreases-loop
-loop-holds c =
-    let p = c.before.before in splitting-start (bundle p) _ _ refl refl (long p) (header p).1
+loop-at-init : tie.Need-loop-at-init invariant-loop-at decreases-loop-at
+loop-at-init c =
+    splitting-start (bundle c.before.before) _ _ refl refl (long c.before.before) (header c.before.before).1
 
-add-number : tie.Need-overflow-add-number invariant-loop decreases-loop
-add-number c =
-    let l = c.before in
-    omega (arith, record_at-low (bundle (passed l)) l.loop.number, l.loop.invariant.here, l.loop.invariant.inside)
+overflow_add-number : tie.Need-overflow_add-number invariant-loop-at decreases-loop-at
+overflow_add-number c =
+    omega (arith, record_at-low (bundle (passed c.before)) c.loop-at.number, c.loop-at.invariant.here, c.loop-at.invariant.inside)
 
-wrong-record-requires : tie.Need-wrong-record-requires invariant-loop decreases-loop
-wrong-record-requires c κs = search rules
+wrong_record-requires : tie.Need-wrong_record-requires invariant-loop-at decreases-loop-at
+wrong_record-requires c κs = search rules
 
-refuse-split-requires-2 : tie.Need-refuse-split-requires-2 invariant-loop decreases-loop
-refuse-split-requires-2 c κs = search rules
+refuse_split-requires-then-wrong_record : tie.Need-refuse_split-requires-then-wrong_record invariant-loop-at decreases-loop-at
+refuse_split-requires-then-wrong_record c κs = search rules
 
 -- a later record is
-returns-2 : tie.Need-returns-2 invariant-loop decreases-loop
-returns-2 c =
-    let w = c.before.before in
-    let l = w.before.before in
-    split-refused (bundle (passed l)) c.refuse-split2.result l.loop.number
-    (splitting-refused l.loop.invariant (omega arith) (sym (told w) ∙ c.before.if2.true))
-    c.refuse-split2.ensures
+returns-then-wrong_record : tie.Need-returns-then-wrong_record invariant-loop-at decreases-loop-at
+returns-then-wrong_record c =
+    split-refused (bundle (passed c.before.before.before.before)) c.refuse_split-then-wrong_record.result c.loop-at.number
+    (splitting-refused c.loop-at.invariant (omega arith) (sym (told c.before.before) ∙ c.if-wrong_record.true))
+    c.refuse_split-then-wrong_record.ensures
 
-add_at : tie.Need-overflow-add-at invariant-loop decreases-loop
-add_at c = search rules
+overflow_add-at : tie.Need-overflow_add-at invariant-loop-at decreases-loop-at
+overflow_add-at c = search rules
 
-get32-requires-2 : tie.Need-get32-requires-2 invariant-loop decreases-loop
-get32-requires-2 c κs = omega (arith, (says c).inside)
+get32-requires : tie.Need-get32-requires invariant-loop-at decreases-loop-at
+get32-requires c κs = omega (arith, (says c).inside)
 
-cast-at : tie.Need-overflow-cast-at invariant-loop decreases-loop
-cast-at c = search rules
+overflow_cast-at : tie.Need-overflow_cast-at invariant-loop-at decreases-loop-at
+overflow_cast-at c = search rules
 
-add-at-2 : tie.Need-overflow-add-at-2 invariant-loop decreases-loop
-add-at-2 c = search rules
+overflow_add-at-in-loop-at : tie.Need-overflow_add-at-in-loop-at invariant-loop-at decreases-loop-at
+overflow_add-at-in-loop-at c = search rules
 
-add-get16 : tie.Need-overflow-add-get16 invariant-loop decreases-loop
-add-get16 c = search rules
+overflow_add-start : tie.Need-overflow_add-start invariant-loop-at decreases-loop-at
+overflow_add-start c = search rules
 
-get16-requires-2 : tie.Need-get16-requires-2 invariant-loop decreases-loop
-get16-requires-2 c κs = let q = c.before in omega (arith, (says q).inside, (says q).long)
+get16-requires : tie.Need-get16-requires invariant-loop-at decreases-loop-at
+get16-requires c κs = omega (arith, (says c.before).inside, (says c.before).long)
 
-add-starts : tie.Need-overflow-add-starts invariant-loop decreases-loop
-add-starts c = search rules
+overflow_add-starts : tie.Need-overflow_add-starts invariant-loop-at decreases-loop-at
+overflow_add-starts c = search rules
 
-mul-starts : tie.Need-overflow-mul-starts invariant-loop decreases-loop
-mul-starts c = omega (arith, few c)
+offset_bounds-starts-found : tie.Need-offset_bounds-starts-found invariant-loop-at decreases-loop-at
+offset_bounds-starts-found c = omega (arith, few c)
 
-array-write-starts : tie.Need-array-write-starts invariant-loop decreases-loop
-array-write-starts c = omega (arith, few c)
+bounds-starts-found : tie.Need-bounds-starts-found invariant-loop-at decreases-loop-at
+bounds-starts-found c = omega (arith, few c)
 
-mul-ends : tie.Need-overflow-mul-ends invariant-loop decreases-loop
-mul-ends c = omega (arith, few c)
+offset_bounds-ends-found : tie.Need-offset_bounds-ends-found invariant-loop-at decreases-loop-at
+offset_bounds-ends-found c = omega (arith, few c)
 
-array-write-ends : tie.Need-array-write-ends invariant-loop decreases-loop
-array-write-ends c = omega (arith, few c)
+bounds-ends-found : tie.Need-bounds-ends-found invariant-loop-at decreases-loop-at
+bounds-ends-found c = omega (arith, few c)
 
-add-found : tie.Need-overflow-add-found invariant-loop decreases-loop
-add-found c = omega (arith, few c)
+overflow_add-found : tie.Need-overflow_add-found invariant-loop-at decreases-loop-at
+overflow_add-found c = omega (arith, few c)
 
-loop-less : tie.Need-loop-smaller invariant-loop decreases-loop
-loop-less c = search rules
+loop-at-smaller-then-get16-eq-FRAME_KIND : tie.Need-loop-at-smaller-then-get16-eq-FRAME_KIND invariant-loop-at decreases-loop-at
+loop-at-smaller-then-get16-eq-FRAME_KIND c = search rules
 
-loop-again : tie.Need-loop-preserved invariant-loop decreases-loop
-loop-again c =
-    let q = c.before.before.before in
-    splitting-frame (at-loop q).loop.invariant (right q) _ (next c.before.before) (few c)
-    (sym c.before.get162.ensures ∙ c.if3.true)
+loop-at-preserved-then-get16-eq-FRAME_KIND : tie.Need-loop-at-preserved-then-get16-eq-FRAME_KIND invariant-loop-at decreases-loop-at
+loop-at-preserved-then-get16-eq-FRAME_KIND c =
+    splitting-frame (at-loop c.before.before.before).loop-at.invariant (right c.before.before.before) _ (next c.before.before) (few c)
+    (sym c.get16.ensures ∙ c.if-get16-eq-FRAME_KIND.true)
 
-loop-less-2 : tie.Need-loop-smaller-2 invariant-loop decreases-loop
-loop-less-2 c = search rules
+loop-at-smaller : tie.Need-loop-at-smaller invariant-loop-at decreases-loop-at
+loop-at-smaller c = search rules
 
-loop-again-2 : tie.Need-loop-preserved-2 invariant-loop decreases-loop
-loop-again-2 c =
-    let q = c.before.before.before in
-    splitting-other (at-loop q).loop.invariant (right q) _ (next c.before.before)
-    (λ e. c.if3.false (c.before.get162.ensures ∙ e))
+loop-at-preserved : tie.Need-loop-at-preserved invariant-loop-at decreases-loop-at
+loop-at-preserved c =
+    splitting-other (at-loop c.before.before.before).loop-at.invariant (right c.before.before.before) _ (next c.before.before)
+    (λ e. c.if-get16-eq-FRAME_KIND.false (c.get16.ensures ∙ e))
 
-refuse-split-requires-3 : tie.Need-refuse-split-requires-3 invariant-loop decreases-loop
-refuse-split-requires-3 c κs = search rules
+refuse_split-requires-then-found-count : tie.Need-refuse_split-requires-then-found-count invariant-loop-at decreases-loop-at
+refuse_split-requires-then-found-count c κs = search rules
 
 -- frames are missing
-returns-3 : tie.Need-returns-3 invariant-loop decreases-loop
-returns-3 c =
-    let l = c.before.before.before in
-    split-refused (bundle (passed l)) c.refuse-split3.result l.loop.number
-    (splitting-missing l.loop.invariant (omega arith) (omega (arith, l.before.get16.ensures))) c.refuse-split3.ensures
+returns-then-found-count : tie.Need-returns-then-found-count invariant-loop-at decreases-loop-at
+returns-then-found-count c =
+    split-refused (bundle (passed c.before.before.before)) c.refuse_split-then-found-count.result c.loop-at.number
+    (splitting-missing c.loop-at.invariant (omega arith) (omega (arith, c.get16-count.ensures))) c.refuse_split-then-found-count.ensures
 
-returns-4 : tie.Need-returns-4 invariant-loop decreases-loop
-returns-4 c =
-    let l = c.before.before in
-    let e = splitting-done l.loop.invariant (omega arith) (omega (arith, l.before.get16.ensures)) in
-    let counts : counted l ≡ counts_in (bundle (passed l)) =
-    ap₂ (λ (n k : ℕ). record { slots = n; frames = k }) l.before.before.get32.ensures l.before.get16.ensures in
-    (ap InBundle.Counted counts ∙ ap bundle_answer (sym e), λ d accepted. splitting-placed l.loop.invariant (omega arith))
+returns : tie.Need-returns invariant-loop-at decreases-loop-at
+returns c =
+    let e = splitting-done c.loop-at.invariant (omega arith) (omega (arith, c.get16-count.ensures)) in
+    let counts : counted c.before.before ≡ counts_in (bundle (passed c.before.before)) =
+    ap₂ (λ (n k : ℕ). record { slots = n; frames = k }) c.get32-slots.ensures c.get16-count.ensures in
+    (ap InBundle.Counted counts ∙ ap bundle_answer (sym e), λ d accepted. splitting-placed c.loop-at.invariant (omega arith))
 
-pub split-records-spec : {M : Type 1} → statement M
-split-records-spec =
+pub split_records_spec : {M : Type 1} → statement M
+split_records_spec =
     tie.close
     (tie.spec
-    invariant-loop
-    decreases-loop
-    bad-header-requires
-    refuse-split-requires
-    returns
+    invariant-loop-at
+    decreases-loop-at
+    bad_header-requires
+    refuse_split-requires
+    returns-then-bad_header
+    get32-slots-requires
+    overflow_cast-slots
+    get16-count-requires
+    loop-at-init
+    overflow_add-number
+    wrong_record-requires
+    refuse_split-requires-then-wrong_record
+    returns-then-wrong_record
+    overflow_add-at
     get32-requires
-    cast-slots
+    overflow_cast-at
+    overflow_add-at-in-loop-at
+    overflow_add-start
     get16-requires
-    loop-holds
-    add-number
-    wrong-record-requires
-    refuse-split-requires-2
-    returns-2
-    add_at
-    get32-requires-2
-    cast-at
-    add-at-2
-    add-get16
-    get16-requires-2
-    add-starts
-    mul-starts
-    array-write-starts
-    mul-ends
-    array-write-ends
-    add-found
-    loop-less
-    loop-again
-    loop-less-2
-    loop-again-2
-    refuse-split-requires-3
-    returns-3
-    returns-4)
+    overflow_add-starts
+    offset_bounds-starts-found
+    bounds-starts-found
+    offset_bounds-ends-found
+    bounds-ends-found
+    overflow_add-found
+    loop-at-smaller-then-get16-eq-FRAME_KIND
+    loop-at-preserved-then-get16-eq-FRAME_KIND
+    loop-at-smaller
+    loop-at-preserved
+    refuse_split-requires-then-found-count
+    returns-then-found-count
+    returns)

@@ -12,79 +12,77 @@ use borrow.Author.Rules.{rules}
 use Rattle.pciv_bundle_records.proofs.wrong_record.Statement.{statement}
 use Rattle.pciv_bundle_records.proofs.wrong_record.Tie as tie
 
-abbrev start : tie.Else4 → tie.Start
+abbrev start : tie.Else-kind-eq-HEADER_KIND → tie.Start
 start p = p.before.before.before.before.before.before.before
 
-abbrev bundle : tie.Else4 → List ℕ
+abbrev bundle : tie.Else-kind-eq-HEADER_KIND → List ℕ
 bundle p = (start p).args.bundle.now
 
 -- the record ends inside, its length counts its kind, and it is no second header
-inside : (p : tie.Else4) → behind_record (bundle p) (start p).args.at ≤ length (bundle p)
-inside p = omega (arith, p.before.before.before.before.get32.ensures, p.before.before.if2.false)
+inside : (p : tie.Else-kind-eq-HEADER_KIND) → behind_record (bundle p) (start p).args.at ≤ length (bundle p)
+inside p = omega (arith, p.get32-len.ensures, p.if-left-len.false)
 
-long : (p : tie.Else4) → 2 ≤ get 4 (bundle p) (start p).args.at
-long p = omega (arith, p.before.before.before.before.get32.ensures, p.before.if3.false)
+long : (p : tie.Else-kind-eq-HEADER_KIND) → 2 ≤ get 4 (bundle p) (start p).args.at
+long p = omega (arith, p.get32-len.ensures, p.if-len-lt-KIND_LEN.false)
 
-later : (p : tie.Else4) → get 2 (bundle p) ((start p).args.at + 4) ≡ 0 → ⊥
-later p e = omega (arith, p.before.before.before.get16.ensures, p.if4.false)
+later : (p : tie.Else-kind-eq-HEADER_KIND) → get 2 (bundle p) ((start p).args.at + 4) ≡ 0 → ⊥
+later p e = omega (arith, p.get16-kind.ensures, p.if-kind-eq-HEADER_KIND.false)
 
-sub-left : tie.Need-overflow-sub-left
-sub-left c = search rules
+overflow_sub-left : tie.Need-overflow_sub-left
+overflow_sub-left c = search rules
+
+returns-then-left-lt-PREFIX_LEN : tie.Need-returns-then-left-lt-PREFIX_LEN
+returns-then-left-lt-PREFIX_LEN c = sym (wrong-prefix _ _ _ _ (omega arith))
+
+get32-len-requires : tie.Need-get32-len-requires
+get32-len-requires c κs = search rules
+
+overflow_cast-len : tie.Need-overflow_cast-len
+overflow_cast-len c = search rules
+
+overflow_add-at : tie.Need-overflow_add-at
+overflow_add-at c = search rules
+
+get16-kind-requires : tie.Need-get16-kind-requires
+get16-kind-requires c κs = search rules
+
+overflow_sub-left-2 : tie.Need-overflow_sub-left-2
+overflow_sub-left-2 c = search rules
+
+returns-then-left-len : tie.Need-returns-then-left-len
+returns-then-left-len c = sym (wrong-cut _ _ _ _ (omega (arith, c.get32-len.ensures)))
+
+returns-then-len-lt-KIND_LEN : tie.Need-returns-then-len-lt-KIND_LEN
+returns-then-len-lt-KIND_LEN c = sym (wrong-short _ _ _ _ (omega (arith, c.get32-len.ensures)))
+
+returns-then-kind-eq-HEADER_KIND : tie.Need-returns-then-kind-eq-HEADER_KIND
+returns-then-kind-eq-HEADER_KIND c = sym (wrong-kind _ _ _ _ (omega (arith, c.get16-kind.ensures, c.if-kind-eq-HEADER_KIND.true)))
+
+returns-then-kind-ne-FRAME_KIND : tie.Need-returns-then-kind-ne-FRAME_KIND
+returns-then-kind-ne-FRAME_KIND c =
+    sym
+    (wrong-other _ _ _ _ (inside c.before) (long c.before) (later c.before)
+    (λ e. c.if-kind-ne-FRAME_KIND.true (c.get16-kind.ensures ∙ e)))
 
 returns : tie.Need-returns
-returns c = sym (wrong-prefix _ _ _ _ (omega arith))
-
-get32-requires : tie.Need-get32-requires
-get32-requires c κs = search rules
-
-cast-len : tie.Need-overflow-cast-len
-cast-len c = search rules
-
-add-get16 : tie.Need-overflow-add-get16
-add-get16 c = search rules
-
-get16-requires : tie.Need-get16-requires
-get16-requires c κs = search rules
-
-sub-if2 : tie.Need-overflow-sub-if2
-sub-if2 c = search rules
-
-returns-2 : tie.Need-returns-2
-returns-2 c = sym (wrong-cut _ _ _ _ (omega (arith, c.before.before.get32.ensures)))
-
-returns-3 : tie.Need-returns-3
-returns-3 c = sym (wrong-short _ _ _ _ (omega (arith, c.before.before.before.get32.ensures)))
-
-returns-4 : tie.Need-returns-4
-returns-4 c = sym (wrong-kind _ _ _ _ (omega (arith, c.before.before.before.get16.ensures, c.if4.true)))
-
-returns-5 : tie.Need-returns-5
-returns-5 c =
-    let p = c.before in
+returns c =
     sym
-    (wrong-other _ _ _ _ (inside p) (long p) (later p)
-    (λ e. c.if5.true (p.before.before.before.get16.ensures ∙ e)))
+    (wrong-frame _ _ _ _ (inside c.before) (long c.before) (later c.before)
+    (sym c.get16-kind.ensures ∙ c.if-kind-ne-FRAME_KIND.false))
 
-returns-6 : tie.Need-returns-6
-returns-6 c =
-    let p = c.before in
-    sym
-    (wrong-frame _ _ _ _ (inside p) (long p) (later p)
-    (sym p.before.before.before.get16.ensures ∙ c.if5.false))
-
-pub wrong-record-spec : {M : Type 1} → statement M
-wrong-record-spec =
+pub wrong_record_spec : {M : Type 1} → statement M
+wrong_record_spec =
     tie.close
     (tie.spec
-    sub-left
-    returns
-    get32-requires
-    cast-len
-    add-get16
-    get16-requires
-    sub-if2
-    returns-2
-    returns-3
-    returns-4
-    returns-5
-    returns-6)
+    overflow_sub-left
+    returns-then-left-lt-PREFIX_LEN
+    get32-len-requires
+    overflow_cast-len
+    overflow_add-at
+    get16-kind-requires
+    overflow_sub-left-2
+    returns-then-left-len
+    returns-then-len-lt-KIND_LEN
+    returns-then-kind-eq-HEADER_KIND
+    returns-then-kind-ne-FRAME_KIND
+    returns)

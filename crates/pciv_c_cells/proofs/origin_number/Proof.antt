@@ -3,17 +3,17 @@ use borrow.Author.Rules.{rules}
 use Rattle.pciv_c_cells.proofs.origin_number.Statement.{statement}
 use Rattle.pciv_c_cells.proofs.origin_number.Tie as tie
 
-enum_told : tie.Need-enum-told
-enum_told c = search rules
+enum_told-1 : tie.Need-enum_told-1
+enum_told-1 c = search rules
 
-enum-known-origin : tie.Need-enum-known-origin
-enum-known-origin c = search rules
+enum_known-origin : tie.Need-enum_known-origin
+enum_known-origin c = search rules
 
-returns : tie.Need-returns
-returns c = search rules
+returns-in-Inline : tie.Need-returns-in-Inline
+returns-in-Inline c = search rules
 
-returns-2 : tie.Need-returns-2
-returns-2 c = search rules
+returns-in-Overflow : tie.Need-returns-in-Overflow
+returns-in-Overflow c = search rules
 
-pub origin-number-spec : {M : Type 1} → statement M
-origin-number-spec = tie.close (tie.spec enum_told enum-known-origin returns returns-2)
+pub origin_number_spec : {M : Type 1} → statement M
+origin_number_spec = tie.close (tie.spec enum_told-1 enum_known-origin returns-in-Inline returns-in-Overflow)

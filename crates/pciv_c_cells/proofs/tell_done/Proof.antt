@@ -6,5 +6,5 @@ use Rattle.pciv_c_cells.proofs.tell_done.Tie as tie
 returns : tie.Need-returns
 returns c = (refl, refl)
 
-pub tell-done-spec : {M : Type 1} → statement M
-tell-done-spec = tie.close (tie.spec returns)
+pub tell_done_spec : {M : Type 1} → statement M
+tell_done_spec = tie.close (tie.spec returns)

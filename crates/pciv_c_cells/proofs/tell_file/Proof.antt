@@ -4,27 +4,33 @@ use borrow.Author.Rules.{rules}
 use Rattle.pciv_c_cells.proofs.tell_file.Statement.{statement}
 use Rattle.pciv_c_cells.proofs.tell_file.Tie as tie
 
-enum-known-a : tie.Need-enum-known-a
-enum-known-a c = search rules
+enum_known-a : tie.Need-enum_known-a
+enum_known-a c = search rules
 
-tell-done-requires : tie.Need-tell-done-requires
-tell-done-requires c κs = search rules
+tell_done-requires : tie.Need-tell_done-requires
+tell_done-requires c κs = search rules
 
-enum-known-a-2 : tie.Need-enum-known-a-2
-enum-known-a-2 c = search rules
+enum_known-a-in-Refused-1 : tie.Need-enum_known-a-in-Refused-1
+enum_known-a-in-Refused-1 c = search rules
 
-tell-refused-requires : tie.Need-tell-refused-requires
-tell-refused-requires c κs = search rules
+tell_refused-requires : tie.Need-tell_refused-requires
+tell_refused-requires c κs = search rules
 
-returns : tie.Need-returns
-returns c =
-    rw c.before.before.before.before.a.given.1
-    (record { code_is = c.tell-done.ensures.0; result_is = refl; why_is = c.tell-done.ensures.1 })
+returns-in-Done : tie.Need-returns-in-Done
+returns-in-Done c =
+    rw c.in-Done.is
+    (record { code_is = c.tell_done.ensures.0; result_is = refl; why_is = c.tell_done.ensures.1 })
 
-returns-2 : tie.Need-returns-2
-returns-2 c = search rules
+returns-in-Refused : tie.Need-returns-in-Refused
+returns-in-Refused c = search rules
 
-pub tell-file-spec : {M : Type 1} → statement M
-tell-file-spec =
+pub tell_file_spec : {M : Type 1} → statement M
+tell_file_spec =
     tie.close
-    (tie.spec enum-known-a tell-done-requires enum-known-a-2 tell-refused-requires returns returns-2)
+    (tie.spec
+    enum_known-a
+    tell_done-requires
+    enum_known-a-in-Refused-1
+    tell_refused-requires
+    returns-in-Done
+    returns-in-Refused)

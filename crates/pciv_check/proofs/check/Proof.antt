@@ -7,15 +7,15 @@ use borrow.Author.Rules.{rules}
 use Rattle.pciv_check.proofs.check.Statement.{statement}
 use Rattle.pciv_check.proofs.check.Tie as tie
 
-check-counts-requires : tie.Need-check-counts-requires
-check-counts-requires c κs = search rules
+check_counts-requires : tie.Need-check_counts-requires
+check_counts-requires c κs = search rules
 
-with-sum-requires : tie.Need-with-sum-requires
-with-sum-requires c κs = λ s is. (done-counts 1 _ s (counts_answer-counted _ s (sym is ∙ c.check-counts.ensures))).0
+with_sum-requires : tie.Need-with_sum-requires
+with_sum-requires c κs = λ s is. (done-counts 1 _ s (counts_answer-counted _ s (sym is ∙ c.check_counts.ensures))).0
 
 returns : tie.Need-returns
 returns c =
-    c.with-sum.ensures (counts_file 1 c.before.before.before.args.file.now) c.before.check-counts.ensures
+    c.with_sum.ensures (counts_file 1 c.args.file.now) c.check_counts.ensures
 
-pub check-spec : {M : Type 1} → statement M
-check-spec = tie.close (tie.spec check-counts-requires with-sum-requires returns)
+pub check_spec : {M : Type 1} → statement M
+check_spec = tie.close (tie.spec check_counts-requires with_sum-requires returns)

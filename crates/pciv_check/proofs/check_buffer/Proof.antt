@@ -7,16 +7,16 @@ use borrow.Author.Rules.{rules}
 use Rattle.pciv_check.proofs.check_buffer.Statement.{statement}
 use Rattle.pciv_check.proofs.check_buffer.Tie as tie
 
-check-counts-buffer-requires : tie.Need-check-counts-buffer-requires
-check-counts-buffer-requires c κs = search rules
+check_counts_buffer-requires : tie.Need-check_counts_buffer-requires
+check_counts_buffer-requires c κs = search rules
 
-with-sum-requires : tie.Need-with-sum-requires
-with-sum-requires c κs = λ s is. done-buffer 1 _ s (counts_answer-counted _ s (sym is ∙ c.check-counts-buffer.ensures))
+with_sum-requires : tie.Need-with_sum-requires
+with_sum-requires c κs = λ s is. done-buffer 1 _ s (counts_answer-counted _ s (sym is ∙ c.check_counts_buffer.ensures))
 
 returns : tie.Need-returns
 returns c =
-    c.with-sum.ensures (counts_buffer 1 c.before.before.before.args.buffer.now)
-    c.before.check-counts-buffer.ensures
+    c.with_sum.ensures (counts_buffer 1 c.args.buffer.now)
+    c.check_counts_buffer.ensures
 
-pub check-buffer-spec : {M : Type 1} → statement M
-check-buffer-spec = tie.close (tie.spec check-counts-buffer-requires with-sum-requires returns)
+pub check_buffer_spec : {M : Type 1} → statement M
+check_buffer_spec = tie.close (tie.spec check_counts_buffer-requires with_sum-requires returns)

@@ -9,64 +9,59 @@ use Rattle.pciv_check.proofs.check_with.Statement.{statement}
 use Rattle.pciv_check.proofs.check_with.Tie as tie
 
 -- the header's counts
-header-done : (c : tie.After-counts2)
-    → (let a = c.before.before.before.before.args in
-    check_header a.map a.file.now ≡ done c.counts2.given.0.0)
-header-done c = counts_answer-counted _ _ (sym c.counts2.given.1 ∙ c.before.before.check-header.ensures)
+header-done : (c : tie.In-Counted)
+    → (let a = c.args in
+    check_header a.map a.file.now ≡ done c.in-Counted.s)
+header-done c = counts_answer-counted _ _ (sym c.in-Counted.is ∙ c.check_header-counts.ensures)
 
-check-header-requires : tie.Need-check-header-requires
-check-header-requires c κs = search rules
+check_header-counts-requires : tie.Need-check_header-counts-requires
+check_header-counts-requires c κs = search rules
 
-enum-known-counts : tie.Need-enum-known-counts
-enum-known-counts c = search rules
+enum_known-counts : tie.Need-enum_known-counts
+enum_known-counts c = search rules
 
-enum-known-counts-2 : tie.Need-enum-known-counts-2
-enum-known-counts-2 c = search rules
+enum_known-counts-in-Counted-1 : tie.Need-enum_known-counts-in-Counted-1
+enum_known-counts-in-Counted-1 c = search rules
 
-wrong-length-requires : tie.Need-wrong-length-requires
-wrong-length-requires c κs = search rules
+wrong_length-requires : tie.Need-wrong_length-requires
+wrong_length-requires c κs = search rules
 
-refuse-counts-requires : tie.Need-refuse-counts-requires
-refuse-counts-requires c κs = search rules
+refuse_counts-requires : tie.Need-refuse_counts-requires
+refuse_counts-requires c κs = search rules
 
-returns : tie.Need-returns
+returns-then-wrong_length : tie.Need-returns-then-wrong_length
 unfolding check_with
-returns c =
-    let t = c.before.before in
-    rw (header-done t.before.before, ← t.wrong-length.ensures, c.before.if1.true) c.refuse-counts.ensures
+returns-then-wrong_length c =
+    rw (header-done c.before.before.before, ← c.wrong_length.ensures, c.if-wrong_length.true) c.refuse_counts.ensures
 
-check-parts-requires : tie.Need-check-parts-requires
-check-parts-requires c κs =
-    let t = c.before.before.before in
-    let a = t.before.before.before.before.args in
-    header-inside a.map a.file.now _ (header-done t)
-    (wrong_length-fits a.whole _ _ (sym c.before.wrong-length.ensures ∙ c.if1.false))
+check_parts-requires : tie.Need-check_parts-requires
+check_parts-requires c κs =
+    let a = c.args in
+    header-inside a.map a.file.now _ (header-done c.before.before)
+    (wrong_length-fits a.whole _ _ (sym c.wrong_length.ensures ∙ c.if-wrong_length.false))
 
-returns-2 : tie.Need-returns-2
+returns-in-Refused : tie.Need-returns-in-Refused
 unfolding check_with
-returns-2 c =
-    let k = c.before in
-    let h = k.before.before in
-    let a = h.before.before.args in
-    rw (counts_answer-refused (check_header a.map a.file.now) k.counts.given.0.0
-    (sym k.counts.given.1 ∙ h.check-header.ensures))
+returns-in-Refused c =
+    let a = c.args in
+    rw (counts_answer-refused (check_header a.map a.file.now) c.in-Refused.r
+    (sym c.in-Refused.is ∙ c.check_header-counts.ensures))
 
-returns-3 : tie.Need-returns-3
+returns-else-wrong_length : tie.Need-returns-else-wrong_length
 unfolding check_with
-returns-3 c =
-    let t = c.before.before in
-    rw (header-done t.before.before, ← t.wrong-length.ensures, c.before.if1.false) c.check-parts.ensures
+returns-else-wrong_length c =
+    rw (header-done c.before.before.before, ← c.wrong_length.ensures, c.if-wrong_length.false) c.check_parts.ensures
 
-pub check-with-spec : {M : Type 1} → statement M
-check-with-spec =
+pub check_with_spec : {M : Type 1} → statement M
+check_with_spec =
     tie.close
     (tie.spec
-    check-header-requires
-    enum-known-counts
-    enum-known-counts-2
-    wrong-length-requires
-    refuse-counts-requires
-    returns
-    check-parts-requires
-    returns-2
-    returns-3)
+    check_header-counts-requires
+    enum_known-counts
+    enum_known-counts-in-Counted-1
+    wrong_length-requires
+    refuse_counts-requires
+    returns-then-wrong_length
+    check_parts-requires
+    returns-in-Refused
+    returns-else-wrong_length)

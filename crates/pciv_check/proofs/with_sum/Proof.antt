@@ -10,35 +10,39 @@ use Rattle.pciv_check.proofs.with_sum.Statement.{statement}
 use Rattle.pciv_check.proofs.with_sum.Tie as tie
 
 -- the checked map
-map_of : (c : tie.After-counted2)
-    → (let s = c.counted2.given.0.0 in CheckedMap c.before.before.before.args.file.now s.n s.k)
-map_of c = c.before.before.before.requires _ c.counted2.given.1
+map_of : (c : tie.In-Counted)
+    → (let s = c.in-Counted.c in CheckedMap c.args.file.now s.n s.k)
+map_of c = c.requires _ c.in-Counted.is
 
-enum-known-counted : tie.Need-enum-known-counted
-enum-known-counted c = search rules
+enum_known-counted : tie.Need-enum_known-counted
+enum_known-counted c = search rules
 
-enum-known-counted-2 : tie.Need-enum-known-counted-2
-enum-known-counted-2 c = search rules
+enum_known-counted-in-Counted-1 : tie.Need-enum_known-counted-in-Counted-1
+enum_known-counted-in-Counted-1 c = search rules
 
-summary-of-requires : tie.Need-summary-of-requires
-summary-of-requires c κs = map_of c.before
+summary_of-requires : tie.Need-summary_of-requires
+summary_of-requires c κs = map_of c
 
-returns : tie.Need-returns
-returns c = λ o is. rw (counts_answer-refused o _ (sym c.before.counted.given.1 ∙ is))
+returns-in-Refused : tie.Need-returns-in-Refused
+returns-in-Refused c = λ o is. rw (counts_answer-refused o _ (sym c.in-Refused.is ∙ is))
 
-returns-2 : tie.Need-returns-2
-returns-2 c =
-    let k = c.before.before in
-    let s = k.counted2.given.0.0 in
-    let map = (map_of k).header in
+returns-in-Counted : tie.Need-returns-in-Counted
+returns-in-Counted c =
+    let s = c.in-Counted.c in
+    let map = (map_of c.before).header in
     λ o is.
-    rw (counts_answer-counted o s (sym k.counted2.given.1 ∙ is))
+    rw (counts_answer-counted o s (sym c.in-Counted.is ∙ is))
     (ap Done
-    (c.summary-of.ensures
+    (c.summary_of.ensures
     ∙ ap (summarize s)
-    (sym (total-is k.before.before.before.args.file.now s.n s.k map.n_is map.k_is))))
+    (sym (total-is c.args.file.now s.n s.k map.n_is map.k_is))))
 
-pub with-sum-spec : {M : Type 1} → statement M
-with-sum-spec =
+pub with_sum_spec : {M : Type 1} → statement M
+with_sum_spec =
     tie.close
-    (tie.spec enum-known-counted enum-known-counted-2 summary-of-requires returns returns-2)
+    (tie.spec
+    enum_known-counted
+    enum_known-counted-in-Counted-1
+    summary_of-requires
+    returns-in-Refused
+    returns-in-Counted)

@@ -2,11 +2,11 @@
 use Rattle.pciv_check.proofs.wrong_length.Statement.{statement}
 use Rattle.pciv_check.proofs.wrong_length.Tie as tie
 
+returns-then-whole : tie.Need-returns-then-whole
+returns-then-whole c = rw c.if-whole.true
+
 returns : tie.Need-returns
-returns c = rw c.if1.true
+returns c = rw c.if-whole.false
 
-returns-2 : tie.Need-returns-2
-returns-2 c = rw c.if1.false
-
-pub wrong-length-spec : {M : Type 1} → statement M
-wrong-length-spec = tie.close (tie.spec returns returns-2)
+pub wrong_length_spec : {M : Type 1} → statement M
+wrong_length_spec = tie.close (tie.spec returns-then-whole returns)

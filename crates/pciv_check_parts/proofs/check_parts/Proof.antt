@@ -15,106 +15,95 @@ use Rattle.pciv_check_parts.proofs.check_parts.Statement.{statement}
 use Rattle.pciv_check_parts.proofs.check_parts.Tie as tie
 
 -- every entry is right, and every slot has its entry
-entries : (c : tie.Else1)
-    → (let a = c.before.before.before.args in EntriesRight (file_parts a.file.now a.n a.k))
+entries : (c : tie.Else-entry-k)
+    → (let a = c.args in EntriesRight (file_parts a.file.now a.n a.k))
 entries c j h =
-    let a = c.before.before.before.args in
+    let a = c.args in
     first_below-all (bad_entry (file_parts a.file.now a.n a.k)) a.k j
-    (omega (arith, c.before.first-bad-entry.ensures, c.if1.false)) h
+    (omega (arith, c.first_bad_entry-entry.ensures, c.if-entry-k.false)) h
 
-slots : (c : tie.Else2)
-    → (let a = c.before.before.before.before.before.args in
+slots : (c : tie.Else-slot-n)
+    → (let a = c.args in
     (i : ℕ) → i < a.n → bad_slot (file_parts a.file.now a.n a.k) i ≡ false)
 slots c i h =
-    let a = c.before.before.before.before.before.args in
+    let a = c.args in
     first_below-all (bad_slot (file_parts a.file.now a.n a.k)) a.n i
-    (omega (arith, c.before.first-bad-slot.ensures, c.if2.false)) h
+    (omega (arith, c.first_bad_slot-slot.ensures, c.if-slot-n.false)) h
 
-first-bad-entry-requires : tie.Need-first-bad-entry-requires
-first-bad-entry-requires c κs = search rules
+first_bad_entry-entry-requires : tie.Need-first_bad_entry-entry-requires
+first_bad_entry-entry-requires c κs = search rules
 
-refuse-counts-requires : tie.Need-refuse-counts-requires
-refuse-counts-requires c κs = search rules
+refuse_counts-requires : tie.Need-refuse_counts-requires
+refuse_counts-requires c κs = search rules
+
+returns-then-entry-k : tie.Need-returns-then-entry-k
+returns-then-entry-k c =
+    let a = c.args in
+    c.refuse_counts.ensures
+    ∙ ap counts_answer
+    (sym
+    (parts-entry a.map a.file.now a.n a.k c.first_bad_entry-entry.result c.first_bad_entry-entry.ensures
+    c.if-entry-k.true))
+
+first_bad_slot-slot-requires : tie.Need-first_bad_slot-slot-requires
+first_bad_slot-slot-requires c κs = (c.requires, entries c)
+
+refuse_counts-requires-then-slot-n : tie.Need-refuse_counts-requires-then-slot-n
+refuse_counts-requires-then-slot-n c κs = search rules
+
+returns-then-slot-n : tie.Need-returns-then-slot-n
+returns-then-slot-n c =
+    let a = c.args in
+    c.refuse_counts-then-slot-n.ensures
+    ∙ ap counts_answer
+    (sym
+    (parts-slot a.map a.file.now a.n a.k c.first_bad_slot-slot.result (entries c.before.before.before)
+    c.first_bad_slot-slot.ensures c.if-slot-n.true))
+
+index_len-requires : tie.Need-index_len-requires
+index_len-requires c κs = search rules
+
+first_bad_index_entry-index-requires : tie.Need-first_bad_index_entry-index-requires
+first_bad_index_entry-index-requires c κs = search rules
+
+refuse_counts-requires-then-index-index_len : tie.Need-refuse_counts-requires-then-index-index_len
+refuse_counts-requires-then-index-index_len c κs = search rules
+
+returns-then-index-index_len : tie.Need-returns-then-index-index_len
+returns-then-index-index_len c =
+    let a = c.args in
+    c.refuse_counts-then-index-index_len.ensures
+    ∙ ap counts_answer
+    (sym
+    (parts-index a.map a.file.now a.n a.k c.first_bad_index_entry-index.result (entries c.before.before.before.before.before.before) (slots c.before.before.before.before)
+    c.first_bad_index_entry-index.ensures (omega (arith, c.index_len.ensures, c.if-index-index_len.true))))
+
+counts_of-requires : tie.Need-counts_of-requires
+counts_of-requires c κs = search rules
 
 returns : tie.Need-returns
 returns c =
-    let g = c.before.before in
-    let a = g.before.before.args in
-    c.refuse-counts.ensures
-    ∙ ap counts_answer
-    (sym
-    (parts-entry a.map a.file.now a.n a.k g.first-bad-entry.result g.first-bad-entry.ensures
-    c.before.if1.true))
-
-first-bad-slot-requires : tie.Need-first-bad-slot-requires
-first-bad-slot-requires c κs = (c.before.before.before.requires, entries c)
-
-refuse-counts-requires-2 : tie.Need-refuse-counts-requires-2
-refuse-counts-requires-2 c κs = search rules
-
-returns-2 : tie.Need-returns-2
-returns-2 c =
-    let g = c.before.before in
-    let a = g.before.before.before.before.args in
-    c.refuse-counts2.ensures
-    ∙ ap counts_answer
-    (sym
-    (parts-slot a.map a.file.now a.n a.k g.first-bad-slot.result (entries g.before)
-    g.first-bad-slot.ensures c.before.if2.true))
-
-index-len-requires : tie.Need-index-len-requires
-index-len-requires c κs = search rules
-
-first-bad-index-entry-requires : tie.Need-first-bad-index-entry-requires
-first-bad-index-entry-requires c κs = search rules
-
-refuse-counts-requires-3 : tie.Need-refuse-counts-requires-3
-refuse-counts-requires-3 c κs = search rules
-
-returns-3 : tie.Need-returns-3
-returns-3 c =
-    let m = c.before.before in
-    let g = m.before in
-    let z = g.before in
-    let e = z.before.before in
-    let a = e.before.before.before.args in
-    c.refuse-counts3.ensures
-    ∙ ap counts_answer
-    (sym
-    (parts-index a.map a.file.now a.n a.k g.first-bad-index-entry.result (entries e) (slots z)
-    g.first-bad-index-entry.ensures (omega (arith, m.index-len.ensures, c.before.if3.true))))
-
-counts-of-requires : tie.Need-counts-of-requires
-counts-of-requires c κs = search rules
-
-returns-4 : tie.Need-returns-4
-returns-4 c =
-    let x = c.before in
-    let m = x.before in
-    let g = m.before in
-    let z = g.before in
-    let e = z.before.before in
-    let a = e.before.before.before.args in
+    let a = c.args in
     let b = a.file.now in
     let index : (j : ℕ) → j < index_len a.k → bad_index_entry b a.n a.k j ≡ false =
     λ j h.
     first_below-all (bad_index_entry b a.n a.k) (index_len a.k) j
-    (omega (arith, g.first-bad-index-entry.ensures, m.index-len.ensures, x.if3.false)) h in
-    rw (parts-done a.map b a.n a.k 0 (entries e) (slots z) index) (ap Counted c.Counts-of.ensures)
+    (omega (arith, c.first_bad_index_entry-index.ensures, c.index_len.ensures, c.if-index-index_len.false)) h in
+    rw (parts-done a.map b a.n a.k 0 (entries c.before.before.before.before.before.before) (slots c.before.before.before.before) index) (ap Counted c.counts_of.ensures)
 
-pub check-parts-spec : {M : Type 1} → statement M
-check-parts-spec =
+pub check_parts_spec : {M : Type 1} → statement M
+check_parts_spec =
     tie.close
     (tie.spec
-    first-bad-entry-requires
-    refuse-counts-requires
-    returns
-    first-bad-slot-requires
-    refuse-counts-requires-2
-    returns-2
-    first-bad-index-entry-requires
-    index-len-requires
-    refuse-counts-requires-3
-    returns-3
-    counts-of-requires
-    returns-4)
+    first_bad_entry-entry-requires
+    refuse_counts-requires
+    returns-then-entry-k
+    first_bad_slot-slot-requires
+    refuse_counts-requires-then-slot-n
+    returns-then-slot-n
+    first_bad_index_entry-index-requires
+    index_len-requires
+    refuse_counts-requires-then-index-index_len
+    returns-then-index-index_len
+    counts_of-requires
+    returns)

@@ -15,116 +15,107 @@ use borrow.Author.Rules.{rules}
 use Rattle.pciv_check_parts.proofs.first_bad_entry.Statement.{statement}
 use Rattle.pciv_check_parts.proofs.first_bad_entry.Tie as tie
 
-abbrev invariant-loop : tie.invariant-loop
-invariant-loop file n k end lowest₀ j₀ lowest j =
+abbrev invariant-loop-j : tie.invariant-loop-j
+invariant-loop-j file n k end lowest₀ j₀ lowest j =
     (j ≤ k) × (lowest ≡ lowest_slot (file_parts file n k) j) × ((i : ℕ) → i < j → bad_entry (file_parts file n k) i ≡ false)
 
-abbrev decreases-loop : tie.decreases-loop
-decreases-loop file n k end lowest₀ j₀ lowest j = k - j
+abbrev decreases-loop-j : tie.decreases-loop-j
+decreases-loop-j file n k end lowest₀ j₀ lowest j = k - j
 
 -- from the loop: the parts
-abbrev parts : tie.At-loop invariant-loop decreases-loop → Parts
-parts c = let a = c.before.before.args in file_parts a.file.now a.n a.k
+abbrev parts : tie.At-loop-j invariant-loop-j decreases-loop-j → Parts
+parts c = let a = c.args in file_parts a.file.now a.n a.k
 
 -- what the test of entry j says
-tested : (c : tie.After-wrong-entry invariant-loop decreases-loop)
-    → (let l = c.before.before.before.before.before in bad_entry (parts l) l.loop.j ≡ c.wrong-entry.result)
+tested : (c : tie.After-wrong_entry invariant-loop-j decreases-loop-j)
+    → (bad_entry (parts c.before.before.before.before.before) c.loop-j.j ≡ c.wrong_entry.result)
 tested c =
-    let d = c.before.before in
-    let s = d.before in
-    let l = s.before.before in
-    let a = l.before.before.args in
-    part-entry a.file.now a.n a.k (omega (arith, l.before.before.requires.inside)) l.loop.j
-    l.loop.lowest s.get64.result d.get32.result l.loop.invariant.1 s.get64.ensures d.get32.ensures
-    ∙ sym c.wrong-entry.ensures
+    let a = c.args in
+    part-entry a.file.now a.n a.k (omega (arith, c.requires.inside)) c.loop-j.j
+    c.loop-j.lowest c.get64-slot.result c.get32-distance.result c.loop-j.invariant.1 c.get64-slot.ensures c.get32-distance.ensures
+    ∙ sym c.wrong_entry.ensures
 
-add-end : tie.Need-overflow-add-end invariant-loop decreases-loop
-add-end c = search rules
+overflow_add-end : tie.Need-overflow_add-end invariant-loop-j decreases-loop-j
+overflow_add-end c = search rules
 
-loop-holds : tie.Need-loop-init invariant-loop decreases-loop
-loop-holds c = (omega arith, refl, λ i h. absurd (omega arith))
+loop-j-init : tie.Need-loop-j-init invariant-loop-j decreases-loop-j
+loop-j-init c = (omega arith, refl, λ i h. absurd (omega arith))
 
-mul_at : tie.Need-overflow-mul-at invariant-loop decreases-loop
-mul_at c = search rules
+overflow_mul-at : tie.Need-overflow_mul-at invariant-loop-j decreases-loop-j
+overflow_mul-at c = search rules
 
-add_at : tie.Need-overflow-add-at invariant-loop decreases-loop
-add_at c = search rules
+overflow_add-at : tie.Need-overflow_add-at invariant-loop-j decreases-loop-j
+overflow_add-at c = search rules
 
-get64-requires : tie.Need-get64-requires invariant-loop decreases-loop
-get64-requires c κs = search rules
+get64-slot-requires : tie.Need-get64-slot-requires invariant-loop-j decreases-loop-j
+get64-slot-requires c κs = search rules
 
-add-get32 : tie.Need-overflow-add-get32 invariant-loop decreases-loop
-add-get32 c = search rules
+overflow_add-at-in-loop-j : tie.Need-overflow_add-at-in-loop-j invariant-loop-j decreases-loop-j
+overflow_add-at-in-loop-j c = search rules
 
-get32-requires : tie.Need-get32-requires invariant-loop decreases-loop
-get32-requires c κs = search rules
+get32-distance-requires : tie.Need-get32-distance-requires invariant-loop-j decreases-loop-j
+get32-distance-requires c κs = search rules
 
-sub-wrong-entry : tie.Need-overflow-sub-wrong-entry invariant-loop decreases-loop
-sub-wrong-entry c = search rules
+slice_bounds-wrong_entry-count : tie.Need-slice_bounds-wrong_entry-count invariant-loop-j decreases-loop-j
+slice_bounds-wrong_entry-count c = search rules
 
-part-wrong-entry-start : tie.Need-slice-bounds-wrong-entry-start invariant-loop decreases-loop
-part-wrong-entry-start c = search rules
+slice_bounds-wrong_entry-start : tie.Need-slice_bounds-wrong_entry-start invariant-loop-j decreases-loop-j
+slice_bounds-wrong_entry-start c = search rules
 
-part-wrong-entry-end : tie.Need-slice-bounds-wrong-entry-end invariant-loop decreases-loop
-part-wrong-entry-end c = search rules
+slice_bounds-wrong_entry-end : tie.Need-slice_bounds-wrong_entry-end invariant-loop-j decreases-loop-j
+slice_bounds-wrong_entry-end c = search rules
 
-wrong-entry-requires : tie.Need-wrong-entry-requires invariant-loop decreases-loop
-wrong-entry-requires c κs = search rules
+wrong_entry-requires : tie.Need-wrong_entry-requires invariant-loop-j decreases-loop-j
+wrong_entry-requires c κs = search rules
 
-returns : tie.Need-returns invariant-loop decreases-loop
-returns c =
-    let l = c.before.before.before.before.before.before in
+returns-then-wrong_entry : tie.Need-returns-then-wrong_entry invariant-loop-j decreases-loop-j
+returns-then-wrong_entry c =
     sym
-    (first_below-at (bad_entry (parts l)) (parts l).k l.loop.j (omega arith) l.loop.invariant.2
-    (tested c.before ∙ c.if1.true))
+    (first_below-at (bad_entry (parts c.before.before.before.before.before.before)) (parts c.before.before.before.before.before.before).k c.loop-j.j (omega arith) c.loop-j.invariant.2
+    (tested c.before ∙ c.if-wrong_entry.true))
 
-add-lowest : tie.Need-overflow-add-lowest invariant-loop decreases-loop
-add-lowest c =
-    let s = c.before.before.before.before in
-    let l = s.before.before in
-    let g = good_entry-of-test (parts l) l.loop.j (tested c.before ∙ c.if1.false) in
-    omega (arith, g.inside, s.get64.ensures, l.before.before.requires.small)
+overflow_add-lowest : tie.Need-overflow_add-lowest invariant-loop-j decreases-loop-j
+overflow_add-lowest c =
+    let g = good_entry-of-test (parts c.before.before.before.before.before.before) c.loop-j.j (tested c.before ∙ c.if-wrong_entry.false) in
+    omega (arith, g.inside, c.get64-slot.ensures, c.requires.small)
 
-add-j : tie.Need-overflow-add-j invariant-loop decreases-loop
-add-j c = search rules
+overflow_add-j : tie.Need-overflow_add-j invariant-loop-j decreases-loop-j
+overflow_add-j c = search rules
 
-loop-less : tie.Need-loop-smaller invariant-loop decreases-loop
-loop-less c = search rules
+loop-j-smaller : tie.Need-loop-j-smaller invariant-loop-j decreases-loop-j
+loop-j-smaller c = search rules
 
-loop-again : tie.Need-loop-preserved invariant-loop decreases-loop
-loop-again c =
-    let s = c.before.before.before.before in
-    let l = s.before.before in (
-      omega arith,
-      rw (add-one l.loop.j) (ap (λ (x : ℕ). x + 1) s.get64.ensures),
-      below_more _ _ l.loop.invariant.2 (tested c.before ∙ c.if1.false),
-    )
+loop-j-preserved : tie.Need-loop-j-preserved invariant-loop-j decreases-loop-j
+loop-j-preserved c = (
+  omega arith,
+  rw (add-one c.loop-j.j) (ap (λ (x : ℕ). x + 1) c.get64-slot.ensures),
+  below_more _ _ c.loop-j.invariant.2 (tested c.before ∙ c.if-wrong_entry.false),
+)
 
-returns-2 : tie.Need-returns-2 invariant-loop decreases-loop
-returns-2 c =
-    let l = c.before in
-    sym (first_below-none (bad_entry (parts l)) (parts l).k (λ i h. l.loop.invariant.2 i (omega arith)))
+returns : tie.Need-returns invariant-loop-j decreases-loop-j
+returns c =
+    sym (first_below-none (bad_entry (parts c.before)) (parts c.before).k (λ i h. c.loop-j.invariant.2 i (omega arith)))
 
-pub first-bad-entry-spec : {M : Type 1} → statement M
-first-bad-entry-spec =
+pub first_bad_entry_spec : {M : Type 1} → statement M
+first_bad_entry_spec =
     tie.close
     (tie.spec
-    invariant-loop
-    decreases-loop
-    add-end
-    loop-holds
-    mul_at
-    add_at
-    get64-requires
-    add-get32
-    get32-requires
-    sub-wrong-entry
-    part-wrong-entry-start
-    part-wrong-entry-end
-    wrong-entry-requires
-    returns
-    add-lowest
-    add-j
-    loop-less
-    loop-again
-    returns-2)
+    invariant-loop-j
+    decreases-loop-j
+    overflow_add-end
+    loop-j-init
+    overflow_mul-at
+    overflow_add-at
+    get64-slot-requires
+    overflow_add-at-in-loop-j
+    get32-distance-requires
+    slice_bounds-wrong_entry-count
+    slice_bounds-wrong_entry-start
+    slice_bounds-wrong_entry-end
+    wrong_entry-requires
+    returns-then-wrong_entry
+    overflow_add-lowest
+    overflow_add-j
+    loop-j-smaller
+    loop-j-preserved
+    returns)

@@ -10,46 +10,44 @@ use borrow.Author.Rules.{rules}
 use Rattle.pciv_check_parts.proofs.first_bad_slot.Statement.{statement}
 use Rattle.pciv_check_parts.proofs.first_bad_slot.Tie as tie
 
-add-end : tie.Need-overflow-add-end
-add-end c = search rules
+overflow_add-end : tie.Need-overflow_add-end
+overflow_add-end c = search rules
 
-sub-count-byte : tie.Need-overflow-sub-count-byte
-sub-count-byte c = search rules
+slice_bounds-count_byte-count : tie.Need-slice_bounds-count_byte-count
+slice_bounds-count_byte-count c = search rules
 
-part-count-byte-start : tie.Need-slice-bounds-count-byte-start
-part-count-byte-start c = search rules
+slice_bounds-count_byte-start : tie.Need-slice_bounds-count_byte-start
+slice_bounds-count_byte-start c = search rules
 
-part-count-byte-end : tie.Need-slice-bounds-count-byte-end
-part-count-byte-end c = search rules
+slice_bounds-count_byte-end : tie.Need-slice_bounds-count_byte-end
+slice_bounds-count_byte-end c = search rules
 
-count-byte-requires : tie.Need-count-byte-requires
-count-byte-requires c κs = search rules
+count_byte-requires : tie.Need-count_byte-requires
+count_byte-requires c κs = search rules
 
-returns : tie.Need-returns
-returns c =
-    let t = c.before in
-    let s = t.before.before.before in
-    let a = s.args in
+returns-then-count_byte-k : tie.Need-returns-then-count_byte-k
+returns-then-count_byte-k c =
+    let a = c.args in
     let P = file_parts a.file.now a.n a.k in
     let part = part_count a.file.now a.n a.k (omega arith) in
-    let count = sym part ∙ sym t.count-byte.ensures ∙ c.if1.true in
-    sym (first_below-none (bad_slot P) a.n (count-complete P s.requires.1 count))
+    let count = sym part ∙ sym c.count_byte.ensures ∙ c.if-count_byte-k.true in
+    sym (first_below-none (bad_slot P) a.n (count-complete P c.requires.1 count))
 
-walk-slots-requires : tie.Need-walk-slots-requires
-walk-slots-requires c κs = search rules
+walk_slots-requires : tie.Need-walk_slots-requires
+walk_slots-requires c κs = search rules
 
-returns-2 : tie.Need-returns-2
-returns-2 c = search rules
+returns : tie.Need-returns
+returns c = search rules
 
-pub first-bad-slot-spec : {M : Type 1} → statement M
-first-bad-slot-spec =
+pub first_bad_slot_spec : {M : Type 1} → statement M
+first_bad_slot_spec =
     tie.close
     (tie.spec
-    add-end
-    sub-count-byte
-    part-count-byte-start
-    part-count-byte-end
-    count-byte-requires
-    returns
-    walk-slots-requires
-    returns-2)
+    overflow_add-end
+    slice_bounds-count_byte-count
+    slice_bounds-count_byte-start
+    slice_bounds-count_byte-end
+    count_byte-requires
+    returns-then-count_byte-k
+    walk_slots-requires
+    returns)

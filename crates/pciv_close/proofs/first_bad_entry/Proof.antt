@@ -5,7 +5,6 @@ use mathlib.Core.Bool.{false}
 use Prim.Native.Nat.{ℕ, ◌+◌, ◌-◌, ◌≤◌, ◌<◌}
 use native.Mathlib.Numerals.{add-one}
 use native.Mathlib.Omega.{arith}
-use lib.ListN.{length}
 use borrow.Author.Count.{below_more}
 use Rattle.pciv_bytes.proofs.RangesLaws.{first_below-at}
 use Rattle.pciv_format.specs.Layout.{at}
@@ -17,122 +16,113 @@ use borrow.Author.Rules.{rules}
 use Rattle.pciv_close.proofs.first_bad_entry.Statement.{statement}
 use Rattle.pciv_close.proofs.first_bad_entry.Tie as tie
 
-abbrev invariant-loop : tie.invariant-loop
-invariant-loop primary slots distances end lowest₀ j₀ lowest j =
+abbrev invariant-loop-j : tie.invariant-loop-j
+invariant-loop-j primary slots distances end lowest₀ j₀ lowest j =
     (j ≤ end)
     × (lowest ≡ lowest_slot (close_parts primary slots distances) j)
     × ((i : ℕ) → i < j → bad_entry (close_parts primary slots distances) i ≡ false)
 
-abbrev decreases-loop : tie.decreases-loop
-decreases-loop primary slots distances end lowest₀ j₀ lowest j = end - j
+abbrev decreases-loop-j : tie.decreases-loop-j
+decreases-loop-j primary slots distances end lowest₀ j₀ lowest j = end - j
 
 -- from the loop: the parts
-abbrev parts : tie.At-loop invariant-loop decreases-loop → Parts
+abbrev parts : tie.At-loop-j invariant-loop-j decreases-loop-j → Parts
 parts c =
-    let a = c.before.before.before.before.before.args in
+    let a = c.args in
     close_parts a.primary.now a.slots.now a.distances.now
 
 -- the slot of entry j
-slot-here : (c : tie.In-loop invariant-loop decreases-loop)
-    → (let l = c.before in
-    (parts l).slot l.loop.j ≡ at l.before.before.before.before.before.args.slots.now l.loop.j)
+slot-here : (c : tie.In-loop-j invariant-loop-j decreases-loop-j)
+    → ((parts c.before).slot c.loop-j.j ≡ at c.args.slots.now c.loop-j.j)
 slot-here c =
-    let l = c.before in
-    let a = l.before.before.before.before.before.args in
-    slot_is a.primary.now a.slots.now a.distances.now l.loop.j (omega (arith, l.before.smaller.ensures))
+    let a = c.args in
+    slot_is a.primary.now a.slots.now a.distances.now c.loop-j.j (omega (arith, c.smaller-end.ensures))
 
 -- what the test of entry j says
-tested : (c : tie.After-wrong-entry invariant-loop decreases-loop)
-    → (let l = c.before.before.before.before in bad_entry (parts l) l.loop.j ≡ c.wrong-entry.result)
+tested : (c : tie.After-wrong_entry invariant-loop-j decreases-loop-j)
+    → (bad_entry (parts c.before.before.before.before) c.loop-j.j ≡ c.wrong_entry.result)
 tested c =
-    let l = c.before.before.before.before in
-    let a = l.before.before.before.before.before.args in
-    entry-is a.primary.now a.slots.now a.distances.now l.loop.j l.loop.lowest
-    (omega (arith, l.before.smaller.ensures)) l.loop.invariant.1
-    ∙ sym c.wrong-entry.ensures
+    let a = c.args in
+    entry-is a.primary.now a.slots.now a.distances.now c.loop-j.j c.loop-j.lowest
+    (omega (arith, c.smaller-end.ensures)) c.loop-j.invariant.1
+    ∙ sym c.wrong_entry.ensures
 
-smaller-requires : tie.Need-smaller-requires invariant-loop decreases-loop
-smaller-requires c κs = search rules
+smaller-end-requires : tie.Need-smaller-end-requires invariant-loop-j decreases-loop-j
+smaller-end-requires c κs = search rules
 
-loop-holds : tie.Need-loop-init invariant-loop decreases-loop
-loop-holds c = (omega arith, refl, λ i h. absurd (omega arith))
+loop-j-init : tie.Need-loop-j-init invariant-loop-j decreases-loop-j
+loop-j-init c = (omega arith, refl, λ i h. absurd (omega arith))
 
-mul-wrong-entry : tie.Need-overflow-mul-wrong-entry invariant-loop decreases-loop
-mul-wrong-entry c = search rules
+offset_bounds-slots-j : tie.Need-offset_bounds-slots-j invariant-loop-j decreases-loop-j
+offset_bounds-slots-j c = search rules
 
-shared-slice-read-wrong-entry : tie.Need-shared-slice-read-wrong-entry invariant-loop decreases-loop
-shared-slice-read-wrong-entry c = search rules
+bounds-slots-j : tie.Need-bounds-slots-j invariant-loop-j decreases-loop-j
+bounds-slots-j c = search rules
 
-mul-wrong-entry-2 : tie.Need-overflow-mul-wrong-entry-2 invariant-loop decreases-loop
-mul-wrong-entry-2 c = search rules
+offset_bounds-distances-j : tie.Need-offset_bounds-distances-j invariant-loop-j decreases-loop-j
+offset_bounds-distances-j c = search rules
 
-shared-slice-read-wrong-entry-2 : tie.Need-shared-slice-read-wrong-entry-2 invariant-loop decreases-loop
-shared-slice-read-wrong-entry-2 c = search rules
+bounds-distances-j : tie.Need-bounds-distances-j invariant-loop-j decreases-loop-j
+bounds-distances-j c = search rules
 
-wrong-entry-requires : tie.Need-wrong-entry-requires invariant-loop decreases-loop
-wrong-entry-requires c κs = search rules
+wrong_entry-requires : tie.Need-wrong_entry-requires invariant-loop-j decreases-loop-j
+wrong_entry-requires c κs = search rules
 
-returns : tie.Need-returns invariant-loop decreases-loop
+returns-then-wrong_entry : tie.Need-returns-then-wrong_entry invariant-loop-j decreases-loop-j
+returns-then-wrong_entry c =
+    sym
+    (first_below-at (bad_entry (parts c.before.before.before.before.before)) (parts c.before.before.before.before.before).k c.loop-j.j (omega (arith, c.smaller-end.ensures))
+    c.loop-j.invariant.2 (tested c.before ∙ c.if-wrong_entry.true))
+
+offset_bounds-slots-j-in-loop-j : tie.Need-offset_bounds-slots-j-in-loop-j invariant-loop-j decreases-loop-j
+offset_bounds-slots-j-in-loop-j c = search rules
+
+bounds-slots-j-in-loop-j : tie.Need-bounds-slots-j-in-loop-j invariant-loop-j decreases-loop-j
+bounds-slots-j-in-loop-j c = search rules
+
+overflow_add-lowest : tie.Need-overflow_add-lowest invariant-loop-j decreases-loop-j
+overflow_add-lowest c =
+    let g = good_entry-of-test (parts c.before.before.before.before.before.before) c.loop-j.j (tested c.before.before ∙ c.if-wrong_entry.false) in
+    omega (arith, g.inside, slot-here c.before.before.before.before.before, c.well_formed)
+
+overflow_add-j : tie.Need-overflow_add-j invariant-loop-j decreases-loop-j
+overflow_add-j c = search rules
+
+loop-j-smaller : tie.Need-loop-j-smaller invariant-loop-j decreases-loop-j
+loop-j-smaller c = search rules
+
+loop-j-preserved : tie.Need-loop-j-preserved invariant-loop-j decreases-loop-j
+loop-j-preserved c = (
+  omega arith,
+  rw (add-one c.loop-j.j) (ap (λ (s : ℕ). s + 1) (sym (slot-here c.before.before.before.before.before))),
+  below_more _ _ c.loop-j.invariant.2 (tested c.before.before ∙ c.if-wrong_entry.false),
+)
+
+returns : tie.Need-returns invariant-loop-j decreases-loop-j
 returns c =
-    let l = c.before.before.before.before.before in
+    let a = c.args in
     sym
-    (first_below-at (bad_entry (parts l)) (parts l).k l.loop.j (omega (arith, l.before.smaller.ensures))
-    l.loop.invariant.2 (tested c.before ∙ c.if1.true))
+    (first-bad-end a.primary.now a.slots.now a.distances.now c.smaller-end.result
+    c.smaller-end.ensures (λ i h. c.loop-j.invariant.2 i (omega arith)))
 
-mul-lowest : tie.Need-overflow-mul-lowest invariant-loop decreases-loop
-mul-lowest c = search rules
-
-shared-slice-read-lowest : tie.Need-shared-slice-read-lowest invariant-loop decreases-loop
-shared-slice-read-lowest c = search rules
-
-add-lowest : tie.Need-overflow-add-lowest invariant-loop decreases-loop
-add-lowest c =
-    let t = c.before.before in
-    let l = t.before.before.before.before in
-    let g = good_entry-of-test (parts l) l.loop.j (tested t ∙ c.before.if1.false) in
-    omega (arith, g.inside, slot-here t.before.before.before, l.before.before.before.before.before.well-formed)
-
-add-j : tie.Need-overflow-add-j invariant-loop decreases-loop
-add-j c = search rules
-
-loop-less : tie.Need-loop-smaller invariant-loop decreases-loop
-loop-less c = search rules
-
-loop-again : tie.Need-loop-preserved invariant-loop decreases-loop
-loop-again c =
-    let t = c.before.before in
-    let l = t.before.before.before.before in (
-      omega arith,
-      rw (add-one l.loop.j) (ap (λ (s : ℕ). s + 1) (sym (slot-here t.before.before.before))),
-      below_more _ _ l.loop.invariant.2 (tested t ∙ c.before.if1.false),
-    )
-
-returns-2 : tie.Need-returns-2 invariant-loop decreases-loop
-returns-2 c =
-    let l = c.before in
-    let a = l.before.before.before.before.before.args in
-    sym
-    (first-bad-end a.primary.now a.slots.now a.distances.now l.before.smaller.result
-    l.before.smaller.ensures (λ i h. l.loop.invariant.2 i (omega arith)))
-
-pub first-bad-entry-spec : {M : Type 1} → statement M
-first-bad-entry-spec =
+pub first_bad_entry_spec : {M : Type 1} → statement M
+first_bad_entry_spec =
     tie.close
     (tie.spec
-    invariant-loop
-    decreases-loop
-    smaller-requires
-    loop-holds
-    mul-wrong-entry
-    shared-slice-read-wrong-entry
-    mul-wrong-entry-2
-    shared-slice-read-wrong-entry-2
-    wrong-entry-requires
-    returns
-    mul-lowest
-    shared-slice-read-lowest
-    add-lowest
-    add-j
-    loop-less
-    loop-again
-    returns-2)
+    invariant-loop-j
+    decreases-loop-j
+    smaller-end-requires
+    loop-j-init
+    offset_bounds-slots-j
+    bounds-slots-j
+    offset_bounds-distances-j
+    bounds-distances-j
+    wrong_entry-requires
+    returns-then-wrong_entry
+    offset_bounds-slots-j-in-loop-j
+    bounds-slots-j-in-loop-j
+    overflow_add-lowest
+    overflow_add-j
+    loop-j-smaller
+    loop-j-preserved
+    returns)

@@ -8,22 +8,25 @@ use borrow.Author.Rules.{rules}
 use Rattle.pciv_close.proofs.first_bad_slot.Statement.{statement}
 use Rattle.pciv_close.proofs.first_bad_slot.Tie as tie
 
-count-byte-requires : tie.Need-count-byte-requires
-count-byte-requires c κs = search rules
+count_byte-requires : tie.Need-count_byte-requires
+count_byte-requires c κs = search rules
+
+returns-then-count_byte-slots : tie.Need-returns-then-count_byte-slots
+returns-then-count_byte-slots c =
+    let P : Parts = slot_parts c.args.primary.now c.args.slots.now in
+    sym (first_below-none (bad_slot P) P.n (count-complete P c.requires (sym c.count_byte.ensures ∙ c.if-count_byte-slots.true)))
+
+search_slots-requires : tie.Need-search_slots-requires
+search_slots-requires c κs = search rules
 
 returns : tie.Need-returns
-returns c =
-    let t = c.before in
-    let s = t.before.before.before in
-    let P : Parts = slot_parts s.args.primary.now s.args.slots.now in
-    sym (first_below-none (bad_slot P) P.n (count-complete P s.requires (sym t.count-byte.ensures ∙ c.if1.true)))
+returns c = search rules
 
-search-slots-requires : tie.Need-search-slots-requires
-search-slots-requires c κs = search rules
-
-returns-2 : tie.Need-returns-2
-returns-2 c = search rules
-
-pub first-bad-slot-spec : {M : Type 1} → statement M
-first-bad-slot-spec =
-    tie.close (tie.spec count-byte-requires returns search-slots-requires returns-2)
+pub first_bad_slot_spec : {M : Type 1} → statement M
+first_bad_slot_spec =
+    tie.close
+    (tie.spec
+    count_byte-requires
+    returns-then-count_byte-slots
+    search_slots-requires
+    returns)

@@ -10,71 +10,69 @@ use borrow.Author.Rules.{rules}
 use Rattle.pciv_close.proofs.put_entries.Statement.{statement}
 use Rattle.pciv_close.proofs.put_entries.Tie as tie
 
-abbrev invariant-loop : tie.invariant-loop
-invariant-loop out₀ start slots distances j₀ out j =
+abbrev invariant-loop-j : tie.invariant-loop-j
+invariant-loop-j out₀ start slots distances j₀ out j =
     EntriesLeft (at slots) (at distances) (length slots) start out₀ j out
 
-abbrev decreases-loop : tie.decreases-loop
-decreases-loop out₀ start slots distances j₀ out j = length slots - j
+abbrev decreases-loop-j : tie.decreases-loop-j
+decreases-loop-j out₀ start slots distances j₀ out j = length slots - j
 
-loop-holds : tie.Need-loop-init invariant-loop decreases-loop
-loop-holds c = entries-start _ _ _ _ _
+loop-j-init : tie.Need-loop-j-init invariant-loop-j decreases-loop-j
+loop-j-init c = entries-start _ _ _ _ _
 
-mul-put-entry : tie.Need-overflow-mul-put-entry invariant-loop decreases-loop
-mul-put-entry c = search rules
+overflow_mul-j : tie.Need-overflow_mul-j invariant-loop-j decreases-loop-j
+overflow_mul-j c = search rules
 
-add-put-entry : tie.Need-overflow-add-put-entry invariant-loop decreases-loop
-add-put-entry c = search rules
+overflow_add-start : tie.Need-overflow_add-start invariant-loop-j decreases-loop-j
+overflow_add-start c = search rules
 
-mul-put-entry-2 : tie.Need-overflow-mul-put-entry-2 invariant-loop decreases-loop
-mul-put-entry-2 c = search rules
+offset_bounds-slots-j : tie.Need-offset_bounds-slots-j invariant-loop-j decreases-loop-j
+offset_bounds-slots-j c = search rules
 
-shared-slice-read-put-entry : tie.Need-shared-slice-read-put-entry invariant-loop decreases-loop
-shared-slice-read-put-entry c = search rules
+bounds-slots-j : tie.Need-bounds-slots-j invariant-loop-j decreases-loop-j
+bounds-slots-j c = search rules
 
-mul-put-entry-3 : tie.Need-overflow-mul-put-entry-3 invariant-loop decreases-loop
-mul-put-entry-3 c = search rules
+offset_bounds-distances-j : tie.Need-offset_bounds-distances-j invariant-loop-j decreases-loop-j
+offset_bounds-distances-j c = search rules
 
-shared-slice-read-put-entry-2 : tie.Need-shared-slice-read-put-entry-2 invariant-loop decreases-loop
-shared-slice-read-put-entry-2 c = search rules
+bounds-distances-j : tie.Need-bounds-distances-j invariant-loop-j decreases-loop-j
+bounds-distances-j c = search rules
 
-put-entry-requires : tie.Need-put-entry-requires invariant-loop decreases-loop
-put-entry-requires c κs = search rules
+put_entry-requires : tie.Need-put_entry-requires invariant-loop-j decreases-loop-j
+put_entry-requires c κs = search rules
 
-add-j : tie.Need-overflow-add-j invariant-loop decreases-loop
-add-j c = search rules
+overflow_add-j : tie.Need-overflow_add-j invariant-loop-j decreases-loop-j
+overflow_add-j c = search rules
 
-loop-less : tie.Need-loop-smaller invariant-loop decreases-loop
-loop-less c = search rules
+loop-j-smaller : tie.Need-loop-j-smaller invariant-loop-j decreases-loop-j
+loop-j-smaller c = search rules
 
-loop-again : tie.Need-loop-preserved invariant-loop decreases-loop
-loop-again c =
-    let put = c.before.before in
-    let turn = put.before.before.before.before in
-    entries-more _ _ _ _ _ turn.before.loop.j _ turn.before.loop.invariant (omega arith) _ put.put-entry.ensures.1
+loop-j-preserved : tie.Need-loop-j-preserved invariant-loop-j decreases-loop-j
+loop-j-preserved c =
+    entries-more _ _ _ _ _ c.loop-j.j _ c.loop-j.invariant (omega arith) _ c.put_entry.ensures.1
 
-same_length : tie.Need-same-length invariant-loop decreases-loop
-same_length c = search rules
+shape_of-out : tie.Need-shape_of-out invariant-loop-j decreases-loop-j
+shape_of-out c = search rules
 
-returns : tie.Need-returns invariant-loop decreases-loop
-returns c = entries-end _ _ _ _ _ c.before.loop.j _ c.before.loop.invariant (omega arith)
+returns : tie.Need-returns invariant-loop-j decreases-loop-j
+returns c = entries-end _ _ _ _ _ c.loop-j.j _ c.loop-j.invariant (omega arith)
 
-pub put-entries-spec : {M : Type 1} → statement M
-put-entries-spec =
+pub put_entries_spec : {M : Type 1} → statement M
+put_entries_spec =
     tie.close
     (tie.spec
-    invariant-loop
-    decreases-loop
-    loop-holds
-    mul-put-entry
-    add-put-entry
-    mul-put-entry-2
-    shared-slice-read-put-entry
-    mul-put-entry-3
-    shared-slice-read-put-entry-2
-    put-entry-requires
-    add-j
-    loop-less
-    loop-again
-    same_length
+    invariant-loop-j
+    decreases-loop-j
+    loop-j-init
+    overflow_mul-j
+    overflow_add-start
+    offset_bounds-slots-j
+    bounds-slots-j
+    offset_bounds-distances-j
+    bounds-distances-j
+    put_entry-requires
+    overflow_add-j
+    loop-j-smaller
+    loop-j-preserved
+    shape_of-out
     returns)

@@ -22,144 +22,128 @@ use Rattle.pciv_close.proofs.put_file.Tie as tie
 abbrev parts : tie.Start → Parts
 parts c = let a = c.args in close_parts a.primary.now a.slots.now a.distances.now
 
-bytes : (c : tie.After-shared-slice-known) → Bytes c.before.before.args.primary.now
-bytes c i = omega (arith, c.shared-slice-known.given i)
+bytes : (c : tie.After-shared_slice_known-1) → Bytes c.args.primary.now
+bytes c i = omega (arith, c.shared_slice_known-1.given i)
 
-count : (c : tie.After-shared-slice-known)
-    → (let s = c.before.before in length s.args.slots.now ≡ overflow_count (parts s).n (value_of (parts s)))
+count : (c : tie.After-shared_slice_known-1)
+    → (length c.args.slots.now ≡ overflow_count (parts c.before.before).n (value_of (parts c.before.before)))
 count c =
-    let s = c.before.before in
-    let a = s.args in
-    overflow_count-close a.primary.now a.slots.now a.distances.now s.requires.1 (bytes c)
+    let a = c.args in
+    overflow_count-close a.primary.now a.slots.now a.distances.now c.requires.1 (bytes c)
 
 -- from after `begin`: the primary array is known
-abbrev known : tie.After-begin → tie.After-shared-slice-known
+abbrev known : tie.After-begin-begun → tie.After-shared_slice_known-1
 known c = c.before.before.before.before
 
-abbrev entry : tie.After-begin → tie.Start
+abbrev entry : tie.After-begin-begun → tie.Start
 entry c = (known c).before.before
 
-opened : (b : tie.After-begin)
+opened : (b : tie.After-begin-begun)
     → (let s = entry b in
     let a = s.args in
     Opened (parts s).n (length a.slots.now) (value_of (parts s)) (parts_outcome (parts s) (length a.out.now))
-    a.out.now b.begin.result b.begin.new.0)
+    a.out.now b.begin-begun.result b.begin-begun.new.out)
 opened b =
     let s = entry b in
     record {
-      few = s.pre.0;
+      few = s.requires.0;
       each =
-          value_of-le (parts s) s.pre.1 (bytes (known b))
-          (λ j h. omega (arith, (b.before.before.shared-slice-known3.given j).fits));
+          value_of-le (parts s) s.requires.1 (bytes (known b))
+          (λ j h. omega (arith, (b.shared_slice_known-3-1.given j).fits));
       count = count (known b);
       into = refl;
-      answer = b.begin.ensures.0;
-      buffer = b.begin.ensures.1;
+      answer = b.begin-begun.ensures.0;
+      buffer = b.begin-begun.ensures.1;
     }
 
 -- the primary array and the entries are written
-abbrev start_of : tie.After-copy-bytes → tie.After-begin
-start_of c = c.before.before.before.before.before.before.before
+abbrev start_of : tie.After-copy_bytes → tie.After-begin-begun
+start_of c = c.before.before.before.before.before
 
-copied : (y : tie.After-copy-bytes)
+copied : (y : tie.After-copy_bytes)
     → (let s = entry (start_of y) in
-    y.copy-bytes.new.1.0 ≡ sets (start_of y).begin.new.0 40 (primary (parts s).n (value_of (parts s))))
+    y.copy_bytes.new.out ≡ sets (start_of y).begin-begun.new.out 40 (primary (parts s).n (value_of (parts s))))
 copied y =
     let b = start_of y in
     let s = entry b in
     let a = s.args in
-    rw (primary-close a.primary.now a.slots.now a.distances.now s.pre.1 (bytes (known b)))
-    y.copy-bytes.ensures
+    rw (primary-close a.primary.now a.slots.now a.distances.now s.requires.1 (bytes (known b)))
+    y.copy_bytes.ensures
 
-entries-put : (p : tie.After-put-entries)
-    → (let y = p.before.before.before.before in
-    let s = entry (start_of y) in
-    p.put_entries.new.0
-    ≡ sets y.copy-bytes.new.1.0 (40 + (parts s).n) (overflow_part (parts s).n (value_of (parts s))))
+entries-put : (p : tie.After-put_entries)
+    → (let s = entry (start_of p.before.before.before.before) in
+    p.put_entries.new.out
+    ≡ sets p.copy_bytes.new.out (40 + (parts s).n) (overflow_part (parts s).n (value_of (parts s))))
 entries-put p =
     let b = start_of p.before.before.before.before in
     let s = entry b in
     let a = s.args in
-    rw (overflow_part-close a.primary.now a.slots.now a.distances.now s.pre.1 (bytes (known b)))
+    rw (overflow_part-close a.primary.now a.slots.now a.distances.now s.requires.1 (bytes (known b)))
     p.put_entries.ensures
 
-begin-requires : tie.Need-begin-requires
-begin-requires c κs =
-    let p = c.before.before.before in
-    let s = p.before.before in
-    begin-few (parts s).n (length s.args.slots.now) (value_of (parts s)) s.requires.0 (count p)
+begin-begun-requires : tie.Need-begin-begun-requires
+begin-begun-requires c κs =
+    begin-few (parts c.before.before.before.before.before).n (length c.args.slots.now) (value_of (parts c.before.before.before.before.before)) c.requires.0 (count c.before.before.before)
 
-enum-known-begun : tie.Need-enum-known-begun
-enum-known-begun c = search rules
+enum_known-begun : tie.Need-enum_known-begun
+enum_known-begun c = search rules
 
-enum-known-begun-2 : tie.Need-enum-known-begun-2
-enum-known-begun-2 c = search rules
+enum_known-begun-in-Counted-1 : tie.Need-enum_known-begun-in-Counted-1
+enum_known-begun-in-Counted-1 c = search rules
 
-copy-bytes-requires : tie.Need-copy-bytes-requires
-copy-bytes-requires c κs =
-    let o = c.before.before in
-    omega (arith, opened-space (opened o.before.before.before.before) _ o.begun2.given.1)
+copy_bytes-requires : tie.Need-copy_bytes-requires
+copy_bytes-requires c κs =
+    omega (arith, opened-space (opened c.before.before.before.before) _ c.in-Counted.is)
 
-add-put-entries : tie.Need-overflow-add-put-entries
-add-put-entries c = search rules
+overflow_add-n : tie.Need-overflow_add-n
+overflow_add-n c = search rules
 
-put-entries-requires : tie.Need-put-entries-requires
-put-entries-requires c κs =
-    let y = c.before.before.before in
-    let o = y.before.before.before in
-    let b = start_of y in
+put_entries-requires : tie.Need-put_entries-requires
+put_entries-requires c κs =
+    let b = start_of c.before.before.before in
     let s = entry b in
     let a = s.args in (
-      lengths-same a.primary.now a.slots.now a.distances.now s.pre.1.entries,
-      (opened-entries (opened b) _ o.begun2.given.1 _ (copied y)).1,
+      lengths-same a.primary.now a.slots.now a.distances.now s.requires.1.entries,
+      (opened-entries (opened b) _ c.in-Counted.is _ (copied c.before.before.before)).1,
     )
 
 finish-requires : tie.Need-finish-requires
 finish-requires c κs =
-    let p = c.before.before.before in
-    let y = p.before.before.before.before in
-    opened-finish (opened (start_of y)) _ y.before.before.before.begun2.given.1 _ (copied y) _ (entries-put p)
+    opened-finish (opened (start_of c.before.before.before.before.before.before.before)) _ c.in-Counted.is _ (copied c.before.before.before.before.before.before.before) _ (entries-put c.before.before.before)
 
-summary-of-requires : tie.Need-summary-of-requires
-summary-of-requires c κs =
-    let f = c.before.before.before in
-    let p = f.before.before.before.before in
-    let y = p.before.before.before.before in
-    opened_map (opened (start_of y)) _ y.before.before.before.begun2.given.1 _ (copied y) _ (entries-put p)
-    _ f.finish.ensures
+summary_of-requires : tie.Need-summary_of-requires
+summary_of-requires c κs =
+    opened_map (opened (start_of c.before.before.before.before.before.before.before.before.before.before)) _ c.in-Counted.is _ (copied c.before.before.before.before.before.before.before.before.before.before) _ (entries-put c.before.before.before.before.before.before)
+    _ c.finish.ensures
 
-same_length : tie.Need-same-length
-same_length c = search rules
+shape_of-out-in-Refused : tie.Need-shape_of-out-in-Refused
+shape_of-out-in-Refused c = search rules
 
-returns : tie.Need-returns
-returns c =
-    let u = c.before in
-    opened-refused (opened u.before.before.before.before) _ u.begun.given.1
+returns-in-Refused : tie.Need-returns-in-Refused
+returns-in-Refused c =
+    opened-refused (opened c.before.before.before) _ c.in-Refused.is
 
-same-length-2 : tie.Need-same-length-2
-same-length-2 c = search rules
+shape_of-out-in-Counted : tie.Need-shape_of-out-in-Counted
+shape_of-out-in-Counted c = search rules
 
-returns-2 : tie.Need-returns-2
-returns-2 c =
-    let f = c.before.before.before.before in
-    let p = f.before.before.before.before in
-    let y = p.before.before.before.before in
-    opened-done (opened (start_of y)) _ y.before.before.before.begun2.given.1 _ (copied y) _ (entries-put p)
-    _ f.finish.ensures _ c.summary-of.ensures
+returns-in-Counted : tie.Need-returns-in-Counted
+returns-in-Counted c =
+    opened-done (opened (start_of c.before.before.before.before.before.before.before.before.before.before.before)) _ c.in-Counted.is _ (copied c.before.before.before.before.before.before.before.before.before.before.before) _ (entries-put c.before.before.before.before.before.before.before)
+    _ c.finish.ensures _ c.summary_of.ensures
 
-pub put-file-spec : {M : Type 1} → statement M
-put-file-spec =
+pub put_file_spec : {M : Type 1} → statement M
+put_file_spec =
     tie.close
     (tie.spec
-    begin-requires
-    enum-known-begun
-    enum-known-begun-2
-    copy-bytes-requires
-    add-put-entries
-    put-entries-requires
+    begin-begun-requires
+    enum_known-begun
+    enum_known-begun-in-Counted-1
+    copy_bytes-requires
+    overflow_add-n
+    put_entries-requires
     finish-requires
-    summary-of-requires
-    same_length
-    returns
-    same-length-2
-    returns-2)
+    summary_of-requires
+    shape_of-out-in-Refused
+    returns-in-Refused
+    shape_of-out-in-Counted
+    returns-in-Counted)

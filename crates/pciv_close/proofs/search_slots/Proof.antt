@@ -13,92 +13,86 @@ use borrow.Author.Rules.{rules}
 use Rattle.pciv_close.proofs.search_slots.Statement.{statement}
 use Rattle.pciv_close.proofs.search_slots.Tie as tie
 
-abbrev invariant-loop : tie.invariant-loop
-invariant-loop primary slots from₀ j₀ from j =
+abbrev invariant-loop-j : tie.invariant-loop-j
+invariant-loop-j primary slots from₀ j₀ from j =
     (j ≤ length slots) × (from ≡ lowest_slot (slot_parts primary slots) j) × Searched (slot_parts primary slots) from
 
-abbrev decreases-loop : tie.decreases-loop
-decreases-loop primary slots from₀ j₀ from j = length slots - j
+abbrev decreases-loop-j : tie.decreases-loop-j
+decreases-loop-j primary slots from₀ j₀ from j = length slots - j
 
 -- from the loop: the parts
-abbrev parts : tie.At-loop invariant-loop decreases-loop → Parts
-parts c = let a = c.before.before.before.args in slot_parts a.primary.now a.slots.now
+abbrev parts : tie.At-loop-j invariant-loop-j decreases-loop-j → Parts
+parts c = let a = c.args in slot_parts a.primary.now a.slots.now
 
 -- the slot of entry j is one of the n, and not below `from`
-good : (c : tie.In-loop invariant-loop decreases-loop) → GoodEntry (parts c.before) c.before.loop.j
-good c = entry_at (parts c.before) c.before.before.before.before.requires c.before.loop.j (omega arith)
+good : (c : tie.In-loop-j invariant-loop-j decreases-loop-j) → GoodEntry (parts c.before) c.loop-j.j
+good c = entry_at (parts c.before) c.requires c.loop-j.j (omega arith)
 
-loop-holds : tie.Need-loop-init invariant-loop decreases-loop
-loop-holds c = (omega arith, refl, λ t h. absurd (omega arith))
+loop-j-init : tie.Need-loop-j-init invariant-loop-j decreases-loop-j
+loop-j-init c = (omega arith, refl, λ t h. absurd (omega arith))
 
-mul-slot : tie.Need-overflow-mul-slot invariant-loop decreases-loop
-mul-slot c = search rules
+offset_bounds-slots-j : tie.Need-offset_bounds-slots-j invariant-loop-j decreases-loop-j
+offset_bounds-slots-j c = search rules
 
-shared-slice-read-slot : tie.Need-shared-slice-read-slot invariant-loop decreases-loop
-shared-slice-read-slot c = search rules
+bounds-slots-j : tie.Need-bounds-slots-j invariant-loop-j decreases-loop-j
+bounds-slots-j c = search rules
 
-find-byte-requires : tie.Need-find-byte-requires invariant-loop decreases-loop
-find-byte-requires c κs =
-    (omega (arith, c.before.before.loop.invariant.1, (good c.before).above), omega (arith, (good c.before).inside))
+find_byte-full-requires : tie.Need-find_byte-full-requires invariant-loop-j decreases-loop-j
+find_byte-full-requires c κs =
+    (omega (arith, c.loop-j.invariant.1, (good c.before).above), omega (arith, (good c.before).inside))
 
-returns : tie.Need-returns invariant-loop decreases-loop
-returns c =
-    let full = c.before in
-    let l = full.before.before.before in
-    let right = l.before.before.before.requires in
+returns-then-full-slot : tie.Need-returns-then-full-slot invariant-loop-j decreases-loop-j
+returns-then-full-slot c =
+    let right = c.requires in
     sym
-    (searched-found (parts l) right l.loop.from l.loop.invariant.2 l.loop.j _ (omega arith) l.loop.invariant.1
-    full.find-byte.ensures c.if1.true)
+    (searched-found (parts c.before.before.before.before) right c.loop-j.from c.loop-j.invariant.2 c.loop-j.j _ (omega arith) c.loop-j.invariant.1
+    c.find_byte-full.ensures c.if-full-slot.true)
 
-add-from : tie.Need-overflow-add-from invariant-loop decreases-loop
-add-from c = omega (arith, (good c.before.before.before).inside)
+overflow_add-from : tie.Need-overflow_add-from invariant-loop-j decreases-loop-j
+overflow_add-from c = omega (arith, (good c.before.before.before).inside)
 
-add-j : tie.Need-overflow-add-j invariant-loop decreases-loop
-add-j c = search rules
+overflow_add-j : tie.Need-overflow_add-j invariant-loop-j decreases-loop-j
+overflow_add-j c = search rules
 
-loop-less : tie.Need-loop-smaller invariant-loop decreases-loop
-loop-less c = search rules
+loop-j-smaller : tie.Need-loop-j-smaller invariant-loop-j decreases-loop-j
+loop-j-smaller c = search rules
 
-loop-again : tie.Need-loop-preserved invariant-loop decreases-loop
-loop-again c =
-    let full = c.before in
-    let l = full.before.before.before in
-    let right = l.before.before.before.requires in (
+loop-j-preserved : tie.Need-loop-j-preserved invariant-loop-j decreases-loop-j
+loop-j-preserved c =
+    let right = c.requires in (
       omega arith,
-      rw (add-one l.loop.j),
-      searched-more (parts l) right l.loop.from l.loop.invariant.2 l.loop.j _ (omega arith)
-          full.find-byte.ensures (omega arith),
+      rw (add-one c.loop-j.j),
+      searched-more (parts c.before.before.before.before) right c.loop-j.from c.loop-j.invariant.2 c.loop-j.j _ (omega arith)
+          c.find_byte-full.ensures (omega arith),
     )
 
-find-byte-requires-2 : tie.Need-find-byte-requires-2 invariant-loop decreases-loop
-find-byte-requires-2 c κs =
-    let l = c.before in
-    let low = lowest-le (parts l) l.before.before.before.requires l.loop.j l.loop.invariant.0 in
-    (omega (arith, l.loop.invariant.1, low), omega arith)
+find_byte-requires : tie.Need-find_byte-requires invariant-loop-j decreases-loop-j
+find_byte-requires c κs =
+    let low = lowest-le (parts c.before) c.requires c.loop-j.j c.loop-j.invariant.0 in
+    (omega (arith, c.loop-j.invariant.1, low), omega arith)
 
-returns-2 : tie.Need-returns-2 invariant-loop decreases-loop
-returns-2 c =
-    let l = c.before.before in
-    let P = parts l in
-    let end : l.loop.j ≡ P.k = omega arith in
+returns : tie.Need-returns invariant-loop-j decreases-loop-j
+returns c =
+    let P = parts c.before.before in
+    let end : c.loop-j.j ≡ P.k = omega arith in
     sym
-    (searched-end P l.before.before.before.requires l.loop.from l.loop.invariant.2 _ (rw end at l.loop.invariant.1)
-    c.find-byte2.ensures)
+    (searched-end P c.requires c.loop-j.from c.loop-j.invariant.2 _ (rw end at c.loop-j.invariant.1)
+    c.find_byte.ensures)
 
-pub search-slots-spec : {M : Type 1} → statement M
-search-slots-spec =
+pub search_slots_spec : {M : Type 1} → statement M
+search_slots_spec =
     tie.close
     (tie.spec
-    invariant-loop
-    decreases-loop
-    loop-holds
-    mul-slot
-    shared-slice-read-slot
-    find-byte-requires
-    returns
-    add-from
-    add-j
-    loop-less
-    loop-again
-    find-byte-requires-2
-    returns-2)
+    invariant-loop-j
+    decreases-loop-j
+    loop-j-init
+    offset_bounds-slots-j
+    bounds-slots-j
+    find_byte-full-requires
+    returns-then-full-slot
+    overflow_add-from
+    overflow_add-j
+    loop-j-smaller
+    loop-j-preserved
+    find_byte-requires
+    returns)

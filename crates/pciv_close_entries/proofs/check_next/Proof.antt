@@ -21,97 +21,84 @@ checking : (s : tie.Start) (call : Call) → Next call s.args.k s.args.job s.arg
 checking s call nx d =
     checking-of s.args.primary.now call s.args.k s.args.job s.args.e nx s.args.out.now d s.requires.1
 
-good : (c : tie.Else1)
-    → (let a = c.before.before.before.before.args in
+good : (c : tie.Else-wrong_entry)
+    → (let a = c.args in
     wrong_entry (length a.primary.now) (at a.primary.now) a.job.lowest a.e.slot a.e.distance ≡ false)
-good c = sym c.before.wrong-entry.ensures ∙ c.if1.false
+good c = sym c.wrong_entry.ensures ∙ c.if-wrong_entry.false
 
 -- it was the last entry
-last : (c : tie.Else2)
-    → (let a = c.before.before.before.before.before.before.before.args in a.k ≤ a.job.next + 1)
-last c = rw c.before.before.onward.ensures at c.if2.false
+last : (c : tie.Else-then-k)
+    → (let a = c.args in a.k ≤ a.job.next + 1)
+last c = rw c.onward-then.ensures at c.if-then-k.false
 
-wrong-entry-requires : tie.Need-wrong-entry-requires
-wrong-entry-requires c κs = search rules
+wrong_entry-requires : tie.Need-wrong_entry-requires
+wrong_entry-requires c κs = search rules
 
-refuse-file-requires : tie.Need-refuse-file-requires
-refuse-file-requires c κs = search rules
+refuse_file-requires : tie.Need-refuse_file-requires
+refuse_file-requires c κs = search rules
 
 ended-requires : tie.Need-ended-requires
 ended-requires c κs = search rules
 
-returns : tie.Need-returns
-returns c =
-    let t = c.before.before in
-    let s = t.before.before.before.before in
-    let a = s.args in
-    let wrong = sym t.before.wrong-entry.ensures ∙ t.if1.true in
+returns-then-wrong_entry : tie.Need-returns-then-wrong_entry
+returns-then-wrong_entry c =
+    let a = c.args in
+    let wrong = sym c.wrong_entry.ensures ∙ c.if-wrong_entry.true in
     λ call nx d.
     step-ended a.primary.now call a.k a.job a.e nx _ c.ended.result a.out.now
-    (c.ended.ensures ∙ ap (ended_job a.k) c.before.refuse-file.ensures)
-    (checking-wrong a.primary.now call a.k a.job a.e nx a.out.now (checking s call nx d) wrong)
+    (c.ended.ensures ∙ ap (ended_job a.k) c.refuse_file.ensures)
+    (checking-wrong a.primary.now call a.k a.job a.e nx a.out.now (checking c.before.before.before.before.before.before call nx d) wrong)
 
-add-onward : tie.Need-overflow-add-onward
-add-onward c =
-    let s = c.before.before.before.before in
-    let p = s.requires.0 in
+overflow_add-slot : tie.Need-overflow_add-slot
+overflow_add-slot c =
+    let p = c.requires.0 in
     omega (
       arith,
-      checking-inside s.args.primary.now p.0 s.args.k s.args.job s.args.e p.1 s.args.out.now
-          (checking s p.0 p.1 p.2) (good c),
+      checking-inside c.args.primary.now p.0 c.args.k c.args.job c.args.e p.1 c.args.out.now
+          (checking c.before.before.before.before p.0 p.1 p.2) (good c),
     )
 
-onward-requires : tie.Need-onward-requires
-onward-requires c κs = c.before.before.before.before.requires.0.1.more
+onward-then-requires : tie.Need-onward-then-requires
+onward-then-requires c κs = c.requires.0.1.more
 
-returns-2 : tie.Need-returns-2
-returns-2 c =
-    let o = c.before.before in
-    let g = o.before in
-    let s = g.before.before.before.before in
-    let a = s.args in
+returns-then-then-k : tie.Need-returns-then-then-k
+returns-then-then-k c =
+    let a = c.args in
     λ call nx d.
-    step-onward a.primary.now call a.k a.job a.e nx _ o.onward.result a.out.now Check s.requires.1
-    o.onward.ensures c.if2.true
-    (checking-more a.primary.now call a.k a.job a.e nx a.out.now (checking s call nx d) (good g))
+    step-onward a.primary.now call a.k a.job a.e nx _ c.onward-then.result a.out.now Check c.requires.1
+    c.onward-then.ensures c.if-then-k.true
+    (checking-more a.primary.now call a.k a.job a.e nx a.out.now (checking c.before.before.before.before.before.before.before call nx d) (good c.before.before.before))
 
 checked-requires : tie.Need-checked-requires
 checked-requires c κs =
-    let l = c.before in
-    let g = l.before.before.before in
-    let s = g.before.before.before.before in
-    let p = s.requires.0 in (
+    let p = c.requires.0 in (
       p.0,
-      checking-all s.args.primary.now p.0 s.args.k s.args.job s.args.e p.1 s.args.out.now
-          (checking s p.0 p.1 p.2) (good g) (last l),
+      checking-all c.args.primary.now p.0 c.args.k c.args.job c.args.e p.1 c.args.out.now
+          (checking c.before.before.before.before.before.before.before.before p.0 p.1 p.2) (good c.before.before.before.before) (last c.before),
     )
 
-same_length : tie.Need-same-length
-same_length c = search rules
+shape_of-out : tie.Need-shape_of-out
+shape_of-out c = search rules
 
-returns-3 : tie.Need-returns-3
-returns-3 c =
-    let y = c.before.before in
-    let l = y.before.before in
-    let g = l.before.before.before in
-    let s = g.before.before.before.before in
-    let a = s.args in
+returns : tie.Need-returns
+returns c =
+    let a = c.args in
     λ call nx d.
-    step-later a.primary.now call a.k a.job a.e nx y.checked.result _ Check s.requires.1
-    (y.checked.ensures call
-    (checking-all a.primary.now call a.k a.job a.e nx a.out.now (checking s call nx d) (good g) (last l)))
+    step-later a.primary.now call a.k a.job a.e nx c.checked.result _ Check c.requires.1
+    (c.checked.ensures call
+    (checking-all a.primary.now call a.k a.job a.e nx a.out.now (checking c.before.before.before.before.before.before.before.before.before.before.before call nx d) (good c.before.before.before.before.before.before.before) (last c.before.before.before.before)))
 
-pub check-next-spec : {M : Type 1} → statement M
-check-next-spec =
+pub check_next_spec : {M : Type 1} → statement M
+check_next_spec =
     tie.close
     (tie.spec
-    wrong-entry-requires
-    refuse-file-requires
+    wrong_entry-requires
+    refuse_file-requires
     ended-requires
-    returns
-    add-onward
-    onward-requires
-    returns-2
+    returns-then-wrong_entry
+    overflow_add-slot
+    onward-then-requires
+    returns-then-then-k
     checked-requires
-    same_length
-    returns-3)
+    shape_of-out
+    returns)

@@ -11,16 +11,16 @@ use Rattle.pciv_close_entries.proofs.onward.Tie as tie
 abbrev job_of : ℕ → ℕ → Pass → FileAnswer → Job
 job_of next lowest pass answer = record { next = next; lowest = lowest; pass = pass; answer = answer }
 
-same-requires : tie.Need-same-requires
-same-requires c κs = search rules
+same-answer-requires : tie.Need-same-answer-requires
+same-answer-requires c κs = search rules
 
-add-t7 : tie.Need-overflow-add-t7
-add-t7 c = search rules
+overflow_add-result : tie.Need-overflow_add-result
+overflow_add-result c = search rules
 
 returns : tie.Need-returns
 returns c =
-    let a = c.before.before.args in
-    ap (job_of (a.job.next + 1) a.lowest a.job.pass) c.before.same.ensures
+    let a = c.args in
+    ap (job_of (a.job.next + 1) a.lowest a.job.pass) c.same-answer.ensures
 
-pub onward-spec : {M : Type 1} → statement M
-onward-spec = tie.close (tie.spec same-requires add-t7 returns)
+pub onward_spec : {M : Type 1} → statement M
+onward_spec = tie.close (tie.spec same-answer-requires overflow_add-result returns)

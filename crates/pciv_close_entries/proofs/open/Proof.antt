@@ -13,72 +13,60 @@ use borrow.Author.Rules.{rules}
 use Rattle.pciv_close_entries.proofs.open.Statement.{statement}
 use Rattle.pciv_close_entries.proofs.open.Tie as tie
 
-bytes : (c : tie.After-shared-slice-known) → Bytes c.before.before.args.primary.now
-bytes c i = omega (arith, c.shared-slice-known.given i)
+bytes : (c : tie.After-shared_slice_known-1) → Bytes c.args.primary.now
+bytes c i = omega (arith, c.shared_slice_known-1.given i)
 
-begun-done : (c : tie.After-enum-told)
-    → (let b = c.before.before.before.before in
-    let a = b.before.before.before.before.args in
-    begin_outcome (length a.primary.now) a.k (length a.out.now) ≡ done c.enum_told.given.0.0)
+begun-done : (c : tie.In-Counted)
+    → (let a = c.args in
+    begin_outcome (length a.primary.now) a.k (length a.out.now) ≡ done c.in-Counted.field-0)
 begun-done c =
-    counts_answer-counted _ _ (sym c.enum_told.given.1 ∙ c.before.before.before.before.begin.ensures.0)
+    counts_answer-counted _ _ (sym c.in-Counted.is ∙ c.begin-begun.ensures.0)
 
-begin-requires : tie.Need-begin-requires
-begin-requires c κs =
-    let p = c.before in
-    let s = p.before.before in
-    (s.requires.1.few, sound-few s.args.primary.now s.requires.0 s.args.k s.args.out.now (bytes p) s.requires.1)
+begin-begun-requires : tie.Need-begin-begun-requires
+begin-begun-requires c κs =
+    (c.requires.1.few, sound-few c.args.primary.now c.requires.0 c.args.k c.args.out.now (bytes c.before) c.requires.1)
 
-enum-known-begun : tie.Need-enum-known-begun
-enum-known-begun c = search rules
+enum_known-begun : tie.Need-enum_known-begun
+enum_known-begun c = search rules
 
 ended-requires : tie.Need-ended-requires
 ended-requires c κs = search rules
 
-enum_told : tie.Need-enum-told
-enum_told c = search rules
+enum_told-1 : tie.Need-enum_told-1
+enum_told-1 c = search rules
 
-copy-bytes-requires : tie.Need-copy-bytes-requires
-copy-bytes-requires c κs =
-    let o = c.before in
-    let b = o.before.before.before.before in
-    let a = b.before.before.before.before.args in
-    let e = begun (length a.primary.now) a.k a.out.now o.enum_told.given.0.0 (begun-done o) in
-    omega (arith, e.entries, b.begin.auto.0)
+copy_bytes-requires : tie.Need-copy_bytes-requires
+copy_bytes-requires c κs =
+    let a = c.args in
+    let e = begun (length a.primary.now) a.k a.out.now c.in-Counted.field-0 (begun-done c.before) in
+    omega (arith, e.entries, c.begin-begun.auto.out)
 
-refuse-file-requires : tie.Need-refuse-file-requires
-refuse-file-requires c κs = search rules
+refuse_file-requires : tie.Need-refuse_file-requires
+refuse_file-requires c κs = search rules
 
-same_length : tie.Need-same-length
-same_length c = search rules
+shape_of-out-in-Refused : tie.Need-shape_of-out-in-Refused
+shape_of-out-in-Refused c = search rules
 
-returns : tie.Need-returns
-returns c =
-    let u = c.before.before in
-    let b = u.before.before.before.before in
-    let p = b.before.before in
-    let a = p.before.before.args in
-    let refusal = counts_answer-refused _ u.begun.given.0.0 (sym u.begun.given.1 ∙ b.begin.ensures.0) in
+returns-in-Refused : tie.Need-returns-in-Refused
+returns-in-Refused c =
+    let a = c.args in
+    let refusal = counts_answer-refused _ c.in-Refused.r (sym c.in-Refused.is ∙ c.begin-begun.ensures.0) in
     λ call sound. (
       doing-ended a.primary.now call a.k _ c.ended.result _ sound.count c.ended.ensures
-          (sound-refused a.primary.now call a.k a.out.now (bytes p) sound _ _ refusal b.begin.ensures.1),
+          (sound-refused a.primary.now call a.k a.out.now (bytes c.before.before.before.before.before.before) sound _ _ refusal c.begin-begun.ensures.1),
       rw c.ended.ensures (omega arith),
     )
 
-same-length-2 : tie.Need-same-length-2
-same-length-2 c = search rules
+shape_of-out-in-Counted : tie.Need-shape_of-out-in-Counted
+shape_of-out-in-Counted c = search rules
 
-returns-2 : tie.Need-returns-2
-returns-2 c =
-    let y = c.before.before.before in
-    let o = y.before.before in
-    let b = o.before.before.before.before in
-    let p = b.before.before in
-    let a = p.before.before.args in
+returns-in-Counted : tie.Need-returns-in-Counted
+returns-in-Counted c =
+    let a = c.args in
     λ call sound. (
       doing-going a.primary.now call _ _ (omega (arith, sound.count, sound.more))
-          (sound-begun a.primary.now call a.k a.out.now (bytes p) sound _ b.begin.new.0 _ _
-          (begun-done o) b.begin.ensures.1 y.copy-bytes.ensures refl),
+          (sound-begun a.primary.now call a.k a.out.now (bytes c.before.before.before.before.before.before.before.before.before.before) sound _ c.begin-begun.new.out _ _
+          (begun-done c.before.before.before.before.before) c.begin-begun.ensures.1 c.copy_bytes.ensures refl),
       omega arith,
     )
 
@@ -86,13 +74,13 @@ pub open_spec : {M : Type 1} → statement M
 open_spec =
     tie.close
     (tie.spec
-    begin-requires
-    enum-known-begun
+    begin-begun-requires
+    enum_known-begun
     ended-requires
-    enum_told
-    copy-bytes-requires
-    refuse-file-requires
-    same_length
-    returns
-    same-length-2
-    returns-2)
+    enum_told-1
+    copy_bytes-requires
+    refuse_file-requires
+    shape_of-out-in-Refused
+    returns-in-Refused
+    shape_of-out-in-Counted
+    returns-in-Counted)

@@ -32,131 +32,105 @@ order s =
     (searching s p.0 p.1 p.2)
 
 -- it was the last entry
-over : (c : tie.Else2)
-    → (let a = c.before.before.before.before.before.before.before.args in a.k ≤ a.job.next + 1)
-over c = rw c.before.before.onward.ensures at c.if2.false
+over : (c : tie.Else-then-k)
+    → (let a = c.args in a.k ≤ a.job.next + 1)
+over c = rw c.onward-then.ensures at c.if-then-k.false
 
-find-byte-requires : tie.Need-find-byte-requires
-find-byte-requires c κs = (order c.before.before, omega (arith, inside c.before.before))
+find_byte-full-requires : tie.Need-find_byte-full-requires
+find_byte-full-requires c κs = (order c.before.before, omega (arith, inside c.before.before))
 
-refuse-file-requires : tie.Need-refuse-file-requires
-refuse-file-requires c κs = search rules
+refuse_file-requires : tie.Need-refuse_file-requires
+refuse_file-requires c κs = search rules
 
 ended-requires : tie.Need-ended-requires
 ended-requires c κs = search rules
 
-returns : tie.Need-returns
-returns c =
-    let t = c.before.before in
-    let f = t.before in
-    let s = f.before.before.before in
-    let a = s.args in
+returns-then-full-slot : tie.Need-returns-then-full-slot
+returns-then-full-slot c =
+    let a = c.args in
     λ call nx d.
     step-ended a.primary.now call a.k a.job a.e nx _ c.ended.result a.out.now
-    (c.ended.ensures ∙ ap (ended_job a.k) c.before.refuse-file.ensures)
-    (searching-found a.primary.now call a.k a.job a.e nx a.out.now (searching s call nx d)
-    f.find-byte.result f.find-byte.ensures t.if1.true)
+    (c.ended.ensures ∙ ap (ended_job a.k) c.refuse_file.ensures)
+    (searching-found a.primary.now call a.k a.job a.e nx a.out.now (searching c.before.before.before.before.before.before call nx d)
+    c.find_byte-full.result c.find_byte-full.ensures c.if-full-slot.true)
 
-add-onward : tie.Need-overflow-add-onward
-add-onward c = omega (arith, inside c.before.before.before.before)
+overflow_add-slot : tie.Need-overflow_add-slot
+overflow_add-slot c = omega (arith, inside c.before.before.before.before)
 
-onward-requires : tie.Need-onward-requires
-onward-requires c κs = c.before.before.before.before.requires.0.1.more
+onward-then-requires : tie.Need-onward-then-requires
+onward-then-requires c κs = c.requires.0.1.more
 
-returns-2 : tie.Need-returns-2
-returns-2 c =
-    let o = c.before.before in
-    let g = o.before in
-    let f = g.before in
-    let s = f.before.before.before in
-    let a = s.args in
+returns-then-then-k : tie.Need-returns-then-then-k
+returns-then-then-k c =
+    let a = c.args in
     λ call nx d.
-    step-onward a.primary.now call a.k a.job a.e nx _ o.onward.result a.out.now Search s.requires.1
-    o.onward.ensures c.if2.true
-    (searching-more a.primary.now call a.k a.job a.e nx a.out.now (searching s call nx d)
-    f.find-byte.result f.find-byte.ensures g.if1.false)
+    step-onward a.primary.now call a.k a.job a.e nx _ c.onward-then.result a.out.now Search c.requires.1
+    c.onward-then.ensures c.if-then-k.true
+    (searching-more a.primary.now call a.k a.job a.e nx a.out.now (searching c.before.before.before.before.before.before.before call nx d)
+    c.find_byte-full.result c.find_byte-full.ensures c.if-full-slot.false)
 
-add-find-byte : tie.Need-overflow-add-find-byte
-add-find-byte c = omega (arith, inside c.before.before.before.before.before.before.before)
+overflow_add-slot-2 : tie.Need-overflow_add-slot-2
+overflow_add-slot-2 c = omega (arith, inside c.before.before.before.before.before.before.before)
 
-find-byte-requires-2 : tie.Need-find-byte-requires-2
-find-byte-requires-2 c κs =
+find_byte-last-requires : tie.Need-find_byte-last-requires
+find_byte-last-requires c κs =
     (omega (arith, inside c.before.before.before.before.before.before.before), omega arith)
 
-refuse-file-requires-2 : tie.Need-refuse-file-requires-2
-refuse-file-requires-2 c κs = search rules
+refuse_file-requires-then-last-n : tie.Need-refuse_file-requires-then-last-n
+refuse_file-requires-then-last-n c κs = search rules
 
-ended-requires-2 : tie.Need-ended-requires-2
-ended-requires-2 c κs = search rules
+ended-requires-then-last-n : tie.Need-ended-requires-then-last-n
+ended-requires-then-last-n c κs = search rules
 
-returns-3 : tie.Need-returns-3
-returns-3 c =
-    let t = c.before.before in
-    let z = t.before in
-    let l = z.before in
-    let g = l.before.before.before in
-    let f = g.before in
-    let s = f.before.before.before in
-    let a = s.args in
+returns-then-last-n : tie.Need-returns-then-last-n
+returns-then-last-n c =
+    let a = c.args in
     λ call nx d.
-    step-ended a.primary.now call a.k a.job a.e nx _ c.ended2.result a.out.now
-    (c.ended2.ensures ∙ ap (ended_job a.k) c.before.refuse-file2.ensures)
-    (searching-last a.primary.now call a.k a.job a.e nx a.out.now (searching s call nx d)
-    f.find-byte.result f.find-byte.ensures g.if1.false (over l) z.find-byte2.result
-    z.find-byte2.ensures t.if3.true)
+    step-ended a.primary.now call a.k a.job a.e nx _ c.ended-then-last-n.result a.out.now
+    (c.ended-then-last-n.ensures ∙ ap (ended_job a.k) c.refuse_file-then-last-n.ensures)
+    (searching-last a.primary.now call a.k a.job a.e nx a.out.now (searching c.before.before.before.before.before.before.before.before.before.before.before call nx d)
+    c.find_byte-full.result c.find_byte-full.ensures c.if-full-slot.false (over c.before.before.before.before) c.find_byte-last.result
+    c.find_byte-last.ensures c.if-last-n.true)
 
 open-requires : tie.Need-open-requires
 open-requires c κs =
-    let t = c.before in
-    let z = t.before in
-    let l = z.before in
-    let g = l.before.before.before in
-    let f = g.before in
-    let s = f.before.before.before in
-    let a = s.args in
-    let p = s.requires.0 in (
+    let a = c.args in
+    let p = c.requires.0 in (
       p.0,
       searching-none a.primary.now p.0 a.k a.job a.e p.1 a.out.now
-          (searching s p.0 p.1 p.2) f.find-byte.result f.find-byte.ensures g.if1.false (over l)
-          z.find-byte2.result z.find-byte2.ensures t.if3.false,
+          (searching c.before.before.before.before.before.before.before.before.before.before p.0 p.1 p.2) c.find_byte-full.result c.find_byte-full.ensures c.if-full-slot.false (over c.before.before.before)
+          c.find_byte-last.result c.find_byte-last.ensures c.if-last-n.false,
     )
 
-same_length : tie.Need-same-length
-same_length c = search rules
+shape_of-out : tie.Need-shape_of-out
+shape_of-out c = search rules
 
-returns-4 : tie.Need-returns-4
-returns-4 c =
-    let y = c.before.before in
-    let t = y.before.before in
-    let z = t.before in
-    let l = z.before in
-    let g = l.before.before.before in
-    let f = g.before in
-    let s = f.before.before.before in
-    let a = s.args in
+returns : tie.Need-returns
+returns c =
+    let a = c.args in
     λ call nx d.
-    step-later a.primary.now call a.k a.job a.e nx y.open.result _ Search s.requires.1
-    (y.open.ensures call
-    (searching-none a.primary.now call a.k a.job a.e nx a.out.now (searching s call nx d)
-    f.find-byte.result f.find-byte.ensures g.if1.false (over l) z.find-byte2.result
-    z.find-byte2.ensures t.if3.false))
+    step-later a.primary.now call a.k a.job a.e nx c.open.result _ Search c.requires.1
+    (c.open.ensures call
+    (searching-none a.primary.now call a.k a.job a.e nx a.out.now (searching c.before.before.before.before.before.before.before.before.before.before.before.before.before call nx d)
+    c.find_byte-full.result c.find_byte-full.ensures c.if-full-slot.false (over c.before.before.before.before.before.before) c.find_byte-last.result
+    c.find_byte-last.ensures c.if-last-n.false))
 
-pub search-next-spec : {M : Type 1} → statement M
-search-next-spec =
+pub search_next_spec : {M : Type 1} → statement M
+search_next_spec =
     tie.close
     (tie.spec
-    find-byte-requires
-    refuse-file-requires
+    find_byte-full-requires
+    refuse_file-requires
     ended-requires
-    returns
-    add-onward
-    onward-requires
-    returns-2
-    add-find-byte
-    find-byte-requires-2
-    refuse-file-requires-2
-    ended-requires-2
-    returns-3
+    returns-then-full-slot
+    overflow_add-slot
+    onward-then-requires
+    returns-then-then-k
+    overflow_add-slot-2
+    find_byte-last-requires
+    refuse_file-requires-then-last-n
+    ended-requires-then-last-n
+    returns-then-last-n
     open-requires
-    same_length
-    returns-4)
+    shape_of-out
+    returns)

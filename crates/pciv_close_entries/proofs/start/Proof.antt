@@ -8,67 +8,65 @@ use borrow.Author.Rules.{rules}
 use Rattle.pciv_close_entries.proofs.start.Statement.{statement}
 use Rattle.pciv_close_entries.proofs.start.Tie as tie
 
-refuse-file-requires : tie.Need-refuse-file-requires
-refuse-file-requires c κs = search rules
+refuse_file-requires : tie.Need-refuse_file-requires
+refuse_file-requires c κs = search rules
 
 ended-requires : tie.Need-ended-requires
 ended-requires c κs = search rules
 
-returns : tie.Need-returns
-returns c =
-    let a = c.before.before.before.before.before.args in
+returns-then-primary-gt-MAX_SLOTS : tie.Need-returns-then-primary-gt-MAX_SLOTS
+returns-then-primary-gt-MAX_SLOTS c =
+    let a = c.args in
     λ call count is.
     doing-ended a.primary.now call a.k _ c.ended.result a.out.now count
-    (c.ended.ensures ∙ ap (ended_job a.k) c.before.refuse-file.ensures)
+    (c.ended.ensures ∙ ap (ended_job a.k) c.refuse_file.ensures)
     (start-many a.primary.now call a.out.now (omega arith) is)
 
-slice-aggregate-close : tie.Need-slice-aggregate-close
-slice-aggregate-close c = search rules
+slice_bounds-close-end : tie.Need-slice_bounds-close-end
+slice_bounds-close-end c = search rules
 
-slice-aggregate-close-2 : tie.Need-slice-aggregate-close-2
-slice-aggregate-close-2 c = search rules
+slice_bounds-close-end-then-k-eq0 : tie.Need-slice_bounds-close-end-then-k-eq0
+slice_bounds-close-end-then-k-eq0 c = search rules
 
 close-requires : tie.Need-close-requires
 close-requires c κs = search rules
 
-ended-requires-2 : tie.Need-ended-requires-2
-ended-requires-2 c κs = search rules
+ended-requires-then-k-eq0 : tie.Need-ended-requires-then-k-eq0
+ended-requires-then-k-eq0 c κs = search rules
 
-same_length : tie.Need-same-length
-same_length c = search rules
+shape_of-out-then-k-eq0 : tie.Need-shape_of-out-then-k-eq0
+shape_of-out-then-k-eq0 c = search rules
 
-returns-2 : tie.Need-returns-2
-returns-2 c =
-    let y = c.before.before.before in
-    let t = y.before.before.before.before in
-    let a = t.before.before.before.before.args in
+returns-then-k-eq0 : tie.Need-returns-then-k-eq0
+returns-then-k-eq0 c =
+    let a = c.args in
     λ call count is.
-    doing-ended a.primary.now call a.k _ c.ended2.result _ count c.ended2.ensures
-    (start-empty a.primary.now call _ a.out.now _ (count ∙ t.if2.true) is y.close.ensures.0
-    y.close.ensures.1)
+    doing-ended a.primary.now call a.k _ c.ended-then-k-eq0.result _ count c.ended-then-k-eq0.ensures
+    (start-empty a.primary.now call _ a.out.now _ (count ∙ c.if-k-eq0.true) is c.close.ensures.0
+    c.close.ensures.1)
 
-refuse-file-requires-2 : tie.Need-refuse-file-requires-2
-refuse-file-requires-2 c κs = search rules
+refuse_file-requires-2 : tie.Need-refuse_file-requires-2
+refuse_file-requires-2 c κs = search rules
 
-returns-3 : tie.Need-returns-3
-returns-3 c =
-    let a = c.before.before.before.before.before.args in
+returns : tie.Need-returns
+returns c =
+    let a = c.args in
     λ call count is.
-    doing-going a.primary.now call _ _ (omega (arith, count, c.before.if2.false))
+    doing-going a.primary.now call _ _ (omega (arith, count, c.if-k-eq0.false))
     (start-check a.primary.now call _ a.out.now (omega arith) is refl refl)
 
 pub start_spec : {M : Type 1} → statement M
 start_spec =
     tie.close
     (tie.spec
-    refuse-file-requires
+    refuse_file-requires
     ended-requires
-    returns
-    slice-aggregate-close
-    slice-aggregate-close-2
+    returns-then-primary-gt-MAX_SLOTS
+    slice_bounds-close-end
+    slice_bounds-close-end-then-k-eq0
     close-requires
-    ended-requires-2
-    same_length
-    returns-2
-    refuse-file-requires-2
-    returns-3)
+    ended-requires-then-k-eq0
+    shape_of-out-then-k-eq0
+    returns-then-k-eq0
+    refuse_file-requires-2
+    returns)

@@ -4,19 +4,18 @@ use Rattle.pciv_format.proofs.QuotientLaws.{in-float, quotient-zero, quotient-ov
 use Rattle.pciv_compare.proofs.divide.Statement.{statement}
 use Rattle.pciv_compare.proofs.divide.Tie as tie
 
+returns-then-q-eq0 : tie.Need-returns-then-q-eq0
+returns-then-q-eq0 c = sym (quotient-zero c.args.p c.args.q c.if-q-eq0.true)
+
+int_to_float-result : tie.Need-int_to_float-result
+int_to_float-result c = in-float c.args.p c.requires.0
+
+int_to_float-result-2 : tie.Need-int_to_float-result-2
+int_to_float-result-2 c = in-float c.args.q c.requires.1
+
 returns : tie.Need-returns
-returns c = sym (quotient-zero c.before.args.p c.before.args.q c.if1.true)
+returns c =
+    sym (quotient-over c.args.p c.args.q c.if-q-eq0.false)
 
-int-to-float-result : tie.Need-int-to-float-result
-int-to-float-result c = let s = c.before.before in in-float s.args.p s.requires.0
-
-int-to-float-result-2 : tie.Need-int-to-float-result-2
-int-to-float-result-2 c = let s = c.before.before.before in in-float s.args.q s.requires.1
-
-returns-2 : tie.Need-returns-2
-returns-2 c =
-    let d = c.before.before in
-    sym (quotient-over d.before.args.p d.before.args.q d.if1.false)
-
-pub divide-spec : {M : Type 1} → statement M
-divide-spec = tie.close (tie.spec returns int-to-float-result int-to-float-result-2 returns-2)
+pub divide_spec : {M : Type 1} → statement M
+divide_spec = tie.close (tie.spec returns-then-q-eq0 int_to_float-result int_to_float-result-2 returns)

@@ -3,20 +3,27 @@ use borrow.Author.Rules.{rules}
 use Rattle.pciv_compare.proofs.divisor.Statement.{statement}
 use Rattle.pciv_compare.proofs.divisor.Tie as tie
 
-enum_told : tie.Need-enum-told
-enum_told c = search rules
+enum_told-1 : tie.Need-enum_told-1
+enum_told-1 c = search rules
 
-add-result : tie.Need-overflow-add-result
-add-result c = search rules
+overflow_add-result : tie.Need-overflow_add-result
+overflow_add-result c = search rules
 
-enum-told-2 : tie.Need-enum-told-2
-enum-told-2 c = search rules
+enum_told-in-From : tie.Need-enum_told-in-From
+enum_told-in-From c = search rules
 
-returns : tie.Need-returns
-returns c = rw c.enum_told.given.1
+returns-in-Distance : tie.Need-returns-in-Distance
+returns-in-Distance c = rw c.in-Distance.is
 
-returns-2 : tie.Need-returns-2
-returns-2 c = rw c.enum-told2.given.1
+returns-in-From : tie.Need-returns-in-From
+returns-in-From c = rw c.in-From.is
 
-pub divisor-spec : {M : Type 1} → statement M
-divisor-spec = tie.close (tie.spec enum_told add-result enum-told-2 returns returns-2)
+pub divisor_spec : {M : Type 1} → statement M
+divisor_spec =
+    tie.close
+    (tie.spec
+    enum_told-1
+    overflow_add-result
+    enum_told-in-From
+    returns-in-Distance
+    returns-in-From)

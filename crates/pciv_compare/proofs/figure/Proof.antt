@@ -13,81 +13,76 @@ use Rattle.pciv_compare.proofs.FigureLaws.{parts-fit, figure-refused, figure-rea
 use Rattle.pciv_compare.proofs.figure.Statement.{statement}
 use Rattle.pciv_compare.proofs.figure.Tie as tie
 
-abbrev entry : tie.After-check-pair → tie.Start
+abbrev entry : tie.After-check_pair-checked → tie.Start
 entry c = c.before.before.before
 
 -- what the check has shown: why the pair is refused, or its counts
-is-refused : (c : tie.After-checked)
-    → (let a = (entry c.before.before).args in
-    pair_counts a.a.now a.b.now ≡ refused c.checked.given.0.0)
-is-refused c = pair_answer-refused _ _ (sym c.checked.given.1 ∙ c.before.before.check-pair.ensures)
+is-refused : (c : tie.In-Refused)
+    → (let a = (entry c.before).args in
+    pair_counts a.a.now a.b.now ≡ refused c.in-Refused.r)
+is-refused c = pair_answer-refused _ _ (sym c.in-Refused.is ∙ c.check_pair-checked.ensures)
 
-are-maps : (c : tie.After-checked2)
-    → (let a = (entry c.before.before).args in
-    pair_counts a.a.now a.b.now ≡ done c.checked2.given.0.0)
-are-maps c = pair_answer-ready _ _ (sym c.checked2.given.1 ∙ c.before.before.check-pair.ensures)
+are-maps : (c : tie.In-Ready)
+    → (let a = (entry c.before).args in
+    pair_counts a.a.now a.b.now ≡ done c.in-Ready.c)
+are-maps c = pair_answer-ready _ _ (sym c.in-Ready.is ∙ c.check_pair-checked.ensures)
 
 -- the parts of the quotient are in order, and not above 2 ^ 53
-fit : (c : tie.After-weigh)
-    → (let r = c.weigh.result in
-    let a = (entry c.before.before.before.before).args in
+fit : (c : tie.After-weigh-sums)
+    → (let r = c.weigh-sums.result in
+    let a = (entry c.before.before).args in
     (r.least ≤ r.most) × (r.least + r.most ≤ 2 ^ 53) × (divisor_of a.of r.least r.most ≤ 2 ^ 53))
 fit c =
-    let k = c.before.before in
-    let d = k.before.before in
-    let a = (entry d).args in
-    parts-fit a.a.now a.b.now _ _ _ (pair-checked _ _ _ (are-maps k)) c.weigh.result
-    (λ j. (d.before.before.shared-slice-known.given j).fits) (λ j. (d.before.shared-slice-known2.given j).fits)
-    a.of c.weigh.ensures
+    let a = (entry c.before.before).args in
+    parts-fit a.a.now a.b.now _ _ _ (pair-checked _ _ _ (are-maps c.before)) c.weigh-sums.result
+    (λ j. (c.shared_slice_known-1.given j).fits) (λ j. (c.shared_slice_known-2-1.given j).fits)
+    a.of c.weigh-sums.ensures
 
-check-pair-requires : tie.Need-check-pair-requires
-check-pair-requires c κs = search rules
+check_pair-checked-requires : tie.Need-check_pair-checked-requires
+check_pair-checked-requires c κs = search rules
 
-enum-known-checked : tie.Need-enum-known-checked
-enum-known-checked c = search rules
+enum_known-checked : tie.Need-enum_known-checked
+enum_known-checked c = search rules
 
-enum-known-checked-2 : tie.Need-enum-known-checked-2
-enum-known-checked-2 c = search rules
+enum_known-checked-in-Ready-1 : tie.Need-enum_known-checked-in-Ready-1
+enum_known-checked-in-Ready-1 c = search rules
 
-weigh-requires : tie.Need-weigh-requires
-weigh-requires c κs = pair-checked _ _ _ (are-maps c.before)
+weigh-sums-requires : tie.Need-weigh-sums-requires
+weigh-sums-requires c κs = pair-checked _ _ _ (are-maps c)
 
-divisor-requires : tie.Need-divisor-requires
-divisor-requires c κs = (fit c).1
+divisor-q-requires : tie.Need-divisor-q-requires
+divisor-q-requires c κs = (fit c).1
 
-sub-divide : tie.Need-overflow-sub-divide
-sub-divide c = omega (arith, (fit c.before).0)
+overflow_sub-most : tie.Need-overflow_sub-most
+overflow_sub-most c = omega (arith, (fit c.before).0)
 
 divide-requires : tie.Need-divide-requires
 divide-requires c κs =
     let all = fit c.before in
-    (omega (arith, all.1), omega (arith, all.2, c.divisor.ensures))
+    (omega (arith, all.1), omega (arith, all.2, c.divisor-q.ensures))
 
-returns : tie.Need-returns
-returns c =
-    let k = c.before in
-    let a = (entry k.before.before).args in
-    ap figure_answer (sym (figure-refused a.of a.a.now a.b.now _ (is-refused k)))
+returns-in-Refused : tie.Need-returns-in-Refused
+returns-in-Refused c =
+    let a = (entry c.before).args in
+    ap figure_answer (sym (figure-refused a.of a.a.now a.b.now _ (is-refused c)))
 
-returns-2 : tie.Need-returns-2
-returns-2 c =
-    let w = c.before.before in
-    let k = w.before.before in
-    let a = (entry k.before.before).args in
-    let r = w.weigh.result in
-    ap Quotient (c.divide.ensures ∙ ap (quotient (r.most - r.least)) c.before.divisor.ensures)
-    ∙ ap figure_answer (sym (figure-ready a.of a.a.now a.b.now _ (are-maps k) r w.weigh.ensures))
+returns-in-Ready : tie.Need-returns-in-Ready
+returns-in-Ready c =
+    let a = (entry c.before.before.before.before).args in
+    let r = c.weigh-sums.result in
+    ap Quotient (c.divide.ensures ∙ ap (quotient (r.most - r.least)) c.divisor-q.ensures)
+    ∙ ap figure_answer (sym (figure-ready a.of a.a.now a.b.now _ (are-maps c.before.before.before) r c.weigh-sums.ensures))
 
-pub figure-spec : {M : Type 1} → statement M
-figure-spec =
+pub figure_spec : {M : Type 1} → statement M
+figure_spec =
     tie.close
     (tie.spec
-    check-pair-requires
-    enum-known-checked
-    enum-known-checked-2
-    weigh-requires
-    divisor-requires
-    sub-divide
+    check_pair-checked-requires
+    enum_known-checked
+    enum_known-checked-in-Ready-1
+    weigh-sums-requires
+    divisor-q-requires
+    overflow_sub-most
     divide-requires
-    returns
-    returns-2)
+    returns-in-Refused
+    returns-in-Ready)

@@ -9,60 +9,58 @@ use borrow.Author.Rules.{rules}
 use Rattle.pciv_disparity.proofs.fill_table.Statement.{statement}
 use Rattle.pciv_disparity.proofs.fill_table.Tie as tie
 
-abbrev invariant-loop : tie.invariant-loop
-invariant-loop constant table₀ d₀ table d = (d ≤ 256) × Left (disparity_distance constant) 256 table₀ table d
+abbrev invariant-loop-d : tie.invariant-loop-d
+invariant-loop-d constant table₀ d₀ table d = (d ≤ 256) × Left (disparity_distance constant) 256 table₀ table d
 
-abbrev decreases-loop : tie.decreases-loop
-decreases-loop constant table₀ d₀ table d = 256 - d
+abbrev decreases-loop-d : tie.decreases-loop-d
+decreases-loop-d constant table₀ d₀ table d = 256 - d
 
-returns : tie.Need-returns invariant-loop decreases-loop
-returns c = answer-refused c.before.args.constant c.if1.true
+returns-then-constant-eq0 : tie.Need-returns-then-constant-eq0 invariant-loop-d decreases-loop-d
+returns-then-constant-eq0 c = answer-refused c.args.constant c.if-constant-eq0.true
 
-loop-holds : tie.Need-loop-init invariant-loop decreases-loop
-loop-holds c = (omega arith, left-start _ 256 _)
+loop-d-init : tie.Need-loop-d-init invariant-loop-d decreases-loop-d
+loop-d-init c = (omega arith, left-start _ 256 _)
 
-distance-of-requires : tie.Need-distance-of-requires invariant-loop decreases-loop
-distance-of-requires c κs = search rules
+distance_of-requires : tie.Need-distance_of-requires invariant-loop-d decreases-loop-d
+distance_of-requires c κs = search rules
 
-cast-table : tie.Need-overflow-cast-table invariant-loop decreases-loop
-cast-table c = search rules
+overflow_cast-table : tie.Need-overflow_cast-table invariant-loop-d decreases-loop-d
+overflow_cast-table c = search rules
 
-mul-table : tie.Need-overflow-mul-table invariant-loop decreases-loop
-mul-table c = search rules
+offset_bounds-table-d : tie.Need-offset_bounds-table-d invariant-loop-d decreases-loop-d
+offset_bounds-table-d c = search rules
 
-array-write-table : tie.Need-array-write-table invariant-loop decreases-loop
-array-write-table c = search rules
+bounds-table-d : tie.Need-bounds-table-d invariant-loop-d decreases-loop-d
+bounds-table-d c = search rules
 
-add-d : tie.Need-overflow-add-d invariant-loop decreases-loop
-add-d c = search rules
+overflow_add-d : tie.Need-overflow_add-d invariant-loop-d decreases-loop-d
+overflow_add-d c = search rules
 
-loop-less : tie.Need-loop-smaller invariant-loop decreases-loop
-loop-less c = search rules
+loop-d-smaller : tie.Need-loop-d-smaller invariant-loop-d decreases-loop-d
+loop-d-smaller c = search rules
 
-loop-again : tie.Need-loop-preserved invariant-loop decreases-loop
-loop-again c = (omega arith, left-more c.before.before.loop.invariant.1 _ (omega arith) c.distance-of.ensures)
+loop-d-preserved : tie.Need-loop-d-preserved invariant-loop-d decreases-loop-d
+loop-d-preserved c = (omega arith, left-more c.loop-d.invariant.1 _ (omega arith) c.distance_of.ensures)
 
-returns-2 : tie.Need-returns-2 invariant-loop decreases-loop
-returns-2 c =
-    let l = c.before in
-    let e = l.before in
-    let a = e.before.args in
-    answer-filled a.constant (omega (arith, e.if1.false)) _
-    (left-whole l.loop.invariant.1 (omega (arith, c.loop-test.false)) (length-replicate {A = ℕ} 256 0))
+returns : tie.Need-returns invariant-loop-d decreases-loop-d
+returns c =
+    let a = c.args in
+    answer-filled a.constant (omega (arith, c.if-constant-eq0.false)) _
+    (left-whole c.loop-d.invariant.1 (omega (arith, c.loop-d-test.false)) (length-replicate {A = ℕ} 256 0))
 
-pub fill-table-spec : {M : Type 1} → statement M
-fill-table-spec =
+pub fill_table_spec : {M : Type 1} → statement M
+fill_table_spec =
     tie.close
     (tie.spec
-    invariant-loop
-    decreases-loop
-    returns
-    loop-holds
-    distance-of-requires
-    cast-table
-    mul-table
-    array-write-table
-    add-d
-    loop-less
-    loop-again
-    returns-2)
+    invariant-loop-d
+    decreases-loop-d
+    returns-then-constant-eq0
+    loop-d-init
+    distance_of-requires
+    overflow_cast-table
+    offset_bounds-table-d
+    bounds-table-d
+    overflow_add-d
+    loop-d-smaller
+    loop-d-preserved
+    returns)

@@ -11,128 +11,117 @@ use borrow.Author.Rules.{rules}
 use Rattle.pciv_disparity.proofs.put_entries.Statement.{statement}
 use Rattle.pciv_disparity.proofs.put_entries.Tie as tie
 
-abbrev invariant-loop : tie.invariant-loop
-invariant-loop out₀ frame table k n place₀ end out place =
+abbrev invariant-loop-place : tie.invariant-loop-place
+invariant-loop-place out₀ frame table k n place₀ end out place =
     (from : ℕ) × Filling (length frame) (frame_distance table frame) out₀ from out place
 
-abbrev decreases-loop : tie.decreases-loop
-decreases-loop out₀ frame table k n place₀ end out place = end - place
+abbrev decreases-loop-place : tie.decreases-loop-place
+decreases-loop-place out₀ frame table k n place₀ end out place = end - place
 
 -- from the loop: the function's entry
-abbrev entry : tie.At-loop invariant-loop decreases-loop → tie.Start invariant-loop decreases-loop
+abbrev entry : tie.At-loop-place invariant-loop-place decreases-loop-place → tie.Start invariant-loop-place decreases-loop-place
 entry c = c.before.before.before.before.before.before.before
 
-abbrev slots : tie.Start invariant-loop decreases-loop → ℕ
+abbrev slots : tie.Start invariant-loop-place decreases-loop-place → ℕ
 slots s = length s.args.frame.now
 
-abbrev distances : tie.Start invariant-loop decreases-loop → ℕ → ℕ
+abbrev distances : tie.Start invariant-loop-place decreases-loop-place → ℕ → ℕ
 distances s = frame_distance s.args.table.now s.args.frame.now
 
-space : (s : tie.Start invariant-loop decreases-loop)
+space : (s : tie.Start invariant-loop-place decreases-loop-place)
     → 40 + slots s + 12 * overflow_count (slots s) (distances s) ≤ length s.args.out.now
 space s = omega (arith, s.requires.1.0, s.requires.1.1.0)
 
 -- the next slot in overflow
-next-at : (c : tie.In-loop invariant-loop decreases-loop)
-    → (let l = c.before.loop in
+next-at : (c : tie.In-loop-place invariant-loop-place decreases-loop-place)
+    → (let l = c.loop-place in
     let s = entry c.before in
     (slot : ℕ) → slot ≡ get 8 l.out l.place → Next (slots s) (distances s) l.invariant.0 l.out l.place slot)
 next-at c slot is =
-    rw is (fill-next c.before.loop.invariant.1 (omega (arith, c.loop-test.true, (entry c.before).pre.1.0)))
+    rw is (fill-next c.loop-place.invariant.1 (omega (arith, c.loop-place-test.true, (entry c.before).requires.1.0)))
 
-put-slots-requires : tie.Need-put-slots-requires invariant-loop decreases-loop
-put-slots-requires c κs =
-    let s = c.before.before.before in
-    omega (arith, same_count (slots s) (distances s) s.args.out.now s.requires.1.1.1, space s)
+put_slots-requires : tie.Need-put_slots-requires invariant-loop-place decreases-loop-place
+put_slots-requires c κs =
+    omega (arith, same_count (slots c.before.before.before) (distances c.before.before.before) c.args.out.now c.requires.1.1.1, space c.before.before.before)
 
-add-place : tie.Need-overflow-add-place invariant-loop decreases-loop
-add-place c = search rules
+overflow_add-place : tie.Need-overflow_add-place invariant-loop-place decreases-loop-place
+overflow_add-place c = search rules
 
-mul-end : tie.Need-overflow-mul-end invariant-loop decreases-loop
-mul-end c = search rules
+overflow_mul-end : tie.Need-overflow_mul-end invariant-loop-place decreases-loop-place
+overflow_mul-end c = search rules
 
-add-end : tie.Need-overflow-add-end invariant-loop decreases-loop
-add-end c = search rules
+overflow_add-end : tie.Need-overflow_add-end invariant-loop-place decreases-loop-place
+overflow_add-end c = search rules
 
-loop-holds : tie.Need-loop-init invariant-loop decreases-loop
-loop-holds c =
-    let p = c.before.before in
-    let s = p.before.before.before.before in (
-      0,
-      fill_start (slots s) (distances s) s.args.out.now _ s.requires.1.1.1 (space s)
-          p.put-slots.ensures s.requires.0,
+loop-place-init : tie.Need-loop-place-init invariant-loop-place decreases-loop-place
+loop-place-init c = (
+  0,
+  fill_start (slots c.before.before.before.before.before.before) (distances c.before.before.before.before.before.before) c.args.out.now _ c.requires.1.1.1 (space c.before.before.before.before.before.before)
+      c.put_slots.ensures c.requires.0,
+)
+
+get64-slot-requires : tie.Need-get64-slot-requires invariant-loop-place decreases-loop-place
+get64-slot-requires c κs =
+    let l = c.loop-place in
+    omega (arith, (next-at c (get 8 l.out l.place) refl).space)
+
+bounds-frame-slot : tie.Need-bounds-frame-slot invariant-loop-place decreases-loop-place
+bounds-frame-slot c =
+    (next-at c.before.before.before c.get64-slot.result c.get64-slot.ensures).inside
+
+overflow_cast-frame : tie.Need-overflow_cast-frame invariant-loop-place decreases-loop-place
+overflow_cast-frame c = omega (arith, c.shared_slice_known-in-loop-place-1.given c.get64-slot.result)
+
+offset_bounds-table-frame : tie.Need-offset_bounds-table-frame invariant-loop-place decreases-loop-place
+offset_bounds-table-frame c = omega (arith, c.shared_slice_known-in-loop-place-1.given c.get64-slot.result)
+
+bounds-table-frame : tie.Need-bounds-table-frame invariant-loop-place decreases-loop-place
+bounds-table-frame c = (c.shared_slice_known-in-loop-place-1.given c.get64-slot.result).fits
+
+put_entry-place-requires : tie.Need-put_entry-place-requires invariant-loop-place decreases-loop-place
+put_entry-place-requires c κs =
+    (next-at c.before.before.before.before.before c.get64-slot.result c.get64-slot.ensures).space
+
+loop-place-smaller : tie.Need-loop-place-smaller invariant-loop-place decreases-loop-place
+loop-place-smaller c =
+    omega (arith, c.put_entry-place.ensures.0, c.loop-place-test.true)
+
+loop-place-preserved : tie.Need-loop-place-preserved invariant-loop-place decreases-loop-place
+loop-place-preserved c =
+    let next = next-at c.before.before.before.before.before.before.before.before c.get64-slot.result c.get64-slot.ensures in (
+      c.get64-slot.result + 1,
+      fill_more c.loop-place.invariant.1 _ _ _ _ next refl c.put_entry-place.ensures.1
+          c.put_entry-place.ensures.0,
     )
 
-get64-requires : tie.Need-get64-requires invariant-loop decreases-loop
-get64-requires c κs =
-    let l = c.before.before.loop in
-    omega (arith, (next-at c.before (get 8 l.out l.place) refl).space)
+shape_of-out : tie.Need-shape_of-out invariant-loop-place decreases-loop-place
+shape_of-out c = search rules
 
-shared-slice-read-put-entry : tie.Need-shared-slice-read-put-entry invariant-loop decreases-loop
-shared-slice-read-put-entry c =
-    let g = c.before.before in
-    (next-at g.before.before g.get64.result g.get64.ensures).inside
-
-cast-put-entry : tie.Need-overflow-cast-put-entry invariant-loop decreases-loop
-cast-put-entry c = omega (arith, c.shared-slice-known2.given c.before.before.get64.result)
-
-mul-put-entry : tie.Need-overflow-mul-put-entry invariant-loop decreases-loop
-mul-put-entry c = omega (arith, c.shared-slice-known2.given c.before.before.get64.result)
-
-element-copy-out-put-entry : tie.Need-element-copy-out-put-entry invariant-loop decreases-loop
-element-copy-out-put-entry c = (c.shared-slice-known2.given c.before.before.get64.result).fits
-
-put-entry-requires : tie.Need-put-entry-requires invariant-loop decreases-loop
-put-entry-requires c κs =
-    let g = c.before.before.before in
-    (next-at g.before.before g.get64.result g.get64.ensures).space
-
-loop-less : tie.Need-loop-smaller invariant-loop decreases-loop
-loop-less c =
-    let e = c.before.before in
-    let d = e.before.before.before.before.before.before in
-    omega (arith, e.put-entry.ensures.0, d.loop-test.true)
-
-loop-again : tie.Need-loop-preserved invariant-loop decreases-loop
-loop-again c =
-    let e = c.before.before in
-    let g = e.before.before.before.before in
-    let d = g.before.before in
-    let next = next-at d g.get64.result g.get64.ensures in (
-      g.get64.result + 1,
-      fill_more d.before.loop.invariant.1 _ _ _ _ next refl e.put-entry.ensures.1
-          e.put-entry.ensures.0,
-    )
-
-same_length : tie.Need-same-length invariant-loop decreases-loop
-same_length c = search rules
-
-returns : tie.Need-returns invariant-loop decreases-loop
+returns : tie.Need-returns invariant-loop-place decreases-loop-place
 returns c =
-    let l = c.before in
-    let s = entry l in
-    fill_end l.loop.invariant.1 (omega (arith, c.loop-test.false, s.pre.1.0))
-    ∙ fill-over (slots s) (distances s) s.args.out.now _ s.pre.1.1.1 (space s)
-    l.before.before.before.put-slots.ensures
+    let s = entry c.before in
+    fill_end c.loop-place.invariant.1 (omega (arith, c.loop-place-test.false, s.requires.1.0))
+    ∙ fill-over (slots s) (distances s) s.args.out.now _ s.requires.1.1.1 (space s)
+    c.put_slots.ensures
 
-pub put-entries-spec : {M : Type 1} → statement M
-put-entries-spec =
+pub put_entries_spec : {M : Type 1} → statement M
+put_entries_spec =
     tie.close
     (tie.spec
-    invariant-loop
-    decreases-loop
-    put-slots-requires
-    add-place
-    mul-end
-    add-end
-    loop-holds
-    get64-requires
-    shared-slice-read-put-entry
-    cast-put-entry
-    mul-put-entry
-    element-copy-out-put-entry
-    put-entry-requires
-    loop-less
-    loop-again
-    same_length
+    invariant-loop-place
+    decreases-loop-place
+    put_slots-requires
+    overflow_add-place
+    overflow_mul-end
+    overflow_add-end
+    loop-place-init
+    get64-slot-requires
+    bounds-frame-slot
+    overflow_cast-frame
+    offset_bounds-table-frame
+    bounds-table-frame
+    put_entry-place-requires
+    loop-place-smaller
+    loop-place-preserved
+    shape_of-out
     returns)

@@ -10,54 +10,49 @@ use borrow.Author.Rules.{rules}
 use Rattle.pciv_edit.proofs.edit.Statement.{statement}
 use Rattle.pciv_edit.proofs.edit.Tie as tie
 
-check-buffer-requires : tie.Need-check-buffer-requires
-check-buffer-requires c κs = search rules
+check_buffer-checked-requires : tie.Need-check_buffer-checked-requires
+check_buffer-checked-requires c κs = search rules
 
-enum-known-checked : tie.Need-enum-known-checked
-enum-known-checked c = search rules
+enum_known-checked : tie.Need-enum_known-checked
+enum_known-checked c = search rules
 
-enum-known-checked-2 : tie.Need-enum-known-checked-2
-enum-known-checked-2 c = search rules
+enum_known-checked-in-Done-1 : tie.Need-enum_known-checked-in-Done-1
+enum_known-checked-in-Done-1 c = search rules
 
-edit-checked-requires : tie.Need-edit-checked-requires
-edit-checked-requires c κs =
-    let told = c.before.before in
-    let check = told.before.before in
-    let known = check.before.before in
+edit_checked-requires : tie.Need-edit_checked-requires
+edit_checked-requires c κs =
     let held =
-    buffer_held 1 known.before.args.buffer.now _ (λ i. (known.slice-known.given i).fits)
-    (file_answer-done _ _ (sym told.checked2.given.1 ∙ check.check-buffer.ensures)) in
+    buffer_held 1 c.args.buffer.now _ (λ i. (c.slice_known-1.given i).fits)
+    (file_answer-done _ _ (sym c.in-Done.is ∙ c.check_buffer-checked.ensures)) in
     record { checked = held.0; sum_is = held.1 }
 
-same_length : tie.Need-same-length
-same_length c = search rules
+shape_of-buffer-in-Refused : tie.Need-shape_of-buffer-in-Refused
+shape_of-buffer-in-Refused c = search rules
 
-returns : tie.Need-returns
-returns c =
-    let told = c.before in
-    let check = told.before.before in
-    let a = check.before.before.before.args in
+returns-in-Refused : tie.Need-returns-in-Refused
+returns-in-Refused c =
+    let a = c.args in
     let e : Edit = record { slot = a.slot; distance = a.distance } in
-    let why = file_answer-refused _ _ (sym told.checked.given.1 ∙ check.check-buffer.ensures) in
+    let why = file_answer-refused _ _ (sym c.in-Refused.is ∙ c.check_buffer-checked.ensures) in
     let b = a.buffer.now in
     let is = edit-refused b e _ (((buffer-refuse-alike 1 b).0 _).0 why) in
     (ap₂ edit_answer (sym is) (sym (moved-refused b e _ is)), sym (buffer-refused b e _ is))
 
-same-length-2 : tie.Need-same-length-2
-same-length-2 c = search rules
+shape_of-buffer-in-Done : tie.Need-shape_of-buffer-in-Done
+shape_of-buffer-in-Done c = search rules
 
-returns-2 : tie.Need-returns-2
-returns-2 c = c.before.before.edit-checked.ensures
+returns-in-Done : tie.Need-returns-in-Done
+returns-in-Done c = c.edit_checked.ensures
 
-pub edit-spec : {M : Type 1} → statement M
-edit-spec =
+pub edit_spec : {M : Type 1} → statement M
+edit_spec =
     tie.close
     (tie.spec
-    check-buffer-requires
-    enum-known-checked
-    enum-known-checked-2
-    edit-checked-requires
-    same_length
-    returns
-    same-length-2
-    returns-2)
+    check_buffer-checked-requires
+    enum_known-checked
+    enum_known-checked-in-Done-1
+    edit_checked-requires
+    shape_of-buffer-in-Refused
+    returns-in-Refused
+    shape_of-buffer-in-Done
+    returns-in-Done)

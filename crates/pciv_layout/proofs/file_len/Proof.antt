@@ -6,38 +6,38 @@ use Rattle.pciv_format.proofs.LayoutLaws.{index_step-le, index_len-le, file_len-
 use Rattle.pciv_layout.proofs.file_len.Statement.{statement}
 use Rattle.pciv_layout.proofs.file_len.Tie as tie
 
-long : (c : tie.After-index-len) → c.index-len.result ≤ 2 * c.before.args.k
-long c = omega (arith, index_len-le c.before.args.k, index_step-le c.before.args.k)
+long : (c : tie.After-index_len) → c.index_len.result ≤ 2 * c.args.k
+long c = omega (arith, index_len-le c.args.k, index_step-le c.args.k)
 
-add-result : tie.Need-overflow-add-result
-add-result c = search rules
+overflow_add-result : tie.Need-overflow_add-result
+overflow_add-result c = search rules
 
-mul-result : tie.Need-overflow-mul-result
-mul-result c = search rules
+overflow_mul-result : tie.Need-overflow_mul-result
+overflow_mul-result c = search rules
 
-add-result-2 : tie.Need-overflow-add-result-2
-add-result-2 c = search rules
+overflow_add-result-2 : tie.Need-overflow_add-result-2
+overflow_add-result-2 c = search rules
 
-index-len-requires : tie.Need-index-len-requires
-index-len-requires c κs = search rules
+index_len-requires : tie.Need-index_len-requires
+index_len-requires c κs = search rules
 
-mul-result-2 : tie.Need-overflow-mul-result-2
-mul-result-2 c = omega (arith, long c)
+overflow_mul-result-2 : tie.Need-overflow_mul-result-2
+overflow_mul-result-2 c = omega (arith, long c)
 
-add-result-3 : tie.Need-overflow-add-result-3
-add-result-3 c = omega (arith, long c)
+overflow_add-result-3 : tie.Need-overflow_add-result-3
+overflow_add-result-3 c = omega (arith, long c)
 
 returns : tie.Need-returns
-returns c = omega (arith, file_len-is c.before.args.n c.before.args.k)
+returns c = omega (arith, file_len-is c.args.n c.args.k)
 
-pub file-len-spec : {M : Type 1} → statement M
-file-len-spec =
+pub file_len_spec : {M : Type 1} → statement M
+file_len_spec =
     tie.close
     (tie.spec
-    add-result
-    mul-result
-    add-result-2
-    index-len-requires
-    mul-result-2
-    add-result-3
+    overflow_add-result
+    overflow_mul-result
+    overflow_add-result-2
+    index_len-requires
+    overflow_mul-result-2
+    overflow_add-result-3
     returns)

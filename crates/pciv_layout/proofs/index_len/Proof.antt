@@ -6,20 +6,20 @@ use Rattle.pciv_format.proofs.LayoutLaws.{index_step-le, index_len-zero, index_l
 use Rattle.pciv_layout.proofs.index_len.Statement.{statement}
 use Rattle.pciv_layout.proofs.index_len.Tie as tie
 
-index-step-requires : tie.Need-index-step-requires
-index-step-requires c κs = search rules
+index_step-step-requires : tie.Need-index_step-step-requires
+index_step-step-requires c κs = search rules
+
+returns-then-step-eq0 : tie.Need-returns-then-step-eq0
+returns-then-step-eq0 c = sym (index_len-zero c.args.k (omega arith))
+
+ceil_div-requires : tie.Need-ceil_div-requires
+ceil_div-requires c κs = omega (arith, index_step-le c.args.k)
 
 returns : tie.Need-returns
-returns c = sym (index_len-zero c.before.before.args.k (omega arith))
+returns c =
+    let k = c.args.k in
+    let step = c.index_step-step.ensures in
+    c.ceil_div.ensures ∙ rw step (sym (index_len-step k (omega arith)))
 
-ceil-div-requires : tie.Need-ceil-div-requires
-ceil-div-requires c κs = omega (arith, index_step-le c.before.before.args.k)
-
-returns-2 : tie.Need-returns-2
-returns-2 c =
-    let k = c.before.before.before.args.k in
-    let step = c.before.before.index-step.ensures in
-    c.ceil-div.ensures ∙ rw step (sym (index_len-step k (omega arith)))
-
-pub index-len-spec : {M : Type 1} → statement M
-index-len-spec = tie.close (tie.spec index-step-requires returns ceil-div-requires returns-2)
+pub index_len_spec : {M : Type 1} → statement M
+index_len_spec = tie.close (tie.spec index_step-step-requires returns-then-step-eq0 ceil_div-requires returns)

@@ -6,14 +6,14 @@ use Rattle.pciv_format.proofs.LayoutLaws.{index_step-few, index_step-many}
 use Rattle.pciv_layout.proofs.index_step.Statement.{statement}
 use Rattle.pciv_layout.proofs.index_step.Tie as tie
 
+returns-then-k-le-UNINDEXED_MAX : tie.Need-returns-then-k-le-UNINDEXED_MAX
+returns-then-k-le-UNINDEXED_MAX c = sym (index_step-few c.args.k (omega arith))
+
+ceil_div-requires : tie.Need-ceil_div-requires
+ceil_div-requires c κs = search rules
+
 returns : tie.Need-returns
-returns c = sym (index_step-few c.before.args.k (omega arith))
+returns c = c.ceil_div.ensures ∙ sym (index_step-many c.args.k (omega arith))
 
-ceil-div-requires : tie.Need-ceil-div-requires
-ceil-div-requires c κs = search rules
-
-returns-2 : tie.Need-returns-2
-returns-2 c = c.ceil-div.ensures ∙ sym (index_step-many c.before.before.args.k (omega arith))
-
-pub index-step-spec : {M : Type 1} → statement M
-index-step-spec = tie.close (tie.spec returns ceil-div-requires returns-2)
+pub index_step_spec : {M : Type 1} → statement M
+index_step_spec = tie.close (tie.spec returns-then-k-le-UNINDEXED_MAX ceil_div-requires returns)

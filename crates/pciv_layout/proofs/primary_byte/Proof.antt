@@ -5,17 +5,17 @@ use borrow.Author.Rules.{rules}
 use Rattle.pciv_layout.proofs.primary_byte.Statement.{statement}
 use Rattle.pciv_layout.proofs.primary_byte.Tie as tie
 
-cast-if1 : tie.Need-overflow-cast-if1
-cast-if1 c = search rules
+overflow_cast-t-2 : tie.Need-overflow_cast-t-2
+overflow_cast-t-2 c = search rules
 
-cast-result : tie.Need-overflow-cast-result
-cast-result c = search rules
+overflow_cast-result : tie.Need-overflow_cast-result
+overflow_cast-result c = search rules
 
-returns : tie.Need-returns
-returns c = sym (primary_byte-inline c.before.args.x c.if1.true)
+returns-then-x : tie.Need-returns-then-x
+returns-then-x c = sym (primary_byte-inline c.args.x c.if-x.true)
 
-returns-2 : tie.Need-returns-2
-returns-2 c = sym (primary_byte-overflow c.before.args.x c.if1.false)
+returns-else-x : tie.Need-returns-else-x
+returns-else-x c = sym (primary_byte-overflow c.args.x c.if-x.false)
 
-pub primary-byte-spec : {M : Type 1} → statement M
-primary-byte-spec = tie.close (tie.spec cast-if1 cast-result returns returns-2)
+pub primary_byte_spec : {M : Type 1} → statement M
+primary_byte_spec = tie.close (tie.spec overflow_cast-t-2 overflow_cast-result returns-then-x returns-else-x)

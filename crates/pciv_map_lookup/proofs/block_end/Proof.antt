@@ -7,18 +7,18 @@ use Rattle.pciv_map_lookup.proofs.SearchLaws.{block_end-inner, block_end-last}
 use Rattle.pciv_map_lookup.proofs.block_end.Statement.{statement}
 use Rattle.pciv_map_lookup.proofs.block_end.Tie as tie
 
-inner : (c : tie.Then1) → (let a = c.before.args in
+inner : (c : tie.Then-i-m) → (let a = c.args in
     block_end a.i a.m a.step a.k ≡ a.i * a.step)
 inner c = block_end-inner _ _ _ _ (omega arith)
 
-mul-result : tie.Need-overflow-mul-result
-mul-result c = omega (arith, inner c)
+overflow_mul-result : tie.Need-overflow_mul-result
+overflow_mul-result c = omega (arith, inner c)
+
+returns-then-i-m : tie.Need-returns-then-i-m
+returns-then-i-m c = sym (inner c)
 
 returns : tie.Need-returns
-returns c = sym (inner c)
+returns c = let a = c.args in sym (block_end-last a.i a.m a.step a.k (omega arith))
 
-returns-2 : tie.Need-returns-2
-returns-2 c = let a = c.before.args in sym (block_end-last a.i a.m a.step a.k (omega arith))
-
-pub block-end-spec : {M : Type 1} → statement M
-block-end-spec = tie.close (tie.spec mul-result returns returns-2)
+pub block_end_spec : {M : Type 1} → statement M
+block_end_spec = tie.close (tie.spec overflow_mul-result returns-then-i-m returns)

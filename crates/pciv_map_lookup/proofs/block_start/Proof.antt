@@ -7,20 +7,20 @@ use borrow.Author.Rules.{rules}
 use Rattle.pciv_map_lookup.proofs.block_start.Statement.{statement}
 use Rattle.pciv_map_lookup.proofs.block_start.Tie as tie
 
-returns : tie.Need-returns
-returns c =
-    let a = c.before.args in
+returns-then-i-eq0 : tie.Need-returns-then-i-eq0
+returns-then-i-eq0 c =
+    let a = c.args in
     let e : a.i - 1 ≡ 0 = omega arith in
     rw e (sym (zero-mul a.step))
 
-sub-result : tie.Need-overflow-sub-result
-sub-result c = search rules
+overflow_sub-result : tie.Need-overflow_sub-result
+overflow_sub-result c = search rules
 
-mul-result : tie.Need-overflow-mul-result
-mul-result c = search rules
+overflow_mul-result : tie.Need-overflow_mul-result
+overflow_mul-result c = search rules
 
-returns-2 : tie.Need-returns-2
-returns-2 c = search rules
+returns : tie.Need-returns
+returns c = search rules
 
-pub block-start-spec : {M : Type 1} → statement M
-block-start-spec = tie.close (tie.spec returns sub-result mul-result returns-2)
+pub block_start_spec : {M : Type 1} → statement M
+block_start_spec = tie.close (tie.spec returns-then-i-eq0 overflow_sub-result overflow_mul-result returns)

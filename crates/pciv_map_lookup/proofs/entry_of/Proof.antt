@@ -18,8 +18,8 @@ long : (c : tie.Start) → 40 + c.args.n + 12 * c.args.k ≤ length c.args.file.
 long c = omega (arith, checked-length _ _ _ c.requires)
 
 -- the slot is a key
-small : (c : tie.Else1) → c.before.before.args.slot < 2 ^ 63
-small c = omega (arith, c.before.before.requires.header.small)
+small : (c : tie.Else-n-slot) → c.args.slot < 2 ^ 63
+small c = omega (arith, c.requires.header.small)
 
 -- the entry of the slot stands from lo to hi
 abbrev Within : tie.Start → ℕ → ℕ → Type 0
@@ -28,105 +28,99 @@ Within s lo hi =
     Between (file_parts a.file.now a.n a.k).slot a.slot a.k lo hi
 
 -- the block, from the search in the index
-block : (c : tie.After-lower-bound) → (let in-index = c.before in
-    let i = c.lower-bound.result in
-    let m = in-index.before.get64.result in
-    let step = in-index.get642.result in
-    let start = in-index.before.before.before.before in
-    Within start (block_start i step) (block_end i m step start.args.k))
+block : (c : tie.After-lower_bound-i) → (let i = c.lower_bound-i.result in
+    let m = c.get64-m.result in
+    let step = c.get64-step.result in
+    Within c.before.before.before.before.before (block_start i step) (block_end i m step c.args.k))
 block c =
-    let m = c.before.before.get64 in
-    let step = c.before.get642 in
-    let start = c.before.before.before.before.before in
-    index-block _ _ _ start.requires m.result step.result m.ensures step.ensures _ _
-    c.lower-bound.ensures
+    let m = c.get64-m in
+    let step = c.get64-step in
+    index-block _ _ _ c.requires m.result step.result m.ensures step.ensures _ _
+    c.lower_bound-i.ensures
 
 -- the same, as the code has it
-abbrev entered : tie.After-block-end → tie.Start
+abbrev entered : tie.After-block_end-end → tie.Start
 entered c = c.before.before.before.before.before.before.before
 
-part : (c : tie.After-block-end) → Within (entered c) c.before.block_start.result c.block-end.result
-part c = between-same c.before.block_start.ensures c.block-end.ensures (block c.before.before)
+part : (c : tie.After-block_end-end) → Within (entered c) c.block_start-start.result c.block_end-end.result
+part c = between-same c.block_start-start.ensures c.block_end-end.ensures (block c.before.before)
 
-found : (c : tie.After-lower-bound2) → (let a = (entered c.before).args in
-    c.before.before.block_start.result + c.lower-bound2.result
+found : (c : tie.After-lower_bound) → (let a = (entered c.before).args in
+    c.block_start-start.result + c.lower_bound.result
     ≡ entries_below (file_parts a.file.now a.n a.k) a.slot)
 found c =
-    ap (λ (r : ℕ). c.before.before.block_start.result + r) c.lower-bound2.ensures
+    ap (λ (r : ℕ). c.block_start-start.result + r) c.lower_bound.ensures
     ∙ entries_below-part _ _ _ (entered c.before).requires _ _ _ (part c.before)
 
 -- the slot is past the last one
-returns : tie.Need-returns
-returns c =
-    let start = c.before.before in
-    sym (entries_below-past _ start.requires.parts start.args.slot (omega arith))
+returns-then-n-slot : tie.Need-returns-then-n-slot
+returns-then-n-slot c =
+    sym (entries_below-past _ c.requires.parts c.args.slot (omega arith))
 
-get64-requires : tie.Need-get64-requires
-get64-requires c κs = omega (arith, long c.before.before)
+get64-m-requires : tie.Need-get64-m-requires
+get64-m-requires c κs = omega (arith, long c.before.before)
 
-get64-requires-2 : tie.Need-get64-requires-2
-get64-requires-2 c κs = omega (arith, long c.before.before.before)
+get64-step-requires : tie.Need-get64-step-requires
+get64-step-requires c κs = omega (arith, long c.before.before.before)
 
-add-entries : tie.Need-overflow-add-entries
-add-entries c = search rules
+overflow_add-entries : tie.Need-overflow_add-entries
+overflow_add-entries c = search rules
 
-mul-lower-bound : tie.Need-overflow-mul-lower-bound
-mul-lower-bound c = search rules
+overflow_mul-k : tie.Need-overflow_mul-k
+overflow_mul-k c = search rules
 
-add-lower-bound : tie.Need-overflow-add-lower-bound
-add-lower-bound c = search rules
+overflow_add-entries-2 : tie.Need-overflow_add-entries-2
+overflow_add-entries-2 c = search rules
 
-lower-bound-requires : tie.Need-lower-bound-requires
-lower-bound-requires c κs =
-    let m = c.before.get64 in
-    let start = c.before.before.before.before in
-    (index-table _ _ _ start.requires m.result _ m.ensures c.get642.ensures, small c.before.before)
+lower_bound-i-requires : tie.Need-lower_bound-i-requires
+lower_bound-i-requires c κs =
+    let m = c.get64-m in
+    (index-table _ _ _ c.requires m.result _ m.ensures c.get64-step.ensures, small c.before.before)
 
-block-start-requires : tie.Need-block-start-requires
-block-start-requires c κs = omega (arith, (block c).ordered, (block c).within)
+block_start-start-requires : tie.Need-block_start-start-requires
+block_start-start-requires c κs = omega (arith, (block c).ordered, (block c).within)
 
-block-end-requires : tie.Need-block-end-requires
-block-end-requires c κs = omega (arith, (block c.before).within)
+block_end-end-requires : tie.Need-block_end-end-requires
+block_end-end-requires c κs = omega (arith, (block c.before).within)
 
-mul-lower-bound-2 : tie.Need-overflow-mul-lower-bound-2
-mul-lower-bound-2 c = omega (arith, (part c).ordered, (part c).within)
+overflow_mul-start : tie.Need-overflow_mul-start
+overflow_mul-start c = omega (arith, (part c).ordered, (part c).within)
 
-add-lower-bound-2 : tie.Need-overflow-add-lower-bound-2
-add-lower-bound-2 c = omega (arith, (part c).ordered, (part c).within)
+overflow_add-entries-3 : tie.Need-overflow_add-entries-3
+overflow_add-entries-3 c = omega (arith, (part c).ordered, (part c).within)
 
-sub-lower-bound : tie.Need-overflow-sub-lower-bound
-sub-lower-bound c = (part c).ordered
+overflow_sub-end : tie.Need-overflow_sub-end
+overflow_sub-end c = (part c).ordered
 
-lower-bound-requires-2 : tie.Need-lower-bound-requires-2
-lower-bound-requires-2 c κs =
-    let lo = c.before.block_start.result in
-    let in-range = c.before.before.before.before.before in
-    (entries-table _ _ _ (entered c).requires lo _ (part c).ordered (part c).within, small in-range)
+lower_bound-requires : tie.Need-lower_bound-requires
+lower_bound-requires c κs =
+    let lo = c.block_start-start.result in
+    (entries-table _ _ _ (entered c).requires lo _ (part c).ordered (part c).within, small c.before.before.before.before.before)
 
-add-result : tie.Need-overflow-add-result
-add-result c =
+overflow_add-result : tie.Need-overflow_add-result
+overflow_add-result c =
     let a = (entered c.before).args in
     omega (arith, found c, lower_bound-le (file_parts a.file.now a.n a.k).slot a.slot a.k)
 
-returns-2 : tie.Need-returns-2
-returns-2 c = found c
+returns : tie.Need-returns
+returns c = found c
 
-pub entry-of-spec : {M : Type 1} → statement M
-entry-of-spec =
+pub entry_of_spec : {M : Type 1} → statement M
+entry_of_spec =
     tie.close
     (tie.spec
-    returns
-    get64-requires
-    get64-requires-2
-    add-entries
-    mul-lower-bound
-    add-lower-bound
-    lower-bound-requires
-    block-start-requires
-    block-end-requires
-    mul-lower-bound-2
-    add-lower-bound-2
-    sub-lower-bound
-    lower-bound-requires-2
-    add-result
-    returns-2)
+    returns-then-n-slot
+    get64-m-requires
+    get64-step-requires
+    overflow_add-entries
+    overflow_mul-k
+    overflow_add-entries-2
+    lower_bound-i-requires
+    block_start-start-requires
+    block_end-end-requires
+    overflow_mul-start
+    overflow_add-entries-3
+    overflow_sub-end
+    lower_bound-requires
+    overflow_add-result
+    returns)

@@ -4,17 +4,17 @@ use Rattle.pciv_map_lookup.proofs.SearchLaws.{flag-ltb}
 use Rattle.pciv_map_lookup.proofs.is_below.Statement.{statement}
 use Rattle.pciv_map_lookup.proofs.is_below.Tie as tie
 
-sub-result : tie.Need-overflow-sub-result
-sub-result c = search rules
+overflow_sub-result : tie.Need-overflow_sub-result
+overflow_sub-result c = search rules
 
-add-result : tie.Need-overflow-add-result
-add-result c = search rules
+overflow_add-result : tie.Need-overflow_add-result
+overflow_add-result c = search rules
 
-sub-result-2 : tie.Need-overflow-sub-result-2
-sub-result-2 c = search rules
+overflow_sub-result-2 : tie.Need-overflow_sub-result-2
+overflow_sub-result-2 c = search rules
 
 returns : tie.Need-returns
 returns c = flag-ltb c.args.x c.args.y c.requires.0 c.requires.1
 
-pub is-below-spec : {M : Type 1} → statement M
-is-below-spec = tie.close (tie.spec sub-result add-result sub-result-2 returns)
+pub is_below_spec : {M : Type 1} → statement M
+is_below_spec = tie.close (tie.spec overflow_sub-result overflow_add-result overflow_sub-result-2 returns)

@@ -11,49 +11,46 @@ use Rattle.pciv_map_lookup.proofs.locate.Statement.{statement}
 use Rattle.pciv_map_lookup.proofs.locate.Tie as tie
 
 -- the slot is in overflow
-full : (c : tie.Else1) → (let a = c.before.before.before.args in
+full : (c : tie.Else-byte-lt-SENTINEL) → (let a = c.args in
     (file_parts a.file.now a.n a.k).byte a.slot ≡ 255)
-full c = omega (arith, c.before.shared-slice-known2.given (40 + c.before.before.before.args.slot))
+full c = omega (arith, c.shared_slice_known-2-1.given (40 + c.args.slot))
 
-add-byte : tie.Need-overflow-add-byte
-add-byte c = search rules
+overflow_add-byte : tie.Need-overflow_add-byte
+overflow_add-byte c = search rules
 
-shared-slice-read-byte : tie.Need-shared-slice-read-byte
-shared-slice-read-byte c = omega (arith, primary-inside _ _ _ c.before.before.requires.0)
+bounds-file-slot : tie.Need-bounds-file-slot
+bounds-file-slot c = omega (arith, primary-inside _ _ _ c.requires.0)
 
-cast-t11 : tie.Need-overflow-cast-t11
-cast-t11 c = search rules
+overflow_cast-result : tie.Need-overflow_cast-result
+overflow_cast-result c = search rules
+
+returns-then-byte-lt-SENTINEL : tie.Need-returns-then-byte-lt-SENTINEL
+returns-then-byte-lt-SENTINEL c =
+    sym (located-inline _ c.requires.0.parts c.args.slot (omega arith))
+
+entry_of-j-requires : tie.Need-entry_of-j-requires
+entry_of-j-requires c κs = search rules
+
+entry_distance-requires : tie.Need-entry_distance-requires
+entry_distance-requires c κs =
+    let entry = value_of-entry _ c.requires.0.parts c.args.slot c.requires.1 (full c.before) in
+    entry-inside _ _ _ c.requires.0 _ (omega (arith, entry.0, c.entry_of-j.ensures))
 
 returns : tie.Need-returns
 returns c =
-    let start = c.before.before.before in
-    sym (located-inline _ start.requires.0.parts start.args.slot (omega arith))
-
-entry-of-requires : tie.Need-entry-of-requires
-entry-of-requires c κs = search rules
-
-entry-distance-requires : tie.Need-entry-distance-requires
-entry-distance-requires c κs =
-    let start = c.before.before.before.before in
-    let entry = value_of-entry _ start.requires.0.parts start.args.slot start.requires.1 (full c.before) in
-    entry-inside _ _ _ start.requires.0 _ (omega (arith, entry.0, c.entry_of.ensures))
-
-returns-2 : tie.Need-returns-2
-returns-2 c =
-    let start = c.before.before.before.before.before in
-    ap (λ (x : ℕ). record { distance = x; origin = Overflow c.before.entry_of.result }) c.entry-distance.ensures
+    ap (λ (x : ℕ). record { distance = x; origin = Overflow c.entry_of-j.result }) c.entry_distance.ensures
     ∙ sym
-    (located-entry _ start.requires.0.parts start.args.slot start.requires.1 (full c.before.before) _
-    c.before.entry_of.ensures)
+    (located-entry _ c.requires.0.parts c.args.slot c.requires.1 (full c.before.before) _
+    c.entry_of-j.ensures)
 
-pub locate-spec : {M : Type 1} → statement M
-locate-spec =
+pub locate_spec : {M : Type 1} → statement M
+locate_spec =
     tie.close
     (tie.spec
-    add-byte
-    shared-slice-read-byte
-    cast-t11
-    returns
-    entry-of-requires
-    entry-distance-requires
-    returns-2)
+    overflow_add-byte
+    bounds-file-slot
+    overflow_cast-result
+    returns-then-byte-lt-SENTINEL
+    entry_of-j-requires
+    entry_distance-requires
+    returns)

@@ -9,94 +9,90 @@ use Rattle.pciv_map_lookup.proofs.SearchLaws.{Between, between_start, between-ha
 use Rattle.pciv_map_lookup.proofs.lower_bound.Statement.{statement}
 use Rattle.pciv_map_lookup.proofs.lower_bound.Tie as tie
 
-abbrev invariant-loop : tie.invariant-loop
-invariant-loop file base stride count key lo₀ len₀ lo len = Between (key_at file base stride) key count lo (lo + len)
+abbrev invariant-loop-len : tie.invariant-loop-len
+invariant-loop-len file base stride count key lo₀ len₀ lo len = Between (key_at file base stride) key count lo (lo + len)
 
-abbrev decreases-loop : tie.decreases-loop
-decreases-loop file base stride count key lo₀ len₀ lo len = len
+abbrev decreases-loop-len : tie.decreases-loop-len
+decreases-loop-len file base stride count key lo₀ len₀ lo len = len
 
 -- the record that is read: the last of the first half
-abbrev probe : tie.In-loop invariant-loop decreases-loop → ℕ
-probe c = let l = c.before.loop in l.lo + (l.len - l.len / 2) - 1
+abbrev probe : tie.In-loop-len invariant-loop-len decreases-loop-len → ℕ
+probe c = let l = c.loop-len in l.lo + (l.len - l.len / 2) - 1
 
-probe-lt : (c : tie.In-loop invariant-loop decreases-loop) → probe c < c.before.before.before.args.count
-probe-lt c = omega (arith, c.before.loop.invariant.within)
+probe-lt : (c : tie.In-loop-len invariant-loop-len decreases-loop-len) → probe c < c.args.count
+probe-lt c = omega (arith, c.loop-len.invariant.within)
 
 -- its key lies in the file
-inside : (c : tie.In-loop invariant-loop decreases-loop) → (let a = c.before.before.before.args in
+inside : (c : tie.In-loop-len invariant-loop-len decreases-loop-len) → (let a = c.args in
     a.base + a.stride * probe c + 8 ≤ length a.file.now)
 inside c =
-    let at_entry_lem = c.before.before.before in
-    key-inside _ _ _ at_entry_lem.args.count (probe c) at_entry_lem.requires.0 (probe-lt c)
+    key-inside _ _ _ c.args.count (probe c) c.requires.0 (probe-lt c)
 
 -- what is left after a turn
-halved : (c : tie.After-is-below invariant-loop decreases-loop) → (let at-loop = c.before.before.before in
-    let a = at-loop.before.before.args in
-    let lo = at-loop.loop.lo + (at-loop.loop.len - at-loop.loop.len / 2) * c.is_below.result in
-    Between (key_at a.file.now a.base a.stride) a.key a.count lo (lo + at-loop.loop.len / 2))
+halved : (c : tie.After-is_below invariant-loop-len decreases-loop-len) → (let a = c.args in
+    let lo = c.loop-len.lo + (c.loop-len.len - c.loop-len.len / 2) * c.is_below.result in
+    Between (key_at a.file.now a.base a.stride) a.key a.count lo (lo + c.loop-len.len / 2))
 halved c =
-    let at-loop = c.before.before.before in
-    between-halve _ _ _ at-loop.before.before.requires.0.sorted _ _ _ _ c.before.get64.ensures
-    c.is_below.ensures (omega arith) at-loop.loop.invariant
+    between-halve _ _ _ c.requires.0.sorted _ _ _ _ c.get64-found.ensures
+    c.is_below.ensures (omega arith) c.loop-len.invariant
 
-loop-holds : tie.Need-loop-init invariant-loop decreases-loop
-loop-holds c = between_start _ _ _
+loop-len-init : tie.Need-loop-len-init invariant-loop-len decreases-loop-len
+loop-len-init c = between_start _ _ _
 
-sub-rest : tie.Need-overflow-sub-rest invariant-loop decreases-loop
-sub-rest c = search rules
+overflow_sub-rest : tie.Need-overflow_sub-rest invariant-loop-len decreases-loop-len
+overflow_sub-rest c = search rules
 
-add-get64 : tie.Need-overflow-add-get64 invariant-loop decreases-loop
-add-get64 c = search rules
+overflow_add-lo : tie.Need-overflow_add-lo invariant-loop-len decreases-loop-len
+overflow_add-lo c = search rules
 
-sub-get64 : tie.Need-overflow-sub-get64 invariant-loop decreases-loop
-sub-get64 c = search rules
+overflow_sub-lo : tie.Need-overflow_sub-lo invariant-loop-len decreases-loop-len
+overflow_sub-lo c = search rules
 
-mul-get64 : tie.Need-overflow-mul-get64 invariant-loop decreases-loop
-mul-get64 c = omega (arith, inside c)
+overflow_mul-stride : tie.Need-overflow_mul-stride invariant-loop-len decreases-loop-len
+overflow_mul-stride c = omega (arith, inside c)
 
-add-get64-2 : tie.Need-overflow-add-get64-2 invariant-loop decreases-loop
-add-get64-2 c = omega (arith, inside c)
+overflow_add-base : tie.Need-overflow_add-base invariant-loop-len decreases-loop-len
+overflow_add-base c = omega (arith, inside c)
 
-get64-requires : tie.Need-get64-requires invariant-loop decreases-loop
-get64-requires c κs = omega (arith, inside c)
+get64-found-requires : tie.Need-get64-found-requires invariant-loop-len decreases-loop-len
+get64-found-requires c κs = omega (arith, inside c)
 
-is-below-requires : tie.Need-is-below-requires invariant-loop decreases-loop
-is-below-requires c κs =
-    let in-loop = c.before in
-    let pre = in-loop.before.before.before.requires in
-    omega (arith, pre.0.small (probe in-loop) (probe-lt in-loop), c.get64.ensures, pre.1)
+is_below-requires : tie.Need-is_below-requires invariant-loop-len decreases-loop-len
+is_below-requires c κs =
+    let pre = c.requires in
+    omega (arith, pre.0.small (probe c.before) (probe-lt c.before), c.get64-found.ensures, pre.1)
 
-mul-lo : tie.Need-overflow-mul-lo invariant-loop decreases-loop
-mul-lo c = omega (arith, (halved c).ordered, (halved c).within)
+overflow_mul-lo : tie.Need-overflow_mul-lo invariant-loop-len decreases-loop-len
+overflow_mul-lo c = omega (arith, (halved c).ordered, (halved c).within)
 
-add-lo : tie.Need-overflow-add-lo invariant-loop decreases-loop
-add-lo c = omega (arith, (halved c).ordered, (halved c).within)
+overflow_add-lo-in-loop-len : tie.Need-overflow_add-lo-in-loop-len invariant-loop-len decreases-loop-len
+overflow_add-lo-in-loop-len c = omega (arith, (halved c).ordered, (halved c).within)
 
-loop-less : tie.Need-loop-smaller invariant-loop decreases-loop
-loop-less c = search rules
+loop-len-smaller : tie.Need-loop-len-smaller invariant-loop-len decreases-loop-len
+loop-len-smaller c = search rules
 
-loop-again : tie.Need-loop-preserved invariant-loop decreases-loop
-loop-again c = halved c
+loop-len-preserved : tie.Need-loop-len-preserved invariant-loop-len decreases-loop-len
+loop-len-preserved c = halved c
 
-returns : tie.Need-returns invariant-loop decreases-loop
-returns c = between-end _ _ _ _ _ c.before.loop.invariant (omega arith)
+returns : tie.Need-returns invariant-loop-len decreases-loop-len
+returns c = between-end _ _ _ _ _ c.loop-len.invariant (omega arith)
 
-pub lower-bound-spec : {M : Type 1} → statement M
-lower-bound-spec =
+pub lower_bound_spec : {M : Type 1} → statement M
+lower_bound_spec =
     tie.close
     (tie.spec
-    invariant-loop
-    decreases-loop
-    loop-holds
-    sub-rest
-    add-get64
-    sub-get64
-    mul-get64
-    add-get64-2
-    get64-requires
-    is-below-requires
-    mul-lo
-    add-lo
-    loop-less
-    loop-again
+    invariant-loop-len
+    decreases-loop-len
+    loop-len-init
+    overflow_sub-rest
+    overflow_add-lo
+    overflow_sub-lo
+    overflow_mul-stride
+    overflow_add-base
+    get64-found-requires
+    is_below-requires
+    overflow_mul-lo
+    overflow_add-lo-in-loop-len
+    loop-len-smaller
+    loop-len-preserved
     returns)

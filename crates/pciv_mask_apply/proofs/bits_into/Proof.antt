@@ -18,7 +18,7 @@ use borrow.Author.Rules.{rules}
 use Rattle.pciv_mask_apply.proofs.bits_into.Statement.{statement}
 use Rattle.pciv_mask_apply.proofs.bits_into.Tie as tie
 
-abbrev entry : tie.After-begin → tie.Start
+abbrev entry : tie.After-begin-begun → tie.Start
 entry c = c.before.before.before.before
 
 abbrev v : tie.Start → ℕ → ℕ
@@ -33,81 +33,74 @@ count s = count_none s.args.n (v s) (low s)
 abbrev into : tie.Start → Outcome Summary
 into s = file_into s.args.n (v s) (length s.args.out.now)
 
-opened : (b : tie.After-begin)
-    → (let s = entry b in Opened s.args.n 0 (v s) (into s) s.args.out.now b.begin.result
-    b.begin.new.0)
+opened : (b : tie.After-begin-begun)
+    → (let s = entry b in Opened s.args.n 0 (v s) (into s) s.args.out.now b.begin-begun.result
+    b.begin-begun.new.out)
 opened b =
     let s = entry b in
     record {
-      few = s.pre.0;
+      few = s.requires.0;
       each = λ i h. omega (arith, low s i);
       count = count s;
       into = refl;
-      answer = b.begin.ensures.0;
-      buffer = b.begin.ensures.1;
+      answer = b.begin-begun.ensures.0;
+      buffer = b.begin-begun.ensures.1;
     }
 
-begin-requires : tie.Need-begin-requires
-begin-requires c κs = search rules
+begin-begun-requires : tie.Need-begin-begun-requires
+begin-begun-requires c κs = search rules
 
-enum-known-begun : tie.Need-enum-known-begun
-enum-known-begun c = search rules
+enum_known-begun : tie.Need-enum_known-begun
+enum_known-begun c = search rules
 
-enum-known-begun-2 : tie.Need-enum-known-begun-2
-enum-known-begun-2 c = search rules
+enum_known-begun-in-Counted-1 : tie.Need-enum_known-begun-in-Counted-1
+enum_known-begun-in-Counted-1 c = search rules
 
-put-bits-requires : tie.Need-put-bits-requires
-put-bits-requires c κs =
-    let k = c.before.before in
-    let b = k.before.before.before.before in
-    (omega (arith, (entry b).requires.1.count), omega (arith, opened-space (opened b) _ k.begun2.given.1))
+put_bits-requires : tie.Need-put_bits-requires
+put_bits-requires c κs =
+    (omega (arith, (entry c.before.before.before.before).requires.1.count), omega (arith, opened-space (opened c.before.before.before.before) _ c.in-Counted.is))
 
-count-bits-requires : tie.Need-count-bits-requires
-count-bits-requires c κs =
-    let s = entry c.before.before.before.before.before.before.before.before.before in
-    omega (arith, s.pre.0, s.pre.1.count)
+count_bits-requires : tie.Need-count_bits-requires
+count_bits-requires c κs =
+    let s = entry c.before.before.before.before.before.before.before in
+    omega (arith, s.requires.0, s.requires.1.count)
 
 summarized-requires : tie.Need-summarized-requires
 summarized-requires c κs = search rules
 
-same_length : tie.Need-same-length
-same_length c = search rules
+shape_of-out-in-Refused : tie.Need-shape_of-out-in-Refused
+shape_of-out-in-Refused c = search rules
 
-returns : tie.Need-returns
-returns c =
-    let k = c.before in
-    opened-refused (opened k.before.before.before.before) _ k.begun.given.1
+returns-in-Refused : tie.Need-returns-in-Refused
+returns-in-Refused c =
+    opened-refused (opened c.before.before.before) _ c.in-Refused.is
 
-same-length-2 : tie.Need-same-length-2
-same-length-2 c = search rules
+shape_of-out-in-Counted : tie.Need-shape_of-out-in-Counted
+shape_of-out-in-Counted c = search rules
 
 -- no entry and no index is to be written
-returns-2 : tie.Need-returns-2
-returns-2 c =
-    let q = c.before in
-    let p = q.before.before.before in
-    let k = p.before.before.before in
-    let b = k.before.before.before.before in
-    let s = entry b in
+returns-in-Counted : tie.Need-returns-in-Counted
+returns-in-Counted c =
+    let s = entry c.before.before.before.before.before.before.before.before.before in
     let n = s.args.n in
-    let d = p.put-bits.new.0 in
-    let sum = q.count-bits.ensures ∙ set_bits-sum n s.args.words.now s.pre.1 in
-    opened-counted (opened b) _ k.begun2.given.1 d
-    (p.put-bits.ensures ∙ ap (sets _ 40) (primary-bits n s.args.words.now))
+    let d = c.put_bits.new.out in
+    let sum = c.count_bits.ensures ∙ set_bits-sum n s.args.words.now s.requires.1 in
+    opened-counted (opened c.before.before.before.before.before.before.before.before.before) _ c.in-Counted.is d
+    (c.put_bits.ensures ∙ ap (sets _ 40) (primary-bits n s.args.words.now))
     d (sym (ap (sets d (40 + n)) (part_none n (v s) (low s)))) d (sym (ap (sets d (40 + n + 12 * 0)) (index-none d n)))
     _ (c.summarized.ensures ∙ ap (summarize _) sum)
 
-pub bits-into-spec : {M : Type 1} → statement M
-bits-into-spec =
+pub bits_into_spec : {M : Type 1} → statement M
+bits_into_spec =
     tie.close
     (tie.spec
-    begin-requires
-    enum-known-begun
-    enum-known-begun-2
-    put-bits-requires
-    count-bits-requires
+    begin-begun-requires
+    enum_known-begun
+    enum_known-begun-in-Counted-1
+    put_bits-requires
+    count_bits-requires
     summarized-requires
-    same_length
-    returns
-    same-length-2
-    returns-2)
+    shape_of-out-in-Refused
+    returns-in-Refused
+    shape_of-out-in-Counted
+    returns-in-Counted)

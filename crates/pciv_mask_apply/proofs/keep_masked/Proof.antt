@@ -4,17 +4,16 @@ use borrow.Author.Rules.{rules}
 use Rattle.pciv_mask_apply.proofs.keep_masked.Statement.{statement}
 use Rattle.pciv_mask_apply.proofs.keep_masked.Tie as tie
 
-mask-map-requires : tie.Need-mask-map-requires
-mask-map-requires c κs = search rules
+mask_map-requires : tie.Need-mask_map-requires
+mask_map-requires c κs = search rules
 
-same_length : tie.Need-same-length
-same_length c = search rules
+shape_of-out : tie.Need-shape_of-out
+shape_of-out c = search rules
 
 returns : tie.Need-returns
 unfolding keep_masked_outcome keep_masked_buffer
 returns c =
-    let m = c.before.before in
-    (m.mask-map.ensures.0, m.mask-map.ensures.1)
+    (c.mask_map.ensures.0, c.mask_map.ensures.1)
 
-pub keep-masked-spec : {M : Type 1} → statement M
-keep-masked-spec = tie.close (tie.spec mask-map-requires same_length returns)
+pub keep_masked_spec : {M : Type 1} → statement M
+keep_masked_spec = tie.close (tie.spec mask_map-requires shape_of-out returns)

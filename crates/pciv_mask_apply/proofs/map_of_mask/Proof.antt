@@ -11,59 +11,62 @@ use borrow.Author.Rules.{rules}
 use Rattle.pciv_mask_apply.proofs.map_of_mask.Statement.{statement}
 use Rattle.pciv_mask_apply.proofs.map_of_mask.Tie as tie
 
-abbrev entry : tie.Else1 → tie.Start
+abbrev entry : tie.Else-n-gt-MAX_SLOTS → tie.Start
 entry c = c.before.before.before
 
 -- what the test of the mask says
-bad : (c : tie.Then2) → (let a = (entry c.before.before).args in bad_mask a.n a.words.now ≡ true)
-bad c = not-false _ (sym c.before.is-mask.ensures ∙ not-true _ c.if2.true)
+bad : (c : tie.Then-not-is_mask) → (let a = (entry c.before.before).args in bad_mask a.n a.words.now ≡ true)
+bad c = not-false _ (sym c.is_mask.ensures ∙ c.if-not-is_mask.true)
 
-good : (c : tie.Else2) → (let a = (entry c.before.before).args in bad_mask a.n a.words.now ≡ false)
-good c = not-true _ (sym c.before.is-mask.ensures ∙ not-false _ c.if2.false)
+good : (c : tie.Else-not-is_mask) → (let a = (entry c.before.before).args in bad_mask a.n a.words.now ≡ false)
+good c = not-true _ (sym c.is_mask.ensures ∙ c.if-not-is_mask.false)
 
-refuse-file-requires : tie.Need-refuse-file-requires
-refuse-file-requires c κs = search rules
+refuse_file-requires : tie.Need-refuse_file-requires
+refuse_file-requires c κs = search rules
+
+returns-then-n-gt-MAX_SLOTS : tie.Need-returns-then-n-gt-MAX_SLOTS
+returns-then-n-gt-MAX_SLOTS c =
+    let a = c.args in
+    let o = map-many a.n a.words.now (length a.out.now) c.if-n-gt-MAX_SLOTS.true in
+    (c.refuse_file.ensures ∙ ap file_answer (sym o), sym (map-refused a.n a.words.now a.out.now _ o))
+
+is_mask-requires : tie.Need-is_mask-requires
+is_mask-requires c κs = search rules
+
+refuse_file-requires-then-not-is_mask : tie.Need-refuse_file-requires-then-not-is_mask
+refuse_file-requires-then-not-is_mask c κs = search rules
+
+returns-then-not-is_mask : tie.Need-returns-then-not-is_mask
+returns-then-not-is_mask c =
+    let a = (entry c.before.before.before).args in
+    let o = map-bad a.n a.words.now (length a.out.now) c.if-n-gt-MAX_SLOTS.false (bad c.before) in
+    (c.refuse_file-then-not-is_mask.ensures ∙ ap file_answer (sym o), sym (map-refused a.n a.words.now a.out.now _ o))
+
+bits_into-requires : tie.Need-bits_into-requires
+bits_into-requires c κs =
+    let a = (entry c.before.before.before).args in
+    (c.if-n-gt-MAX_SLOTS.false, bad_mask-good a.n a.words.now (good c.before))
+
+shape_of-out : tie.Need-shape_of-out
+shape_of-out c = search rules
 
 returns : tie.Need-returns
 returns c =
-    let a = c.before.before.before.before.args in
-    let o = map-many a.n a.words.now (length a.out.now) c.before.if1.true in
-    (c.refuse-file.ensures ∙ ap file_answer (sym o), sym (map-refused a.n a.words.now a.out.now _ o))
-
-is-mask-requires : tie.Need-is-mask-requires
-is-mask-requires c κs = search rules
-
-refuse-file-requires-2 : tie.Need-refuse-file-requires-2
-refuse-file-requires-2 c κs = search rules
-
-returns-2 : tie.Need-returns-2
-returns-2 c =
-    let e = c.before.before.before in
-    let a = (entry e).args in
-    let o = map-bad a.n a.words.now (length a.out.now) e.if1.false (bad c.before) in
-    (c.refuse-file2.ensures ∙ ap file_answer (sym o), sym (map-refused a.n a.words.now a.out.now _ o))
-
-bits-into-requires : tie.Need-bits-into-requires
-bits-into-requires c κs =
-    let e = c.before.before.before in
-    let a = (entry e).args in
-    (e.if1.false, bad_mask-good a.n a.words.now (good c.before))
-
-same_length : tie.Need-same-length
-same_length c = search rules
-
-returns-3 : tie.Need-returns-3
-returns-3 c =
-    let i = c.before.before in
-    let m = i.before.before in
-    let e = m.before.before in
-    let a = (entry e).args in
-    let o = map-good a.n a.words.now (length a.out.now) e.if1.false (good m) in (
-      i.bits-into.ensures.0 ∙ ap file_answer (sym o),
-      i.bits-into.ensures.1 ∙ map-buffer a.n a.words.now a.out.now _ o,
+    let a = (entry c.before.before.before.before.before.before).args in
+    let o = map-good a.n a.words.now (length a.out.now) c.if-n-gt-MAX_SLOTS.false (good c.before.before.before.before) in (
+      c.bits_into.ensures.0 ∙ ap file_answer (sym o),
+      c.bits_into.ensures.1 ∙ map-buffer a.n a.words.now a.out.now _ o,
     )
 
-pub map-of-mask-spec : {M : Type 1} → statement M
-map-of-mask-spec =
-    tie.close (tie.spec refuse-file-requires returns is-mask-requires refuse-file-requires-2 returns-2
-    bits-into-requires same_length returns-3)
+pub map_of_mask_spec : {M : Type 1} → statement M
+map_of_mask_spec =
+    tie.close
+    (tie.spec
+    refuse_file-requires
+    returns-then-n-gt-MAX_SLOTS
+    is_mask-requires
+    refuse_file-requires-then-not-is_mask
+    returns-then-not-is_mask
+    bits_into-requires
+    shape_of-out
+    returns)

@@ -15,92 +15,85 @@ use borrow.Author.Rules.{rules}
 use Rattle.pciv_mask_apply.proofs.mask_map.Statement.{statement}
 use Rattle.pciv_mask_apply.proofs.mask_map.Tie as tie
 
-abbrev entry : tie.After-check-counts → tie.Start
+abbrev entry : tie.After-check_counts-checked → tie.Start
 entry c = c.before.before.before.before
 
 -- what the check has shown: why the file is refused, or its counts
-is-refused : (c : tie.After-checked)
-    → counts_file 1 (entry c.before.before).args.file.now ≡ refused c.checked.given.0.0
-is-refused c = counts_answer-refused _ _ (sym c.checked.given.1 ∙ c.before.before.check-counts.ensures)
+is-refused : (c : tie.In-Refused)
+    → counts_file 1 (entry c.before).args.file.now ≡ refused c.in-Refused.r
+is-refused c = counts_answer-refused _ _ (sym c.in-Refused.is ∙ c.check_counts-checked.ensures)
 
-is-map : (c : tie.After-checked2)
-    → counts_file 1 (entry c.before.before).args.file.now ≡ done c.checked2.given.0.0
-is-map c = counts_answer-counted _ _ (sym c.checked2.given.1 ∙ c.before.before.check-counts.ensures)
+is-map : (c : tie.In-Counted)
+    → counts_file 1 (entry c.before).args.file.now ≡ done c.in-Counted.s
+is-map c = counts_answer-counted _ _ (sym c.in-Counted.is ∙ c.check_counts-checked.ensures)
 
 -- what the test of the mask says
-bad : (c : tie.Then1)
-    → (let k = c.before.before.before in bad_mask k.checked2.given.0.0.n
-    (entry k.before.before).args.words.now ≡ true)
-bad c = not-false _ (sym c.before.is-mask.ensures ∙ not-true _ c.if1.true)
+bad : (c : tie.Then-not-is_mask)
+    → (bad_mask c.in-Counted.s.n
+    (entry c.before.before.before).args.words.now ≡ true)
+bad c = not-false _ (sym c.is_mask.ensures ∙ c.if-not-is_mask.true)
 
-good : (c : tie.Else1)
-    → (let k = c.before.before.before in bad_mask k.checked2.given.0.0.n
-    (entry k.before.before).args.words.now ≡ false)
-good c = not-true _ (sym c.before.is-mask.ensures ∙ not-false _ c.if1.false)
+good : (c : tie.Else-not-is_mask)
+    → (bad_mask c.in-Counted.s.n
+    (entry c.before.before.before).args.words.now ≡ false)
+good c = not-true _ (sym c.is_mask.ensures ∙ c.if-not-is_mask.false)
 
-check-counts-requires : tie.Need-check-counts-requires
-check-counts-requires c κs = search rules
+check_counts-checked-requires : tie.Need-check_counts-checked-requires
+check_counts-checked-requires c κs = search rules
 
-enum-known-checked : tie.Need-enum-known-checked
-enum-known-checked c = search rules
+enum_known-checked : tie.Need-enum_known-checked
+enum_known-checked c = search rules
 
-enum-known-checked-2 : tie.Need-enum-known-checked-2
-enum-known-checked-2 c = search rules
+enum_known-checked-in-Counted-1 : tie.Need-enum_known-checked-in-Counted-1
+enum_known-checked-in-Counted-1 c = search rules
 
-is-mask-requires : tie.Need-is-mask-requires
-is-mask-requires c κs = search rules
+is_mask-requires : tie.Need-is_mask-requires
+is_mask-requires c κs = search rules
 
-refuse-file-requires : tie.Need-refuse-file-requires
-refuse-file-requires c κs = search rules
+refuse_file-requires : tie.Need-refuse_file-requires
+refuse_file-requires c κs = search rules
 
-returns : tie.Need-returns
-returns c =
-    let k = c.before.before.before.before in
-    let a = (entry k.before.before).args in
-    let o = masked-bad (masked_of a.op) a.file.now a.words.now _ (is-map k) (bad c.before)
+returns-then-not-is_mask : tie.Need-returns-then-not-is_mask
+returns-then-not-is_mask c =
+    let a = (entry c.before.before.before.before).args in
+    let o = masked-bad (masked_of a.op) a.file.now a.words.now _ (is-map c.before.before.before) (bad c.before)
     (length a.out.now) in (
-      c.refuse-file.ensures
+      c.refuse_file.ensures
           ∙ ap file_answer (sym o),
       sym (masked-kept (masked_of a.op) a.file.now a.words.now a.out.now _ o),
     )
 
-masked-into-requires : tie.Need-masked-into-requires
-masked-into-requires c κs =
-    let m = c.before in
-    let k = m.before.before.before in
-    let a = (entry k.before.before).args in
-    ((done-counts 1 a.file.now _ (is-map k)).0, bad_mask-good _ a.words.now (good m))
+masked_into-requires : tie.Need-masked_into-requires
+masked_into-requires c κs =
+    let a = (entry c.before.before.before.before).args in
+    ((done-counts 1 a.file.now _ (is-map c.before.before.before)).0, bad_mask-good _ a.words.now (good c.before))
 
-returns-2 : tie.Need-returns-2
-returns-2 c =
-    let k = c.before in
-    let a = (entry k.before.before).args in
-    let o = masked-refused (masked_of a.op) a.file.now a.words.now _ (is-refused k) (length a.out.now) in
+returns-in-Refused : tie.Need-returns-in-Refused
+returns-in-Refused c =
+    let a = (entry c.before).args in
+    let o = masked-refused (masked_of a.op) a.file.now a.words.now _ (is-refused c) (length a.out.now) in
     (ap file_answer (sym o), sym (masked-kept (masked_of a.op) a.file.now a.words.now a.out.now _ o))
 
-same_length : tie.Need-same-length
-same_length c = search rules
+shape_of-out : tie.Need-shape_of-out
+shape_of-out c = search rules
 
-returns-3 : tie.Need-returns-3
-returns-3 c =
-    let x = c.before.before in
-    let m = x.before.before in
-    let k = m.before.before.before in
-    let a = (entry k.before.before).args in
-    masked-written (masked_of a.op) a.file.now a.words.now _ (is-map k) (good m) a.out.now _ _
-    x.masked-into.ensures.0 x.masked-into.ensures.1
+returns-else-not-is_mask : tie.Need-returns-else-not-is_mask
+returns-else-not-is_mask c =
+    let a = (entry c.before.before.before.before.before.before.before).args in
+    masked-written (masked_of a.op) a.file.now a.words.now _ (is-map c.before.before.before.before.before.before) (good c.before.before.before.before) a.out.now _ _
+    c.masked_into.ensures.0 c.masked_into.ensures.1
 
-pub mask-map-spec : {M : Type 1} → statement M
-mask-map-spec =
+pub mask_map_spec : {M : Type 1} → statement M
+mask_map_spec =
     tie.close
     (tie.spec
-    check-counts-requires
-    enum-known-checked
-    enum-known-checked-2
-    is-mask-requires
-    refuse-file-requires
-    returns
-    masked-into-requires
-    returns-2
-    same_length
-    returns-3)
+    check_counts-checked-requires
+    enum_known-checked
+    enum_known-checked-in-Counted-1
+    is_mask-requires
+    refuse_file-requires
+    returns-then-not-is_mask
+    masked_into-requires
+    returns-in-Refused
+    shape_of-out
+    returns-else-not-is_mask)

@@ -14,105 +14,100 @@ use borrow.Author.Rules.{rules}
 use Rattle.pciv_mask_increment.proofs.count_raised.Statement.{statement}
 use Rattle.pciv_mask_increment.proofs.count_raised.Tie as tie
 
-abbrev invariant-loop : tie.invariant-loop
-invariant-loop bytes words count₀ w₀ count w =
+abbrev invariant-loop-w : tie.invariant-loop-w
+invariant-loop-w bytes words count₀ w₀ count w =
     (w ≤ length words)
     × (let all = 64 * length words in
     Added (raised_at bytes words) all (sum_from (raised_at bytes words) 0 (all - 0)) (64 * w) count)
 
-abbrev decreases-loop : tie.decreases-loop
-decreases-loop bytes words count₀ w₀ count w = length words - w
+abbrev decreases-loop-w : tie.decreases-loop-w
+decreases-loop-w bytes words count₀ w₀ count w = length words - w
 
-abbrev start : tie.In-loop invariant-loop decreases-loop → tie.Start invariant-loop decreases-loop
+abbrev start : tie.In-loop-w invariant-loop-w decreases-loop-w → tie.Start invariant-loop-w decreases-loop-w
 start c = c.before.before.before.before
 
 -- what is found in word w
-found : (c : tie.After-count-word invariant-loop decreases-loop)
-    → (let d = c.before.before in
-    let a = (start d).args in
-    c.count_word.result ≡ sum_from (raised_at a.bytes.now a.words.now) (64 * d.before.loop.w) 64)
+found : (c : tie.After-count_word-count invariant-loop-w decreases-loop-w)
+    → (let a = (start c.before.before).args in
+    c.count_word-count.result ≡ sum_from (raised_at a.bytes.now a.words.now) (64 * c.loop-w.w) 64)
 found c =
-    let d = c.before.before in
-    let a = (start d).args in
-    c.count_word.ensures ∙ word-raised a.bytes.now a.words.now d.before.loop.w
+    let a = (start c.before.before).args in
+    c.count_word-count.ensures ∙ word-raised a.bytes.now a.words.now c.loop-w.w
 
-loop-holds : tie.Need-loop-init invariant-loop decreases-loop
-loop-holds c =
-    let a = c.before.before.args in
+loop-w-init : tie.Need-loop-w-init invariant-loop-w decreases-loop-w
+loop-w-init c =
+    let a = c.args in
     (omega arith, added_none (raised_at a.bytes.now a.words.now) 0 (64 * length a.words.now) (omega arith))
 
-mul-count-word : tie.Need-overflow-mul-count-word invariant-loop decreases-loop
-mul-count-word c = search rules
+overflow_mul-w : tie.Need-overflow_mul-w invariant-loop-w decreases-loop-w
+overflow_mul-w c = search rules
 
-mul-count-word-2 : tie.Need-overflow-mul-count-word-2 invariant-loop decreases-loop
-mul-count-word-2 c = search rules
+offset_bounds-words-w : tie.Need-offset_bounds-words-w invariant-loop-w decreases-loop-w
+offset_bounds-words-w c = search rules
 
-shared-slice-read-count-word : tie.Need-shared-slice-read-count-word invariant-loop decreases-loop
-shared-slice-read-count-word c = search rules
+bounds-words-w : tie.Need-bounds-words-w invariant-loop-w decreases-loop-w
+bounds-words-w c = search rules
 
-count-word-requires : tie.Need-count-word-requires invariant-loop decreases-loop
-count-word-requires c κs =
-    let d = c.before in
-    let s = start d in
+count_word-count-requires : tie.Need-count_word-count-requires invariant-loop-w decreases-loop-w
+count_word-count-requires c κs =
+    let s = start c.before in
     let a = s.args in (
-      omega (arith, d.loop-test.true, s.pre.0.count),
-      below-mask (length a.bytes.now) a.words.now (λ w. (d.before.before.shared-slice-known2.given w).fits)
-          s.pre.0 d.before.loop.w,
+      omega (arith, c.loop-w-test.true, s.requires.0.count),
+      below-mask (length a.bytes.now) a.words.now (λ w. (c.shared_slice_known-2-1.given w).fits)
+          s.requires.0 c.loop-w.w,
     )
 
-add-count : tie.Need-overflow-add-count invariant-loop decreases-loop
-add-count c =
-    let d = c.before.before in
-    let s = start d in
+overflow_add-count : tie.Need-overflow_add-count invariant-loop-w decreases-loop-w
+overflow_add-count c =
+    let s = start c.before.before in
     let a = s.args in
-    let l = d.before.loop in
+    let l = c.loop-w in
     omega (
       arith,
       found c,
       l.invariant.1.rest,
       raised-le a.bytes.now a.words.now 0 (64 * length a.words.now - 0),
       raised-le a.bytes.now a.words.now (64 * l.w) 64,
-      s.pre.0.count,
-      s.pre.1,
+      s.requires.0.count,
+      s.requires.1,
     )
 
-add-w : tie.Need-overflow-add-w invariant-loop decreases-loop
-add-w c = search rules
+overflow_add-w : tie.Need-overflow_add-w invariant-loop-w decreases-loop-w
+overflow_add-w c = search rules
 
-loop-less : tie.Need-loop-smaller invariant-loop decreases-loop
-loop-less c = search rules
+loop-w-smaller : tie.Need-loop-w-smaller invariant-loop-w decreases-loop-w
+loop-w-smaller c = search rules
 
-loop-again : tie.Need-loop-preserved invariant-loop decreases-loop
-loop-again c =
-    let d = c.before.before in
-    let a = (start d).args in
-    let l = d.before.loop in
+loop-w-preserved : tie.Need-loop-w-preserved invariant-loop-w decreases-loop-w
+loop-w-preserved c =
+    let a = (start c.before.before).args in
+    let l = c.loop-w in
     let f : ℕ → ℕ = raised_at a.bytes.now a.words.now in
     let one : 64 * (l.w + 1) - 64 * l.w ≡ 64 = omega arith in
-    let part : c.count_word.result ≡ sum_from f (64 * l.w) (64 * (l.w + 1) - 64 * l.w) =
+    let part : c.count_word-count.result ≡ sum_from f (64 * l.w) (64 * (l.w + 1) - 64 * l.w) =
     found c ∙ ap (sum_from f (64 * l.w)) (sym one) in
-    (omega arith, rw part (added-part l.invariant.1 (64 * (l.w + 1)) (omega arith) (omega (arith, d.loop-test.true))))
+    (omega arith, rw part (added-part l.invariant.1 (64 * (l.w + 1)) (omega arith) (omega (arith, c.loop-w-test.true))))
 
-returns : tie.Need-returns invariant-loop decreases-loop
+returns : tie.Need-returns invariant-loop-w decreases-loop-w
 returns c =
-    let l = c.before.loop in
-    let a = c.before.before.before.before.args in
-    added-all l.invariant.1 (omega (arith, c.loop-test.false))
+    let l = c.loop-w in
+    let a = c.args in
+    added-all l.invariant.1 (omega (arith, c.loop-w-test.false))
     ∙ ap (sum_from (raised_at a.bytes.now a.words.now) 0) (sub-zero (64 * length a.words.now))
 
-pub count-raised-spec : {M : Type 1} → statement M
-count-raised-spec =
+pub count_raised_spec : {M : Type 1} → statement M
+count_raised_spec =
     tie.close
     (tie.spec
-    invariant-loop
-    decreases-loop
-    loop-holds
-    mul-count-word
-    mul-count-word-2
-    shared-slice-read-count-word
-    count-word-requires
-    add-count
-    add-w
-    loop-less
-    loop-again
+    invariant-loop-w
+    decreases-loop-w
+    loop-w-init
+    overflow_mul-w
+    offset_bounds-words-w
+    bounds-words-w
+    count_word-count-requires
+    overflow_add-count
+    overflow_add-w
+    loop-w-smaller
+    loop-w-preserved
     returns)

@@ -18,107 +18,103 @@ use borrow.Author.Rules.{rules}
 use Rattle.pciv_mask_increment.proofs.count_set.Statement.{statement}
 use Rattle.pciv_mask_increment.proofs.count_set.Tie as tie
 
-abbrev invariant-loop : tie.invariant-loop
-invariant-loop bytes from word count₀ rest₀ count rest =
+abbrev invariant-loop-rest : tie.invariant-loop-rest
+invariant-loop-rest bytes from word count₀ rest₀ count rest =
     (rest < 2 ^ 64)
     × SetBelow (length bytes) from rest
     × (count + picked (byte_is bytes 254) from 64 rest ≡ picked (byte_is bytes 254) from 64 word)
 
-abbrev decreases-loop : tie.decreases-loop
-decreases-loop bytes from word count₀ rest₀ count rest = rest
+abbrev decreases-loop-rest : tie.decreases-loop-rest
+decreases-loop-rest bytes from word count₀ rest₀ count rest = rest
 
 -- the slot of the lowest bit that is left
-inside : (c : tie.In-loop invariant-loop decreases-loop)
-    → (let a = c.before.before.args in a.from + count_trailing_zeros 64 c.before.loop.rest < length a.bytes.now)
+inside : (c : tie.In-loop-rest invariant-loop-rest decreases-loop-rest)
+    → (let a = c.args in a.from + count_trailing_zeros 64 c.loop-rest.rest < length a.bytes.now)
 inside c =
-    let l = c.before.loop in
-    l.invariant.1 (count_trailing_zeros 64 l.rest) (trailing-bit 64 l.rest c.loop-test.true l.invariant.0)
+    let l = c.loop-rest in
+    l.invariant.1 (count_trailing_zeros 64 l.rest) (trailing-bit 64 l.rest c.loop-rest-test.true l.invariant.0)
 
-picks : (c : tie.In-loop invariant-loop decreases-loop)
-    → (let a = c.before.before.args in
+picks : (c : tie.In-loop-rest invariant-loop-rest decreases-loop-rest)
+    → (let a = c.args in
     let g = byte_is a.bytes.now 254 in
-    let rest = c.before.loop.rest in
+    let rest = c.loop-rest.rest in
     picked g a.from 64 rest ≡ g (a.from + count_trailing_zeros 64 rest) + picked g a.from 64 (bit_and rest (rest - 1)))
 picks c =
-    let a = c.before.before.args in
-    let l = c.before.loop in
-    picked-lowest (byte_is a.bytes.now 254) 64 a.from l.rest c.loop-test.true l.invariant.0
+    let a = c.args in
+    let l = c.loop-rest in
+    picked-lowest (byte_is a.bytes.now 254) 64 a.from l.rest c.loop-rest-test.true l.invariant.0
 
 -- whether its byte is 254
-abbrev is-254 : tie.After-shared-slice-known invariant-loop decreases-loop → Bool
+abbrev is-254 : tie.After-shared_slice_known-1 invariant-loop-rest decreases-loop-rest → Bool
 is-254 c =
-    let l = c.before.before in
-    let a = l.before.args in
-    eqb (byte_at a.bytes.now (a.from + count_trailing_zeros 64 l.loop.rest)) 254
+    let a = c.args in
+    eqb (byte_at a.bytes.now (a.from + count_trailing_zeros 64 c.loop-rest.rest)) 254
 
 -- no more are picked than there are bits
-few : (s : tie.Start invariant-loop decreases-loop)
+few : (s : tie.Start invariant-loop-rest decreases-loop-rest)
     → picked (byte_is s.args.bytes.now 254) s.args.from 64 s.args.word ≤ 64
 few s =
     let b = s.args.bytes.now in
     picked-le (byte_is b 254) (λ j. flag-le (eqb (byte_at b j) 254)) 64 s.args.from s.args.word
 
-loop-holds : tie.Need-loop-init invariant-loop decreases-loop
-loop-holds c =
+loop-rest-init : tie.Need-loop-rest-init invariant-loop-rest decreases-loop-rest
+loop-rest-init c =
     let a = c.args in
     (search rules, c.requires, zero-add (picked (byte_is a.bytes.now 254) a.from 64 a.word))
 
-cast-slot : tie.Need-overflow-cast-slot invariant-loop decreases-loop
-cast-slot c = omega (arith, trailing_le 64 c.before.loop.rest)
+overflow_cast-slot : tie.Need-overflow_cast-slot invariant-loop-rest decreases-loop-rest
+overflow_cast-slot c = omega (arith, trailing_le 64 c.loop-rest.rest)
 
-add-slot : tie.Need-overflow-add-slot invariant-loop decreases-loop
-add-slot c = omega (arith, inside c)
+overflow_add-slot : tie.Need-overflow_add-slot invariant-loop-rest decreases-loop-rest
+overflow_add-slot c = omega (arith, inside c)
 
-shared-slice-read-count : tie.Need-shared-slice-read-count invariant-loop decreases-loop
-shared-slice-read-count c = inside c.before
+bounds-bytes-slot : tie.Need-bounds-bytes-slot invariant-loop-rest decreases-loop-rest
+bounds-bytes-slot c = inside c.before
 
-cast-count : tie.Need-overflow-cast-count invariant-loop decreases-loop
-cast-count c = search rules
+overflow_cast-count : tie.Need-overflow_cast-count invariant-loop-rest decreases-loop-rest
+overflow_cast-count c = search rules
 
-add-count : tie.Need-overflow-add-count invariant-loop decreases-loop
-add-count c =
-    let l = c.before.before in
-    omega (arith, bool_byte-flag (is-254 c), flag-le (is-254 c), l.loop.invariant.2, few l.before)
+overflow_add-count : tie.Need-overflow_add-count invariant-loop-rest decreases-loop-rest
+overflow_add-count c =
+    omega (arith, bool_byte-flag (is-254 c), flag-le (is-254 c), c.loop-rest.invariant.2, few c.before.before.before)
 
-sub-rest : tie.Need-overflow-sub-rest invariant-loop decreases-loop
-sub-rest c = search rules
+overflow_sub-rest : tie.Need-overflow_sub-rest invariant-loop-rest decreases-loop-rest
+overflow_sub-rest c = search rules
 
-loop-less : tie.Need-loop-smaller invariant-loop decreases-loop
-loop-less c =
-    let w = c.before in
-    less-lt w.before.loop.rest w.loop-test.true
+loop-rest-smaller : tie.Need-loop-rest-smaller invariant-loop-rest decreases-loop-rest
+loop-rest-smaller c =
+    less-lt c.loop-rest.rest c.loop-rest-test.true
 
-loop-again : tie.Need-loop-preserved invariant-loop decreases-loop
-loop-again c =
-    let w = c.before in
-    let l = w.before.loop in
-    let a = c.before.before.before.args in (
-      omega (arith, l.invariant.0, less-lt l.rest w.loop-test.true),
+loop-rest-preserved : tie.Need-loop-rest-preserved invariant-loop-rest decreases-loop-rest
+loop-rest-preserved c =
+    let l = c.loop-rest in
+    let a = c.args in (
+      omega (arith, l.invariant.0, less-lt l.rest c.loop-rest-test.true),
       below_less (length a.bytes.now) a.from l.rest (l.rest - 1) l.invariant.1,
-      omega (arith, bool_byte-flag (is-254 c), picks w, l.invariant.2),
+      omega (arith, bool_byte-flag (is-254 c), picks c.before, l.invariant.2),
     )
 
-returns : tie.Need-returns invariant-loop decreases-loop
+returns : tie.Need-returns invariant-loop-rest decreases-loop-rest
 returns c =
-    let a = c.before.before.args in
-    let l = c.before.loop in
+    let a = c.args in
+    let l = c.loop-rest in
     let g : ℕ → ℕ = byte_is a.bytes.now 254 in
-    let none : l.rest ≡ 0 = omega (arith, c.loop-test.false) in
+    let none : l.rest ≡ 0 = omega (arith, c.loop-rest-test.false) in
     omega (arith, l.invariant.2, ap (picked g a.from 64) none ∙ picked_none g 64 a.from)
 
-pub count-set-spec : {M : Type 1} → statement M
-count-set-spec =
+pub count_set_spec : {M : Type 1} → statement M
+count_set_spec =
     tie.close
     (tie.spec
-    invariant-loop
-    decreases-loop
-    loop-holds
-    cast-slot
-    add-slot
-    shared-slice-read-count
-    cast-count
-    add-count
-    sub-rest
-    loop-less
-    loop-again
+    invariant-loop-rest
+    decreases-loop-rest
+    loop-rest-init
+    overflow_cast-slot
+    overflow_add-slot
+    bounds-bytes-slot
+    overflow_cast-count
+    overflow_add-count
+    overflow_sub-rest
+    loop-rest-smaller
+    loop-rest-preserved
     returns)

@@ -17,121 +17,105 @@ use borrow.Author.Rules.{rules}
 use Rattle.pciv_mask_increment.proofs.first_too_large.Statement.{statement}
 use Rattle.pciv_mask_increment.proofs.first_too_large.Tie as tie
 
-abbrev invariant-loop : tie.invariant-loop
-invariant-loop file n k words j₀ j = (j ≤ k) × FineTo (file_parts file n k) words j
+abbrev invariant-loop-j : tie.invariant-loop-j
+invariant-loop-j file n k words j₀ j = (j ≤ k) × FineTo (file_parts file n k) words j
 
-abbrev decreases-loop : tie.decreases-loop
-decreases-loop file n k words j₀ j = k - j
+abbrev decreases-loop-j : tie.decreases-loop-j
+decreases-loop-j file n k words j₀ j = k - j
 
-abbrev start : tie.In-loop invariant-loop decreases-loop → tie.Start invariant-loop decreases-loop
+abbrev start : tie.In-loop-j invariant-loop-j decreases-loop-j → tie.Start invariant-loop-j decreases-loop-j
 start c = c.before.before.before.before
 
-abbrev parts : tie.Start invariant-loop decreases-loop → Parts
+abbrev parts : tie.Start invariant-loop-j decreases-loop-j → Parts
 parts s = file_parts s.args.file.now s.args.n s.args.k
 
-bytes : (c : tie.In-loop invariant-loop decreases-loop) → Bytes (start c).args.file.now
-bytes c i = (c.before.before.before.shared-slice-known.given i).fits
+bytes : (c : tie.In-loop-j invariant-loop-j decreases-loop-j) → Bytes (start c).args.file.now
+bytes c i = (c.shared_slice_known-1.given i).fits
 
 -- the entry's distance, and the bit of its slot
-distance : (c : tie.After-entry-distance invariant-loop decreases-loop) → c.entry-distance.result < 2 ^ 32
+distance : (c : tie.After-entry_distance-x invariant-loop-j decreases-loop-j) → c.entry_distance-x.result < 2 ^ 32
 distance c =
-    let w = c.before.before in
-    let a = (start w).args in
-    let small = get-lt 4 a.file.now (40 + a.n + 12 * w.before.loop.j + 8) (bytes w) in
-    omega (arith, c.entry-distance.ensures, small)
+    let a = (start c.before.before).args in
+    let small = get-lt 4 a.file.now (40 + a.n + 12 * c.loop-j.j + 8) (bytes c.before.before) in
+    omega (arith, c.entry_distance-x.ensures, small)
 
-bit : (c : tie.After-bit-of invariant-loop decreases-loop)
-    → (let w = c.before.before.before in
-    c.bit-of.result ≡ mask_value (start w).args.words.now ((parts (start w)).slot w.before.loop.j))
+bit : (c : tie.After-bit_of invariant-loop-j decreases-loop-j)
+    → (c.bit_of.result ≡ mask_value (start c.before.before.before).args.words.now ((parts (start c.before.before.before)).slot c.loop-j.j))
 bit c =
-    let e = c.before.before in
-    c.bit-of.ensures ∙ ap (mask_value (start e.before).args.words.now) e.entry-slot.ensures
+    c.bit_of.ensures ∙ ap (mask_value (start c.before.before.before).args.words.now) c.entry_slot-slot.ensures
 
-small : (c : tie.After-bit-of invariant-loop decreases-loop) → c.bit-of.result ≤ 1
+small : (c : tie.After-bit_of invariant-loop-j decreases-loop-j) → c.bit_of.result ≤ 1
 small c =
-    let e = c.before.before in
-    omega (arith, c.bit-of.ensures, flag-le (mask_has (start e.before).args.words.now e.entry-slot.result))
+    omega (arith, c.bit_of.ensures, flag-le (mask_has (start c.before.before.before).args.words.now c.entry_slot-slot.result))
 
-loop-holds : tie.Need-loop-init invariant-loop decreases-loop
-loop-holds c =
-    let s = c.before.before in
-    (omega arith, fine-start (parts s) s.args.words.now)
+loop-j-init : tie.Need-loop-j-init invariant-loop-j decreases-loop-j
+loop-j-init c =
+    (omega arith, fine-start (parts c.before.before) c.args.words.now)
 
-entry-slot-requires : tie.Need-entry-slot-requires invariant-loop decreases-loop
-entry-slot-requires c κs =
+entry_slot-slot-requires : tie.Need-entry_slot-slot-requires invariant-loop-j decreases-loop-j
+entry_slot-slot-requires c κs =
     let s = start c in
-    entry-inside s.args.file.now s.args.n s.args.k s.pre.0 c.before.loop.j c.loop-test.true
+    entry-inside s.args.file.now s.args.n s.args.k s.requires.0 c.loop-j.j c.loop-j-test.true
 
-entry-distance-requires : tie.Need-entry-distance-requires invariant-loop decreases-loop
-entry-distance-requires c κs = entry-slot-requires c.before κs
+entry_distance-x-requires : tie.Need-entry_distance-x-requires invariant-loop-j decreases-loop-j
+entry_distance-x-requires c κs = entry_slot-slot-requires c.before κs
 
-add-j : tie.Need-overflow-add-j invariant-loop decreases-loop
-add-j c = search rules
+overflow_add-j : tie.Need-overflow_add-j invariant-loop-j decreases-loop-j
+overflow_add-j c = search rules
 
-sub-if1 : tie.Need-overflow-sub-if1 invariant-loop decreases-loop
-sub-if1 c = omega (arith, distance c)
+overflow_sub-x : tie.Need-overflow_sub-x invariant-loop-j decreases-loop-j
+overflow_sub-x c = omega (arith, distance c)
 
-bit-of-requires : tie.Need-bit-of-requires invariant-loop decreases-loop
-bit-of-requires c κs =
-    let e = c.before in
-    let w = e.before in
-    let s = start w in
-    let good = entry-good (parts s) s.pre.0.parts w.before.loop.j w.loop-test.true in
-    omega (arith, good.inside, e.entry-slot.ensures, mask-covers s.pre.1)
+bit_of-requires : tie.Need-bit_of-requires invariant-loop-j decreases-loop-j
+bit_of-requires c κs =
+    let s = start c.before.before in
+    let good = entry-good (parts s) s.requires.0.parts c.loop-j.j c.loop-j-test.true in
+    omega (arith, good.inside, c.entry_slot-slot.ensures, mask-covers s.requires.1)
 
-cast-if1 : tie.Need-overflow-cast-if1 invariant-loop decreases-loop
-cast-if1 c = omega (arith, small c)
+overflow_cast-bit_of : tie.Need-overflow_cast-bit_of invariant-loop-j decreases-loop-j
+overflow_cast-bit_of c = omega (arith, small c)
 
-returns : tie.Need-returns invariant-loop decreases-loop
-returns c =
-    let b = c.before in
-    let x = b.before in
-    let e = x.before in
-    let w = e.before in
-    let s = start w in
-    let l = w.before.loop in
-    e.entry-slot.ensures
-    ∙ fine-found (parts s) s.pre.0.parts (λ i. bytes w (40 + i)) s.args.words.now
-    w.loop-test.true l.invariant.1 (omega (arith, c.if1.true, bit b, x.entry-distance.ensures, distance x))
+returns-then-x-bit_of : tie.Need-returns-then-x-bit_of invariant-loop-j decreases-loop-j
+returns-then-x-bit_of c =
+    let s = start c.before.before.before.before in
+    let l = c.loop-j in
+    c.entry_slot-slot.ensures
+    ∙ fine-found (parts s) s.requires.0.parts (λ i. bytes c.before.before.before.before (40 + i)) s.args.words.now
+    c.loop-j-test.true l.invariant.1 (omega (arith, c.if-x-bit_of.true, bit c.before, c.entry_distance-x.ensures, distance c.before.before))
 
-loop-less : tie.Need-loop-smaller invariant-loop decreases-loop
-loop-less c = search rules
+loop-j-smaller : tie.Need-loop-j-smaller invariant-loop-j decreases-loop-j
+loop-j-smaller c = search rules
 
-loop-again : tie.Need-loop-preserved invariant-loop decreases-loop
-loop-again c =
-    let b = c.before in
-    let x = b.before in
-    let w = x.before.before in
-    let s = start w in
-    let l = w.before.loop in (
+loop-j-preserved : tie.Need-loop-j-preserved invariant-loop-j decreases-loop-j
+loop-j-preserved c =
+    let s = start c.before.before.before.before in
+    let l = c.loop-j in (
       omega arith,
-      fine_more (parts s) s.pre.0.parts (λ i. bytes w (40 + i)) s.args.words.now
-          w.loop-test.true l.invariant.1
-          (omega (arith, c.if1.false, bit b, x.entry-distance.ensures, distance x)),
+      fine_more (parts s) s.requires.0.parts (λ i. bytes c.before.before.before.before (40 + i)) s.args.words.now
+          c.loop-j-test.true l.invariant.1
+          (omega (arith, c.if-x-bit_of.false, bit c.before, c.entry_distance-x.ensures, distance c.before.before)),
     )
 
-returns-2 : tie.Need-returns-2 invariant-loop decreases-loop
-returns-2 c =
-    let l = c.before.loop in
-    let known = c.before.before.before in
-    let s = known.before in
-    fine-all (parts s) s.requires.0.parts (λ i. (known.shared-slice-known.given (40 + i)).fits) s.args.words.now
-    l.j l.invariant.0 c.loop-test.false l.invariant.1
+returns : tie.Need-returns invariant-loop-j decreases-loop-j
+returns c =
+    let l = c.loop-j in
+    fine-all (parts c.before.before.before.before) c.requires.0.parts (λ i. (c.shared_slice_known-1.given (40 + i)).fits) c.args.words.now
+    l.j l.invariant.0 c.loop-j-test.false l.invariant.1
 
-pub first-too-large-spec : {M : Type 1} → statement M
-first-too-large-spec =
+pub first_too_large_spec : {M : Type 1} → statement M
+first_too_large_spec =
     tie.close
     (tie.spec
-    invariant-loop
-    decreases-loop
-    loop-holds
-    entry-slot-requires
-    entry-distance-requires
-    add-j
-    sub-if1
-    bit-of-requires
-    cast-if1
-    returns
-    loop-less
-    loop-again
-    returns-2)
+    invariant-loop-j
+    decreases-loop-j
+    loop-j-init
+    entry_slot-slot-requires
+    entry_distance-x-requires
+    overflow_add-j
+    overflow_sub-x
+    bit_of-requires
+    overflow_cast-bit_of
+    returns-then-x-bit_of
+    loop-j-smaller
+    loop-j-preserved
+    returns)

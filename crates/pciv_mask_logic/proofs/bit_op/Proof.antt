@@ -11,23 +11,31 @@ use Rattle.pciv_mask_logic.proofs.bit_op.Tie as tie
 in-case : (r x y : ℕ) {op case : MaskOp} → op ≡ case → r ≡ bit_op case x y → r ≡ bit_op op x y
 in-case r x y e q = rw e q
 
-enum_told : tie.Need-enum-told
-enum_told c = search rules
+enum_told-1 : tie.Need-enum_told-1
+enum_told-1 c = search rules
 
-enum-told-2 : tie.Need-enum-told-2
-enum-told-2 c = search rules
+enum_told-in-Or : tie.Need-enum_told-in-Or
+enum_told-in-Or c = search rules
 
-enum-told-3 : tie.Need-enum-told-3
-enum-told-3 c = search rules
+enum_told-in-Xor : tie.Need-enum_told-in-Xor
+enum_told-in-Xor c = search rules
 
-returns : tie.Need-returns
-returns c = in-case _ _ _ c.enum_told.given.1 refl
+returns-in-And : tie.Need-returns-in-And
+returns-in-And c = in-case _ _ _ c.in-And.is refl
 
-returns-2 : tie.Need-returns-2
-returns-2 c = in-case _ _ _ c.enum-told2.given.1 refl
+returns-in-Or : tie.Need-returns-in-Or
+returns-in-Or c = in-case _ _ _ c.in-Or.is refl
 
-returns-3 : tie.Need-returns-3
-returns-3 c = in-case _ _ _ c.enum-told3.given.1 refl
+returns-in-Xor : tie.Need-returns-in-Xor
+returns-in-Xor c = in-case _ _ _ c.in-Xor.is refl
 
-pub bit-op-spec : {M : Type 1} → statement M
-bit-op-spec = tie.close (tie.spec enum_told enum-told-2 enum-told-3 returns returns-2 returns-3)
+pub bit_op_spec : {M : Type 1} → statement M
+bit_op_spec =
+    tie.close
+    (tie.spec
+    enum_told-1
+    enum_told-in-Or
+    enum_told-in-Xor
+    returns-in-And
+    returns-in-Or
+    returns-in-Xor)

@@ -11,74 +11,72 @@ use Rattle.pciv_mask_logic.proofs.LogicOutcomeLaws.{combine-is, combine-refused,
 use Rattle.pciv_mask_logic.proofs.combine.Statement.{statement}
 use Rattle.pciv_mask_logic.proofs.combine.Tie as tie
 
-abbrev entry : tie.After-mask-into → tie.Start
+abbrev entry : tie.After-mask_into-answer → tie.Start
 entry c = c.before.before.before.before.before.before
 
 -- the answer is that of the definition
-answers : (c : tie.After-mask-into) → (let a = (entry c).args in
-    c.mask-into.result ≡ number_answer (combine_outcome a.op a.n a.a.now a.b.now (length a.out.now)))
+answers : (c : tie.After-mask_into-answer) → (let a = (entry c).args in
+    c.mask_into-answer.result ≡ number_answer (combine_outcome a.op a.n a.a.now a.b.now (length a.out.now)))
 answers c =
     let a = (entry c).args in
-    c.mask-into.ensures
+    c.mask_into-answer.ensures
     ∙ ap number_answer
     (ap₂ (λ (p q : Bool). refuse_masks a.n (not (p && q)) (items_into (mask_len a.n) (length a.out.now)))
-    c.before.before.is-mask.ensures c.before.is-mask2.ensures
+    c.is_mask.ensures c.is_mask-2.ensures
     ∙ sym (combine-is a.op a.n a.a.now a.b.now a.out.now))
 
-is-refused : (c : tie.After-enum-told) → (let a = (entry c.before.before).args in
-    combine_outcome a.op a.n a.a.now a.b.now (length a.out.now) ≡ refused c.enum_told.given.0.0)
-is-refused c = number_answer-refused _ _ (sym c.enum_told.given.1 ∙ answers c.before.before)
+is-refused : (c : tie.In-Refused) → (let a = (entry c.before).args in
+    combine_outcome a.op a.n a.a.now a.b.now (length a.out.now) ≡ refused c.in-Refused.field-0)
+is-refused c = number_answer-refused _ _ (sym c.in-Refused.is ∙ answers c.before)
 
-is-done : (c : tie.After-enum-told2) → (let a = (entry c.before.before).args in
-    combine_outcome a.op a.n a.a.now a.b.now (length a.out.now) ≡ done c.enum-told2.given.0.0)
-is-done c = number_answer-number _ _ (sym c.enum-told2.given.1 ∙ answers c.before.before)
+is-done : (c : tie.In-Number) → (let a = (entry c.before).args in
+    combine_outcome a.op a.n a.a.now a.b.now (length a.out.now) ≡ done c.in-Number.field-0)
+is-done c = number_answer-number _ _ (sym c.in-Number.is ∙ answers c.before)
 
-is-mask-requires : tie.Need-is-mask-requires
-is-mask-requires c κs = search rules
+is_mask-requires : tie.Need-is_mask-requires
+is_mask-requires c κs = search rules
 
-is-mask-requires-2 : tie.Need-is-mask-requires-2
-is-mask-requires-2 c κs = search rules
+is_mask-requires-2 : tie.Need-is_mask-requires-2
+is_mask-requires-2 c κs = search rules
 
-mask-into-requires : tie.Need-mask-into-requires
-mask-into-requires c κs = search rules
+mask_into-answer-requires : tie.Need-mask_into-answer-requires
+mask_into-answer-requires c κs = search rules
 
-enum_told : tie.Need-enum-told
-enum_told c = search rules
+enum_told-1 : tie.Need-enum_told-1
+enum_told-1 c = search rules
 
-enum-told-2 : tie.Need-enum-told-2
-enum-told-2 c = search rules
+enum_told-in-Number : tie.Need-enum_told-in-Number
+enum_told-in-Number c = search rules
 
-zip-words-requires : tie.Need-zip-words-requires
-zip-words-requires c κs =
-    let s = entry c.before.before.before in
+zip_words-requires : tie.Need-zip_words-requires
+zip_words-requires c κs =
+    let s = entry c.before.before in
     combine-fits _ _ _ _ s.args.out.now _ (is-done c.before)
 
-returns : tie.Need-returns
-returns c = (answers c.before.before, sym (combine-refused _ _ _ _ _ _ (is-refused c)))
+returns-in-Refused : tie.Need-returns-in-Refused
+returns-in-Refused c = (answers c.before, sym (combine-refused _ _ _ _ _ _ (is-refused c)))
 
-same_length : tie.Need-same-length
-same_length c = search rules
+shape_of-out : tie.Need-shape_of-out
+shape_of-out c = search rules
 
-returns-2 : tie.Need-returns-2
-returns-2 c =
-    let k = c.before.before.before.before in
-    let s = k.before.before.before.before.before.before in (
-      answers k.before.before,
-      c.before.before.zip-words.ensures
-          ∙ combine-written _ _ _ _ _ _ (is-done k) (λ w. (s.before.shared-slice-known.given w).fits)
-          (λ w. (s.shared-slice-known2.given w).fits),
-    )
+returns-in-Number : tie.Need-returns-in-Number
+returns-in-Number c = (
+  answers c.before.before.before.before.before,
+  c.zip_words.ensures
+      ∙ combine-written _ _ _ _ _ _ (is-done c.before.before.before.before) (λ w. (c.shared_slice_known-1.given w).fits)
+      (λ w. (c.shared_slice_known-2-1.given w).fits),
+)
 
-pub combine-spec : {M : Type 1} → statement M
-combine-spec =
+pub combine_spec : {M : Type 1} → statement M
+combine_spec =
     tie.close
     (tie.spec
-    is-mask-requires
-    is-mask-requires-2
-    mask-into-requires
-    enum_told
-    enum-told-2
-    zip-words-requires
-    returns
-    same_length
-    returns-2)
+    is_mask-requires
+    is_mask-requires-2
+    mask_into-answer-requires
+    enum_told-1
+    enum_told-in-Number
+    zip_words-requires
+    returns-in-Refused
+    shape_of-out
+    returns-in-Number)

@@ -10,99 +10,97 @@ use Rattle.pciv_mask_logic.proofs.LogicLaws.{flip-full, flip-last, one-bit-pos}
 use Rattle.pciv_mask_logic.proofs.flip_words.Statement.{statement}
 use Rattle.pciv_mask_logic.proofs.flip_words.Tie as tie
 
-abbrev invariant-loop : tie.invariant-loop
-invariant-loop n words out₀ full i₀ out i = (full ≡ n / 64) × (i ≤ full) × Left (flip_at n words) (mask_len n) out₀ out i
+abbrev invariant-loop-i : tie.invariant-loop-i
+invariant-loop-i n words out₀ full i₀ out i = (full ≡ n / 64) × (i ≤ full) × Left (flip_at n words) (mask_len n) out₀ out i
 
-abbrev decreases-loop : tie.decreases-loop
-decreases-loop n words out₀ full i₀ out i = full - i
+abbrev decreases-loop-i : tie.decreases-loop-i
+decreases-loop-i n words out₀ full i₀ out i = full - i
 
-loop-holds : tie.Need-loop-init invariant-loop decreases-loop
-loop-holds c = (refl, omega arith, left-start _ _ _)
+loop-i-init : tie.Need-loop-i-init invariant-loop-i decreases-loop-i
+loop-i-init c = (refl, omega arith, left-start _ _ _)
 
-mul-out : tie.Need-overflow-mul-out invariant-loop decreases-loop
-mul-out c = search rules
+offset_bounds-words-i : tie.Need-offset_bounds-words-i invariant-loop-i decreases-loop-i
+offset_bounds-words-i c = search rules
 
-shared-slice-read-out : tie.Need-shared-slice-read-out invariant-loop decreases-loop
-shared-slice-read-out c = search rules
+bounds-words-i : tie.Need-bounds-words-i invariant-loop-i decreases-loop-i
+bounds-words-i c = search rules
 
-mul-out-2 : tie.Need-overflow-mul-out-2 invariant-loop decreases-loop
-mul-out-2 c = search rules
+offset_bounds-out-i : tie.Need-offset_bounds-out-i invariant-loop-i decreases-loop-i
+offset_bounds-out-i c = search rules
 
-slice-write-out : tie.Need-slice-write-out invariant-loop decreases-loop
-slice-write-out c = search rules
+bounds-out-i : tie.Need-bounds-out-i invariant-loop-i decreases-loop-i
+bounds-out-i c = search rules
 
-add-i : tie.Need-overflow-add-i invariant-loop decreases-loop
-add-i c = search rules
+overflow_add-i : tie.Need-overflow_add-i invariant-loop-i decreases-loop-i
+overflow_add-i c = search rules
 
-loop-less : tie.Need-loop-smaller invariant-loop decreases-loop
-loop-less c = search rules
+loop-i-smaller : tie.Need-loop-i-smaller invariant-loop-i decreases-loop-i
+loop-i-smaller c = search rules
 
-loop-again : tie.Need-loop-preserved invariant-loop decreases-loop
-loop-again c =
-    let d = c.before.before in
-    let a = d.before.args in
-    let l = d.loop in (
+loop-i-preserved : tie.Need-loop-i-preserved invariant-loop-i decreases-loop-i
+loop-i-preserved c =
+    let a = c.args in
+    let l = c.loop-i in (
       l.invariant.0,
       omega arith,
       left-more l.invariant.2 _ (omega arith) (flip-full a.n a.words.now l.i (omega arith)),
     )
 
-mul-out-3 : tie.Need-overflow-mul-out-3 invariant-loop decreases-loop
-mul-out-3 c = search rules
+offset_bounds-words-i-then-i-words : tie.Need-offset_bounds-words-i-then-i-words invariant-loop-i decreases-loop-i
+offset_bounds-words-i-then-i-words c = search rules
 
-shared-slice-read-out-2 : tie.Need-shared-slice-read-out-2 invariant-loop decreases-loop
-shared-slice-read-out-2 c = search rules
+bounds-words-i-then-i-words : tie.Need-bounds-words-i-then-i-words invariant-loop-i decreases-loop-i
+bounds-words-i-then-i-words c = search rules
 
-shl-out : tie.Need-overflow-shl-out invariant-loop decreases-loop
-shl-out c = search rules
+overflow_shl-out : tie.Need-overflow_shl-out invariant-loop-i decreases-loop-i
+overflow_shl-out c = search rules
 
-sub_out : tie.Need-overflow-sub-out invariant-loop decreases-loop
-sub_out c = one-bit-pos _ (omega arith)
+overflow_sub-out : tie.Need-overflow_sub-out invariant-loop-i decreases-loop-i
+overflow_sub-out c = one-bit-pos _ (omega arith)
 
-mul-out-4 : tie.Need-overflow-mul-out-4 invariant-loop decreases-loop
-mul-out-4 c = search rules
+offset_bounds-out-i-then-i-words : tie.Need-offset_bounds-out-i-then-i-words invariant-loop-i decreases-loop-i
+offset_bounds-out-i-then-i-words c = search rules
 
-slice-write-out-2 : tie.Need-slice-write-out-2 invariant-loop decreases-loop
-slice-write-out-2 c = search rules
+bounds-out-i-then-i-words : tie.Need-bounds-out-i-then-i-words invariant-loop-i decreases-loop-i
+bounds-out-i-then-i-words c = search rules
 
-same_length : tie.Need-same-length invariant-loop decreases-loop
-same_length c = search rules
+shape_of-out-then-i-words : tie.Need-shape_of-out-then-i-words invariant-loop-i decreases-loop-i
+shape_of-out-then-i-words c = search rules
 
-returns : tie.Need-returns invariant-loop decreases-loop
-returns c =
-    let d = c.before.before.before in
-    let a = d.before.args in
-    let l = d.loop in
+returns-then-i-words : tie.Need-returns-then-i-words invariant-loop-i decreases-loop-i
+returns-then-i-words c =
+    let a = c.args in
+    let l = c.loop-i in
     let last = left-more l.invariant.2 _ (omega arith) (flip-last a.n a.words.now l.i (omega arith)) in
     left_end last (omega arith)
 
-same-length-2 : tie.Need-same-length-2 invariant-loop decreases-loop
-same-length-2 c = search rules
+shape_of-out-else-i-words : tie.Need-shape_of-out-else-i-words invariant-loop-i decreases-loop-i
+shape_of-out-else-i-words c = search rules
 
-returns-2 : tie.Need-returns-2 invariant-loop decreases-loop
-returns-2 c = left_end c.before.before.loop.invariant.2 (omega arith)
+returns-else-i-words : tie.Need-returns-else-i-words invariant-loop-i decreases-loop-i
+returns-else-i-words c = left_end c.loop-i.invariant.2 (omega arith)
 
-pub flip-words-spec : {M : Type 1} → statement M
-flip-words-spec =
+pub flip_words_spec : {M : Type 1} → statement M
+flip_words_spec =
     tie.close
     (tie.spec
-    invariant-loop
-    decreases-loop
-    loop-holds
-    mul-out
-    shared-slice-read-out
-    mul-out-2
-    slice-write-out
-    add-i
-    loop-less
-    loop-again
-    mul-out-3
-    shared-slice-read-out-2
-    shl-out
-    sub_out
-    mul-out-4
-    slice-write-out-2
-    same_length
-    returns
-    same-length-2
-    returns-2)
+    invariant-loop-i
+    decreases-loop-i
+    loop-i-init
+    offset_bounds-words-i
+    bounds-words-i
+    offset_bounds-out-i
+    bounds-out-i
+    overflow_add-i
+    loop-i-smaller
+    loop-i-preserved
+    offset_bounds-words-i-then-i-words
+    bounds-words-i-then-i-words
+    overflow_shl-out
+    overflow_sub-out
+    offset_bounds-out-i-then-i-words
+    bounds-out-i-then-i-words
+    shape_of-out-then-i-words
+    returns-then-i-words
+    shape_of-out-else-i-words
+    returns-else-i-words)

@@ -15,58 +15,51 @@ use Rattle.pciv_mask_logic.proofs.mask_into.Tie as tie
 abbrev fitted : tie.Start → Outcome ℕ
 fitted s = items_into (mask_len s.args.n) s.args.capacity
 
-refuse-number-requires : tie.Need-refuse-number-requires
-refuse-number-requires c κs = search rules
+refuse_number-requires : tie.Need-refuse_number-requires
+refuse_number-requires c κs = search rules
+
+returns-then-n-gt-MAX_SLOTS : tie.Need-returns-then-n-gt-MAX_SLOTS
+returns-then-n-gt-MAX_SLOTS c =
+    c.refuse_number.ensures
+    ∙ ap number_answer (sym (masks-many c.args.n (not c.args.good) (fitted c.before.before) c.if-n-gt-MAX_SLOTS.true))
+
+refuse_number-requires-then-not-good : tie.Need-refuse_number-requires-then-not-good
+refuse_number-requires-then-not-good c κs = search rules
+
+returns-then-not-good : tie.Need-returns-then-not-good
+returns-then-not-good c =
+    let bad = masks-bad c.args.n (not c.args.good) (fitted c.before.before.before) c.if-n-gt-MAX_SLOTS.false (ap not c.if-not-good.true) in
+    c.refuse_number-then-not-good.ensures ∙ ap number_answer (sym bad)
+
+mask_len-count-requires : tie.Need-mask_len-count-requires
+mask_len-count-requires c κs = search rules
+
+refuse_number-requires-then-capacity-count : tie.Need-refuse_number-requires-then-capacity-count
+refuse_number-requires-then-capacity-count c κs = search rules
+
+returns-then-capacity-count : tie.Need-returns-then-capacity-count
+returns-then-capacity-count c =
+    let a = c.args in
+    let few : a.capacity < mask_len a.n = omega (arith, c.if-capacity-count.true, c.mask_len-count.ensures) in
+    let short = mask-short a.n (not a.good) a.capacity c.if-n-gt-MAX_SLOTS.false (ap not c.if-not-good.false) few in
+    c.refuse_number-then-capacity-count.ensures ∙ ap number_answer (sym short)
 
 returns : tie.Need-returns
 returns c =
-    let s = c.before.before in
-    c.refuse-number.ensures
-    ∙ ap number_answer (sym (masks-many s.args.n (not s.args.good) (fitted s) c.before.if1.true))
+    let a = c.args in
+    let fits : mask_len a.n ≤ a.capacity = omega (arith, c.if-capacity-count.false, c.mask_len-count.ensures) in
+    let all = mask_done a.n (not a.good) a.capacity c.if-n-gt-MAX_SLOTS.false (ap not c.if-not-good.false) fits in
+    ap number_answer (ap done c.mask_len-count.ensures ∙ sym all)
 
-refuse-number-requires-2 : tie.Need-refuse-number-requires-2
-refuse-number-requires-2 c κs = search rules
-
-returns-2 : tie.Need-returns-2
-returns-2 c =
-    let d = c.before.before in
-    let s = d.before in
-    let bad = masks-bad s.args.n (not s.args.good) (fitted s) d.if1.false c.before.if2.true in
-    c.refuse-number2.ensures ∙ ap number_answer (sym bad)
-
-mask-len-requires : tie.Need-mask-len-requires
-mask-len-requires c κs = search rules
-
-refuse-number-requires-3 : tie.Need-refuse-number-requires-3
-refuse-number-requires-3 c κs = search rules
-
-returns-3 : tie.Need-returns-3
-returns-3 c =
-    let m = c.before.before in
-    let d = m.before in
-    let a = d.before.before.args in
-    let few : a.capacity < mask_len a.n = omega (arith, c.before.if3.true, m.mask-len.ensures) in
-    let short = mask-short a.n (not a.good) a.capacity d.before.if1.false d.if2.false few in
-    c.refuse-number3.ensures ∙ ap number_answer (sym short)
-
-returns-4 : tie.Need-returns-4
-returns-4 c =
-    let m = c.before in
-    let d = m.before in
-    let a = d.before.before.args in
-    let fits : mask_len a.n ≤ a.capacity = omega (arith, c.if3.false, m.mask-len.ensures) in
-    let all = mask_done a.n (not a.good) a.capacity d.before.if1.false d.if2.false fits in
-    ap number_answer (ap done m.mask-len.ensures ∙ sym all)
-
-pub mask-into-spec : {M : Type 1} → statement M
-mask-into-spec =
+pub mask_into_spec : {M : Type 1} → statement M
+mask_into_spec =
     tie.close
     (tie.spec
-    refuse-number-requires
-    returns
-    refuse-number-requires-2
-    returns-2
-    mask-len-requires
-    refuse-number-requires-3
-    returns-3
-    returns-4)
+    refuse_number-requires
+    returns-then-n-gt-MAX_SLOTS
+    refuse_number-requires-then-not-good
+    returns-then-not-good
+    mask_len-count-requires
+    refuse_number-requires-then-capacity-count
+    returns-then-capacity-count
+    returns)

@@ -13,47 +13,45 @@ use Rattle.pciv_mask_logic.proofs.set_bits.Statement.{statement}
 use Rattle.pciv_mask_logic.proofs.set_bits.Tie as tie
 
 -- what the check of the mask has shown
-is-bad : (c : tie.Then2)
-    → (let a = c.before.before.before.before.args in bad_mask a.n a.words.now ≡ true)
-is-bad c = not-false _ (sym c.before.is-mask.ensures ∙ not-true _ c.if2.true)
+is-bad : (c : tie.Then-not-is_mask)
+    → (let a = c.args in bad_mask a.n a.words.now ≡ true)
+is-bad c = not-false _ (sym c.is_mask.ensures ∙ c.if-not-is_mask.true)
 
-is-good : (c : tie.Else2) → (let a = c.before.before.before.before.args in IsMask a.n a.words.now)
-is-good c = bad_mask-good _ _ (not-true _ (sym c.before.is-mask.ensures ∙ not-false _ c.if2.false))
+is-good : (c : tie.Else-not-is_mask) → (let a = c.args in IsMask a.n a.words.now)
+is-good c = bad_mask-good _ _ (not-true _ (sym c.is_mask.ensures ∙ c.if-not-is_mask.false))
 
-refuse-number-requires : tie.Need-refuse-number-requires
-refuse-number-requires c κs = search rules
+refuse_number-requires : tie.Need-refuse_number-requires
+refuse_number-requires c κs = search rules
+
+returns-then-n-gt-MAX_SLOTS : tie.Need-returns-then-n-gt-MAX_SLOTS
+returns-then-n-gt-MAX_SLOTS c = c.refuse_number.ensures ∙ ap number_answer (sym (set_bits-many _ _ c.if-n-gt-MAX_SLOTS.true))
+
+is_mask-requires : tie.Need-is_mask-requires
+is_mask-requires c κs = search rules
+
+refuse_number-requires-then-not-is_mask : tie.Need-refuse_number-requires-then-not-is_mask
+refuse_number-requires-then-not-is_mask c κs = search rules
+
+returns-then-not-is_mask : tie.Need-returns-then-not-is_mask
+returns-then-not-is_mask c =
+    c.refuse_number-then-not-is_mask.ensures ∙ ap number_answer (sym (set_bits-bad _ _ c.if-n-gt-MAX_SLOTS.false (is-bad c.before)))
+
+count_bits-requires : tie.Need-count_bits-requires
+count_bits-requires c κs = omega (arith, (is-good c).count, c.if-n-gt-MAX_SLOTS.false)
 
 returns : tie.Need-returns
-returns c = c.refuse-number.ensures ∙ ap number_answer (sym (set_bits-many _ _ c.before.if1.true))
+returns c =
+    let done-is = set_bits-done _ _ c.if-n-gt-MAX_SLOTS.false (is-good c.before) in
+    ap number_answer (ap done c.count_bits.ensures ∙ sym done-is)
 
-is-mask-requires : tie.Need-is-mask-requires
-is-mask-requires c κs = search rules
-
-refuse-number-requires-2 : tie.Need-refuse-number-requires-2
-refuse-number-requires-2 c κs = search rules
-
-returns-2 : tie.Need-returns-2
-returns-2 c =
-    let d = c.before in
-    c.refuse-number2.ensures ∙ ap number_answer (sym (set_bits-bad _ _ d.before.before.if1.false (is-bad d)))
-
-count-bits-requires : tie.Need-count-bits-requires
-count-bits-requires c κs = omega (arith, (is-good c).count, c.before.before.if1.false)
-
-returns-3 : tie.Need-returns-3
-returns-3 c =
-    let d = c.before in
-    let done-is = set_bits-done _ _ d.before.before.if1.false (is-good d) in
-    ap number_answer (ap done c.count-bits.ensures ∙ sym done-is)
-
-pub set-bits-spec : {M : Type 1} → statement M
-set-bits-spec =
+pub set_bits_spec : {M : Type 1} → statement M
+set_bits_spec =
     tie.close
     (tie.spec
-    refuse-number-requires
-    returns
-    is-mask-requires
-    refuse-number-requires-2
-    returns-2
-    count-bits-requires
-    returns-3)
+    refuse_number-requires
+    returns-then-n-gt-MAX_SLOTS
+    is_mask-requires
+    refuse_number-requires-then-not-is_mask
+    returns-then-not-is_mask
+    count_bits-requires
+    returns)

@@ -7,69 +7,68 @@ use Rattle.pciv_mask_logic.specs.Logic.{op_at}
 use Rattle.pciv_mask_logic.proofs.zip_words.Statement.{statement}
 use Rattle.pciv_mask_logic.proofs.zip_words.Tie as tie
 
-abbrev invariant-loop : tie.invariant-loop
-invariant-loop op a b out₀ i₀ out i = Left (op_at op a b) (length a) out₀ out i
+abbrev invariant-loop-i : tie.invariant-loop-i
+invariant-loop-i op a b out₀ i₀ out i = Left (op_at op a b) (length a) out₀ out i
 
-abbrev decreases-loop : tie.decreases-loop
-decreases-loop op a b out₀ i₀ out i = length a - i
+abbrev decreases-loop-i : tie.decreases-loop-i
+decreases-loop-i op a b out₀ i₀ out i = length a - i
 
-loop-holds : tie.Need-loop-init invariant-loop decreases-loop
-loop-holds c = left-start _ _ _
+loop-i-init : tie.Need-loop-i-init invariant-loop-i decreases-loop-i
+loop-i-init c = left-start _ _ _
 
-mul-bit-op : tie.Need-overflow-mul-bit-op invariant-loop decreases-loop
-mul-bit-op c = search rules
+offset_bounds-a-i : tie.Need-offset_bounds-a-i invariant-loop-i decreases-loop-i
+offset_bounds-a-i c = search rules
 
-shared-slice-read-bit-op : tie.Need-shared-slice-read-bit-op invariant-loop decreases-loop
-shared-slice-read-bit-op c = search rules
+bounds-a-i : tie.Need-bounds-a-i invariant-loop-i decreases-loop-i
+bounds-a-i c = search rules
 
-mul-bit-op-2 : tie.Need-overflow-mul-bit-op-2 invariant-loop decreases-loop
-mul-bit-op-2 c = search rules
+offset_bounds-b-i : tie.Need-offset_bounds-b-i invariant-loop-i decreases-loop-i
+offset_bounds-b-i c = search rules
 
-shared-slice-read-bit-op-2 : tie.Need-shared-slice-read-bit-op-2 invariant-loop decreases-loop
-shared-slice-read-bit-op-2 c = search rules
+bounds-b-i : tie.Need-bounds-b-i invariant-loop-i decreases-loop-i
+bounds-b-i c = search rules
 
-bit-op-requires : tie.Need-bit-op-requires invariant-loop decreases-loop
-bit-op-requires c κs = search rules
+bit_op-requires : tie.Need-bit_op-requires invariant-loop-i decreases-loop-i
+bit_op-requires c κs = search rules
 
-mul-out : tie.Need-overflow-mul-out invariant-loop decreases-loop
-mul-out c = search rules
+offset_bounds-out-i : tie.Need-offset_bounds-out-i invariant-loop-i decreases-loop-i
+offset_bounds-out-i c = search rules
 
-slice-write-out : tie.Need-slice-write-out invariant-loop decreases-loop
-slice-write-out c = search rules
+bounds-out-i : tie.Need-bounds-out-i invariant-loop-i decreases-loop-i
+bounds-out-i c = search rules
 
-add-i : tie.Need-overflow-add-i invariant-loop decreases-loop
-add-i c = search rules
+overflow_add-i : tie.Need-overflow_add-i invariant-loop-i decreases-loop-i
+overflow_add-i c = search rules
 
-loop-less : tie.Need-loop-smaller invariant-loop decreases-loop
-loop-less c = search rules
+loop-i-smaller : tie.Need-loop-i-smaller invariant-loop-i decreases-loop-i
+loop-i-smaller c = search rules
 
-loop-again : tie.Need-loop-preserved invariant-loop decreases-loop
-loop-again c =
-    let d = c.before.before.before in
-    left-more d.before.loop.invariant c.bit-op.result d.loop-test.true c.bit-op.ensures
+loop-i-preserved : tie.Need-loop-i-preserved invariant-loop-i decreases-loop-i
+loop-i-preserved c =
+    left-more c.loop-i.invariant c.bit_op.result c.loop-i-test.true c.bit_op.ensures
 
-same_length : tie.Need-same-length invariant-loop decreases-loop
-same_length c = search rules
+shape_of-out : tie.Need-shape_of-out invariant-loop-i decreases-loop-i
+shape_of-out c = search rules
 
-returns : tie.Need-returns invariant-loop decreases-loop
-returns c = left_end c.before.loop.invariant c.loop-test.false
+returns : tie.Need-returns invariant-loop-i decreases-loop-i
+returns c = left_end c.loop-i.invariant c.loop-i-test.false
 
-pub zip-words-spec : {M : Type 1} → statement M
-zip-words-spec =
+pub zip_words_spec : {M : Type 1} → statement M
+zip_words_spec =
     tie.close
     (tie.spec
-    invariant-loop
-    decreases-loop
-    loop-holds
-    mul-bit-op
-    shared-slice-read-bit-op
-    mul-bit-op-2
-    shared-slice-read-bit-op-2
-    bit-op-requires
-    mul-out
-    slice-write-out
-    add-i
-    loop-less
-    loop-again
-    same_length
+    invariant-loop-i
+    decreases-loop-i
+    loop-i-init
+    offset_bounds-a-i
+    bounds-a-i
+    offset_bounds-b-i
+    bounds-b-i
+    bit_op-requires
+    offset_bounds-out-i
+    bounds-out-i
+    overflow_add-i
+    loop-i-smaller
+    loop-i-preserved
+    shape_of-out
     returns)

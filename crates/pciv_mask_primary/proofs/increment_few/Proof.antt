@@ -6,33 +6,23 @@ use borrow.Author.Rules.{rules}
 use Rattle.pciv_mask_primary.proofs.increment_few.Statement.{statement}
 use Rattle.pciv_mask_primary.proofs.increment_few.Tie as tie
 
-add_at : tie.Need-overflow-add-at
-add_at c = search rules
+overflow_add-at : tie.Need-overflow_add-at
+overflow_add-at c = search rules
 
-copy-word-requires : tie.Need-copy-word-requires
-copy-word-requires c κs = search rules
+copy_word-requires : tie.Need-copy_word-requires
+copy_word-requires c κs = search rules
 
-raise-set-requires : tie.Need-raise-set-requires
-raise-set-requires c κs = search rules
+raise_set-requires : tie.Need-raise_set-requires
+raise_set-requires c κs = search rules
 
-same_length : tie.Need-same-length
-same_length c = search rules
+shape_of-out : tie.Need-shape_of-out
+shape_of-out c = search rules
 
 returns : tie.Need-returns
 returns c =
-    let r = c.before.before in
-    let p = r.before.before.before.before in
-    let s = p.before.before.before.before in
-    let a = s.args in
-    r.raise-set.ensures
-    ∙ raised-copied a.file.now a.out.now _ (40 + a.i) a.word s.requires.0 s.requires.1 p.copy-word.ensures
+    let a = c.args in
+    c.raise_set.ensures
+    ∙ raised-copied a.file.now a.out.now _ (40 + a.i) a.word c.requires.0 c.requires.1 c.copy_word.ensures
 
-pub increment-few-spec : {M : Type 1} → statement M
-increment-few-spec =
-    tie.close
-    (tie.spec
-    add_at
-    copy-word-requires
-    raise-set-requires
-    same_length
-    returns)
+pub increment_few_spec : {M : Type 1} → statement M
+increment_few_spec = tie.close (tie.spec overflow_add-at copy_word-requires raise_set-requires shape_of-out returns)

@@ -17,60 +17,54 @@ in-case : (s : tie.Start) (d : List ℕ) {case : MaskedOp} → s.args.op ≡ cas
     → d ≡ sets a.out.now (40 + a.i) (table (masked_word a.op a.file.now (40 + a.i) a.word) 0 64))
 in-case s d e put = rw e put
 
-enum_told : tie.Need-enum-told
-enum_told c = search rules
+enum_told-1 : tie.Need-enum_told-1
+enum_told-1 c = search rules
 
-mask-word-requires : tie.Need-mask-word-requires
-mask-word-requires c κs = search rules
+mask_word-requires : tie.Need-mask_word-requires
+mask_word-requires c κs = search rules
 
-enum-told-2 : tie.Need-enum-told-2
-enum-told-2 c = search rules
+enum_told-in-Increment : tie.Need-enum_told-in-Increment
+enum_told-in-Increment c = search rules
 
-increment-few-requires : tie.Need-increment-few-requires
-increment-few-requires c κs = search rules
+increment_few-requires : tie.Need-increment_few-requires
+increment_few-requires c κs = search rules
 
-mask-word-requires-2 : tie.Need-mask-word-requires-2
-mask-word-requires-2 c κs = search rules
+mask_word-requires-else-few : tie.Need-mask_word-requires-else-few
+mask_word-requires-else-few c κs = search rules
 
-same_length : tie.Need-same-length
-same_length c = search rules
+shape_of-out-in-Keep : tie.Need-shape_of-out-in-Keep
+shape_of-out-in-Keep c = search rules
 
-returns : tie.Need-returns
-returns c =
-    let p = c.before.before in
-    let t = p.before.before in
-    in-case t.before.before.before.before _ t.enum_told.given.1 p.mask_word.ensures
+returns-in-Keep : tie.Need-returns-in-Keep
+returns-in-Keep c =
+    in-case c.before.before.before.before.before.before.before _ c.in-Keep.is c.mask_word.ensures
 
-same-length-2 : tie.Need-same-length-2
-same-length-2 c = search rules
+shape_of-out-then-few : tie.Need-shape_of-out-then-few
+shape_of-out-then-few c = search rules
 
-returns-2 : tie.Need-returns-2
-returns-2 c =
-    let p = c.before.before in
-    let t = p.before.before.before in
-    in-case t.before.before.before.before _ t.enum-told2.given.1 p.increment-few.ensures
+returns-then-few : tie.Need-returns-then-few
+returns-then-few c =
+    in-case c.before.before.before.before.before.before.before.before _ c.in-Increment.is c.increment_few.ensures
 
-same-length-3 : tie.Need-same-length-3
-same-length-3 c = search rules
+shape_of-out-else-few : tie.Need-shape_of-out-else-few
+shape_of-out-else-few c = search rules
 
-returns-3 : tie.Need-returns-3
-returns-3 c =
-    let p = c.before.before in
-    let t = p.before.before.before in
-    in-case t.before.before.before.before _ t.enum-told2.given.1 p.mask-word2.ensures
+returns-else-few : tie.Need-returns-else-few
+returns-else-few c =
+    in-case c.before.before.before.before.before.before.before.before _ c.in-Increment.is c.mask_word-else-few.ensures
 
-pub mask-slots-spec : {M : Type 1} → statement M
-mask-slots-spec =
+pub mask_slots_spec : {M : Type 1} → statement M
+mask_slots_spec =
     tie.close
     (tie.spec
-    enum_told
-    mask-word-requires
-    enum-told-2
-    increment-few-requires
-    mask-word-requires-2
-    same_length
-    returns
-    same-length-2
-    returns-2
-    same-length-3
-    returns-3)
+    enum_told-1
+    mask_word-requires
+    enum_told-in-Increment
+    increment_few-requires
+    mask_word-requires-else-few
+    shape_of-out-in-Keep
+    returns-in-Keep
+    shape_of-out-then-few
+    returns-then-few
+    shape_of-out-else-few
+    returns-else-few)

@@ -13,92 +13,90 @@ use borrow.Author.Rules.{rules}
 use Rattle.pciv_mask_primary.proofs.mask_word.Statement.{statement}
 use Rattle.pciv_mask_primary.proofs.mask_word.Tie as tie
 
-abbrev invariant-loop : tie.invariant-loop
-invariant-loop out₀ op file i rows word bits j₀ out j =
+abbrev invariant-loop-j : tie.invariant-loop-j
+invariant-loop-j out₀ op file i rows word bits j₀ out j =
     (j ≤ 64)
     × (length out ≡ length out₀)
     × (let f = masked_word op file (40 + i) word in
     sets out₀ (40 + i) (table f 0 64) ≡ sets out (40 + i + j) (table f j (64 - j)))
 
-abbrev decreases-loop : tie.decreases-loop
-decreases-loop out₀ op file i rows word bits j₀ out j = 64 - j
+abbrev decreases-loop-j : tie.decreases-loop-j
+decreases-loop-j out₀ op file i rows word bits j₀ out j = 64 - j
 
-slice-aggregate-put-word : tie.Need-slice-aggregate-put-word invariant-loop decreases-loop
-slice-aggregate-put-word c = search rules
+slice_bounds-put_word-end : tie.Need-slice_bounds-put_word-end invariant-loop-j decreases-loop-j
+slice_bounds-put_word-end c = search rules
 
-put-word-requires : tie.Need-put-word-requires invariant-loop decreases-loop
-put-word-requires c κs = (c.before.before.before.requires.0, omega arith)
+put_word-requires : tie.Need-put_word-requires invariant-loop-j decreases-loop-j
+put_word-requires c κs = (c.requires.0, omega arith)
 
-loop-holds : tie.Need-loop-init invariant-loop decreases-loop
-loop-holds c =
-    let a = c.before.before.before.before.before.args in
+loop-j-init : tie.Need-loop-j-init invariant-loop-j decreases-loop-j
+loop-j-init c =
+    let a = c.args in
     let f : ℕ → ℕ = masked_word a.op a.file.now (40 + a.i) a.word in
     (omega arith, refl, sets-table-start f (40 + a.i) 64 a.out.now)
 
-add_at : tie.Need-overflow-add-at invariant-loop decreases-loop
-add_at c = search rules
+overflow_add-at : tie.Need-overflow_add-at invariant-loop-j decreases-loop-j
+overflow_add-at c = search rules
 
-add-at-2 : tie.Need-overflow-add-at-2 invariant-loop decreases-loop
-add-at-2 c = search rules
+overflow_add-at-in-loop-j : tie.Need-overflow_add-at-in-loop-j invariant-loop-j decreases-loop-j
+overflow_add-at-in-loop-j c = search rules
 
-array-read-masked-byte : tie.Need-array-read-masked-byte invariant-loop decreases-loop
-array-read-masked-byte c = search rules
+bounds-bits-j : tie.Need-bounds-bits-j invariant-loop-j decreases-loop-j
+bounds-bits-j c = search rules
 
-shared-slice-read-masked-byte : tie.Need-shared-slice-read-masked-byte invariant-loop decreases-loop
-shared-slice-read-masked-byte c = search rules
+bounds-file-at : tie.Need-bounds-file-at invariant-loop-j decreases-loop-j
+bounds-file-at c = search rules
 
-masked-byte-requires : tie.Need-masked-byte-requires invariant-loop decreases-loop
-masked-byte-requires c κs = search rules
+masked_byte-requires : tie.Need-masked_byte-requires invariant-loop-j decreases-loop-j
+masked_byte-requires c κs = search rules
 
-slice-write-out : tie.Need-slice-write-out invariant-loop decreases-loop
-slice-write-out c = search rules
+bounds-out-at : tie.Need-bounds-out-at invariant-loop-j decreases-loop-j
+bounds-out-at c = search rules
 
-add-j : tie.Need-overflow-add-j invariant-loop decreases-loop
-add-j c = search rules
+overflow_add-j : tie.Need-overflow_add-j invariant-loop-j decreases-loop-j
+overflow_add-j c = search rules
 
-loop-less : tie.Need-loop-smaller invariant-loop decreases-loop
-loop-less c = search rules
+loop-j-smaller : tie.Need-loop-j-smaller invariant-loop-j decreases-loop-j
+loop-j-smaller c = search rules
 
-loop-again : tie.Need-loop-preserved invariant-loop decreases-loop
-loop-again c =
-    let w = c.before.before in
-    let l = w.before.loop in
-    let p = w.before.before.before in
-    let a = p.before.before.before.before.args in
+loop-j-preserved : tie.Need-loop-j-preserved invariant-loop-j decreases-loop-j
+loop-j-preserved c =
+    let l = c.loop-j in
+    let a = c.args in
     let f : ℕ → ℕ = masked_word a.op a.file.now (40 + a.i) a.word in
-    let bit = word-bit _ _ a.word l.j (omega arith) p.put_word.ensures w.loop-test.true in
-    let byte : c.masked-byte.result ≡ f l.j =
-    c.masked-byte.ensures ∙ ap (λ (z : ℕ). masked_byte a.op z (byte_at a.file.now (40 + a.i + l.j))) bit in
-    let more = sets-table-more f (40 + a.i) 64 l.j l.out w.loop-test.true in
-    (omega (arith, w.loop-test.true), simp length-set l.invariant.1, l.invariant.2 ∙ more ∙ rw byte)
+    let bit = word-bit _ _ a.word l.j (omega arith) c.put_word.ensures c.loop-j-test.true in
+    let byte : c.masked_byte.result ≡ f l.j =
+    c.masked_byte.ensures ∙ ap (λ (z : ℕ). masked_byte a.op z (byte_at a.file.now (40 + a.i + l.j))) bit in
+    let more = sets-table-more f (40 + a.i) 64 l.j l.out c.loop-j-test.true in
+    (omega (arith, c.loop-j-test.true), simp length-set l.invariant.1, l.invariant.2 ∙ more ∙ rw byte)
 
-same_length : tie.Need-same-length invariant-loop decreases-loop
-same_length c = search rules
+shape_of-out : tie.Need-shape_of-out invariant-loop-j decreases-loop-j
+shape_of-out c = search rules
 
-returns : tie.Need-returns invariant-loop decreases-loop
+returns : tie.Need-returns invariant-loop-j decreases-loop-j
 returns c =
-    let a = c.before.before.before.before.before.before.before.args in
-    let l = c.before.loop in
+    let a = c.args in
+    let l = c.loop-j in
     let f : ℕ → ℕ = masked_word a.op a.file.now (40 + a.i) a.word in
-    sym (l.invariant.2 ∙ sets-table-end f (40 + a.i) 64 l.j l.out (omega (arith, c.loop-test.false)))
+    sym (l.invariant.2 ∙ sets-table-end f (40 + a.i) 64 l.j l.out (omega (arith, c.loop-j-test.false)))
 
-pub mask-word-spec : {M : Type 1} → statement M
-mask-word-spec =
+pub mask_word_spec : {M : Type 1} → statement M
+mask_word_spec =
     tie.close
     (tie.spec
-    invariant-loop
-    decreases-loop
-    slice-aggregate-put-word
-    put-word-requires
-    loop-holds
-    add_at
-    add-at-2
-    array-read-masked-byte
-    shared-slice-read-masked-byte
-    masked-byte-requires
-    slice-write-out
-    add-j
-    loop-less
-    loop-again
-    same_length
+    invariant-loop-j
+    decreases-loop-j
+    slice_bounds-put_word-end
+    put_word-requires
+    loop-j-init
+    overflow_add-at
+    overflow_add-at-in-loop-j
+    bounds-bits-j
+    bounds-file-at
+    masked_byte-requires
+    bounds-out-at
+    overflow_add-j
+    loop-j-smaller
+    loop-j-preserved
+    shape_of-out
     returns)

@@ -13,29 +13,39 @@ use Rattle.pciv_mask_primary.proofs.masked_byte.Tie as tie
 in-case : (r bit x : ℕ) {op case : MaskedOp} → op ≡ case → r ≡ masked_byte case bit x → r ≡ masked_byte op bit x
 in-case r bit x e q = rw e q
 
-enum_told : tie.Need-enum-told
-enum_told c = search rules
+enum_told-1 : tie.Need-enum_told-1
+enum_told-1 c = search rules
 
-enum-told-2 : tie.Need-enum-told-2
-enum-told-2 c = search rules
+enum_told-in-Increment : tie.Need-enum_told-in-Increment
+enum_told-in-Increment c = search rules
 
-sub-if2 : tie.Need-overflow-sub-if2
-sub-if2 c = search rules
+overflow_sub-x : tie.Need-overflow_sub-x
+overflow_sub-x c = search rules
 
-add-result : tie.Need-overflow-add-result
-add-result c = search rules
+overflow_add-result : tie.Need-overflow_add-result
+overflow_add-result c = search rules
 
-returns : tie.Need-returns
-returns c = in-case _ _ _ c.before.enum_told.given.1 (rw (eq-eqb _ _ c.if1.true))
+returns-then-bit-eq0 : tie.Need-returns-then-bit-eq0
+returns-then-bit-eq0 c = in-case _ _ _ c.in-Keep.is (rw (eq-eqb _ _ c.if-bit-eq0.true))
 
-returns-2 : tie.Need-returns-2
-returns-2 c = in-case _ _ _ c.before.enum_told.given.1 (rw (ne_eqb _ _ c.if1.false))
+returns-else-bit-eq0 : tie.Need-returns-else-bit-eq0
+returns-else-bit-eq0 c = in-case _ _ _ c.in-Keep.is (rw (ne_eqb _ _ c.if-bit-eq0.false))
 
-returns-3 : tie.Need-returns-3
-returns-3 c = in-case _ _ _ c.before.enum-told2.given.1 (omega arith)
+returns-then-x-bit : tie.Need-returns-then-x-bit
+returns-then-x-bit c = in-case _ _ _ c.in-Increment.is (omega arith)
 
-returns-4 : tie.Need-returns-4
-returns-4 c = in-case _ _ _ c.before.enum-told2.given.1 (omega arith)
+returns-else-x-bit : tie.Need-returns-else-x-bit
+returns-else-x-bit c = in-case _ _ _ c.in-Increment.is (omega arith)
 
-pub masked-byte-spec : {M : Type 1} → statement M
-masked-byte-spec = tie.close (tie.spec enum_told enum-told-2 sub-if2 add-result returns returns-2 returns-3 returns-4)
+pub masked_byte_spec : {M : Type 1} → statement M
+masked_byte_spec =
+    tie.close
+    (tie.spec
+    enum_told-1
+    enum_told-in-Increment
+    overflow_sub-x
+    overflow_add-result
+    returns-then-bit-eq0
+    returns-else-bit-eq0
+    returns-then-x-bit
+    returns-else-x-bit)

@@ -16,185 +16,169 @@ use borrow.Author.Rules.{rules}
 use Rattle.pciv_mask_primary.proofs.put_primary.Statement.{statement}
 use Rattle.pciv_mask_primary.proofs.put_primary.Tie as tie
 
-abbrev invariant-loop : tie.invariant-loop
-invariant-loop out₀ op file n k words rows few₀ i₀ out few i =
+abbrev invariant-loop-i : tie.invariant-loop-i
+invariant-loop-i out₀ op file n k words rows few₀ i₀ out few i =
     (i % 64 ≡ 0) × SlotsLeft (masked_slot op file words) n out₀ 0 out i
 
-abbrev decreases-loop : tie.decreases-loop
-decreases-loop out₀ op file n k words rows few₀ i₀ out few i = n - i
+abbrev decreases-loop-i : tie.decreases-loop-i
+decreases-loop-i out₀ op file n k words rows few₀ i₀ out few i = n - i
 
-abbrev invariant-loop2 : tie.invariant-loop2
-invariant-loop2 out₀ op file n k words few i₀ bits out i =
+abbrev invariant-loop-i-2 : tie.invariant-loop-i-2
+invariant-loop-i-2 out₀ op file n k words few i₀ bits out i =
     (64 * (n / 64) ≤ i) × SlotsLeft (masked_slot op file words) n out₀ i₀ out i
 
-abbrev decreases-loop2 : tie.decreases-loop2
-decreases-loop2 out₀ op file n k words few i₀ bits out i = n - i
+abbrev decreases-loop-i-2 : tie.decreases-loop-i-2
+decreases-loop-i-2 out₀ op file n k words few i₀ bits out i = n - i
 
-abbrev start : tie.In-loop invariant-loop decreases-loop invariant-loop2 decreases-loop2 → tie.Start invariant-loop decreases-loop invariant-loop2 decreases-loop2
+abbrev start : tie.In-loop-i invariant-loop-i decreases-loop-i invariant-loop-i-2 decreases-loop-i-2 → tie.Start invariant-loop-i decreases-loop-i invariant-loop-i-2 decreases-loop-i-2
 start c = c.before.before.before.before.before.before
 
-abbrev start2 : tie.In-loop2 invariant-loop decreases-loop invariant-loop2 decreases-loop2 → tie.Start invariant-loop decreases-loop invariant-loop2 decreases-loop2
+abbrev start2 : tie.In-loop-i-2 invariant-loop-i decreases-loop-i invariant-loop-i-2 decreases-loop-i-2 → tie.Start invariant-loop-i decreases-loop-i invariant-loop-i-2 decreases-loop-i-2
 start2 c = c.before.before.before.before.before.before.before.before.before.before
 
 -- what becomes of the primary byte of a slot
-abbrev byte_of : tie.Start invariant-loop decreases-loop invariant-loop2 decreases-loop2 → ℕ → ℕ
+abbrev byte_of : tie.Start invariant-loop-i decreases-loop-i invariant-loop-i-2 decreases-loop-i-2 → ℕ → ℕ
 byte_of s = masked_slot s.args.op s.args.file.now s.args.words.now
 
-inside : (s : tie.Start invariant-loop decreases-loop invariant-loop2 decreases-loop2) → 40 + s.args.n ≤ length s.args.file.now
+inside : (s : tie.Start invariant-loop-i decreases-loop-i invariant-loop-i-2 decreases-loop-i-2) → 40 + s.args.n ≤ length s.args.file.now
 inside s = primary-inside s.args.file.now s.args.n s.args.k s.requires.0
 
-bit-rows-requires : tie.Need-bit-rows-requires invariant-loop decreases-loop invariant-loop2 decreases-loop2
-bit-rows-requires c κs = search rules
+bit_rows-rows-requires : tie.Need-bit_rows-rows-requires invariant-loop-i decreases-loop-i invariant-loop-i-2 decreases-loop-i-2
+bit_rows-rows-requires c κs = search rules
 
-loop-holds : tie.Need-loop-init invariant-loop decreases-loop invariant-loop2 decreases-loop2
-loop-holds c =
-    let s = c.before.before.before.before in
-    (refl, slots-start (byte_of s) s.args.n s.args.out.now 0 (omega arith))
+loop-i-init : tie.Need-loop-i-init invariant-loop-i decreases-loop-i invariant-loop-i-2 decreases-loop-i-2
+loop-i-init c =
+    (refl, slots-start (byte_of c.before.before.before.before) c.args.n c.args.out.now 0 (omega arith))
 
-sub-loop : tie.Need-overflow-sub-loop invariant-loop decreases-loop invariant-loop2 decreases-loop2
-sub-loop c = search rules
+overflow_sub-n : tie.Need-overflow_sub-n invariant-loop-i decreases-loop-i invariant-loop-i-2 decreases-loop-i-2
+overflow_sub-n c = search rules
 
-few-at-requires : tie.Need-few-at-requires invariant-loop decreases-loop invariant-loop2 decreases-loop2
-few-at-requires c κs =
-    omega (arith, c.before.loop.invariant.1.inside, c.loop-test.true, mask-covers (start c).requires.1.0)
+few_at-few-requires : tie.Need-few_at-few-requires invariant-loop-i decreases-loop-i invariant-loop-i-2 decreases-loop-i-2
+few_at-few-requires c κs =
+    omega (arith, c.loop-i.invariant.1.inside, c.loop-i-test.true, mask-covers (start c).requires.1.0)
 
-mul-mask-slots : tie.Need-overflow-mul-mask-slots invariant-loop decreases-loop invariant-loop2 decreases-loop2
-mul-mask-slots c = search rules
+offset_bounds-words-i : tie.Need-offset_bounds-words-i invariant-loop-i decreases-loop-i invariant-loop-i-2 decreases-loop-i-2
+offset_bounds-words-i c = search rules
 
-shared-slice-read-mask-slots : tie.Need-shared-slice-read-mask-slots invariant-loop decreases-loop invariant-loop2 decreases-loop2
-shared-slice-read-mask-slots c =
-    let w = c.before.before.before.before in
-    omega (arith, w.before.loop.invariant.1.inside, w.loop-test.true, mask-covers (start w).requires.1.0)
+bounds-words-i : tie.Need-bounds-words-i invariant-loop-i decreases-loop-i invariant-loop-i-2 decreases-loop-i-2
+bounds-words-i c =
+    omega (arith, c.loop-i.invariant.1.inside, c.loop-i-test.true, mask-covers (start c.before.before.before.before).requires.1.0)
 
-mask-slots-requires : tie.Need-mask-slots-requires invariant-loop decreases-loop invariant-loop2 decreases-loop2
-mask-slots-requires c κs =
-    let w = c.before.before.before.before in
-    let l = w.before.loop in
-    let s = start w in (
-      w.before.before.bit-rows.ensures,
+mask_slots-requires : tie.Need-mask_slots-requires invariant-loop-i decreases-loop-i invariant-loop-i-2 decreases-loop-i-2
+mask_slots-requires c κs =
+    let l = c.loop-i in
+    let s = start c.before.before.before.before in (
+      c.bit_rows-rows.ensures,
       (
-        omega (arith, l.invariant.1.inside, w.loop-test.true, inside s),
-        omega (arith, l.invariant.1.inside, l.invariant.1.same, w.loop-test.true, s.pre.1.1),
+        omega (arith, l.invariant.1.inside, c.loop-i-test.true, inside s),
+        omega (arith, l.invariant.1.inside, l.invariant.1.same, c.loop-i-test.true, s.requires.1.1),
       ),
     )
 
-add-i : tie.Need-overflow-add-i invariant-loop decreases-loop invariant-loop2 decreases-loop2
-add-i c = search rules
+overflow_add-i : tie.Need-overflow_add-i invariant-loop-i decreases-loop-i invariant-loop-i-2 decreases-loop-i-2
+overflow_add-i c = search rules
 
-loop-less : tie.Need-loop-smaller invariant-loop decreases-loop invariant-loop2 decreases-loop2
-loop-less c = search rules
+loop-i-smaller : tie.Need-loop-i-smaller invariant-loop-i decreases-loop-i invariant-loop-i-2 decreases-loop-i-2
+loop-i-smaller c = search rules
 
-loop-again : tie.Need-loop-preserved invariant-loop decreases-loop invariant-loop2 decreases-loop2
-loop-again c =
-    let p = c.before.before in
-    let w = p.before.before.before.before.before in
-    let l = w.before.loop in
-    let s = start w in
+loop-i-preserved : tie.Need-loop-i-preserved invariant-loop-i decreases-loop-i invariant-loop-i-2 decreases-loop-i-2
+loop-i-preserved c =
+    let l = c.loop-i in
+    let s = start c.before.before.before.before.before.before.before in
     let a = s.args in
     let is = word-of-slots a.op a.file.now a.words.now l.i l.invariant.0 in (
       omega (arith, l.invariant.0),
-      slots-word (byte_of s) a.n l.invariant.1 _ _ w.loop-test.true p.mask-slots.ensures is,
+      slots-word (byte_of s) a.n l.invariant.1 _ _ c.loop-i-test.true c.mask_slots.ensures is,
     )
 
-last-bits-requires : tie.Need-last-bits-requires invariant-loop decreases-loop invariant-loop2 decreases-loop2
-last-bits-requires c κs = c.before.before.before.bit-rows.ensures
+last_bits-bits-requires : tie.Need-last_bits-bits-requires invariant-loop-i decreases-loop-i invariant-loop-i-2 decreases-loop-i-2
+last_bits-bits-requires c κs = c.bit_rows-rows.ensures
 
-loop2-holds : tie.Need-loop2-init invariant-loop decreases-loop invariant-loop2 decreases-loop2
-loop2-holds c =
-    let w = c.before.before in
-    let l = w.before.loop in
-    let s = w.before.before.before.before.before.before in (
-      omega (arith, l.invariant.0, l.invariant.1.inside, w.loop-test.false),
-      slots-start (byte_of s) s.args.n l.out l.i l.invariant.1.inside,
+loop-i-2-init : tie.Need-loop-i-2-init invariant-loop-i decreases-loop-i invariant-loop-i-2 decreases-loop-i-2
+loop-i-2-init c =
+    let l = c.loop-i in (
+      omega (arith, l.invariant.0, l.invariant.1.inside, c.loop-i-test.false),
+      slots-start (byte_of c.before.before.before.before.before.before.before.before) c.args.n l.out l.i l.invariant.1.inside,
     )
 
-array-read-masked-byte : tie.Need-array-read-masked-byte invariant-loop decreases-loop invariant-loop2 decreases-loop2
-array-read-masked-byte c = search rules
+bounds-bits-i : tie.Need-bounds-bits-i invariant-loop-i decreases-loop-i invariant-loop-i-2 decreases-loop-i-2
+bounds-bits-i c = search rules
 
-add-masked-byte : tie.Need-overflow-add-masked-byte invariant-loop decreases-loop invariant-loop2 decreases-loop2
-add-masked-byte c = search rules
+overflow_add-i-in-loop-i-2 : tie.Need-overflow_add-i-in-loop-i-2 invariant-loop-i decreases-loop-i invariant-loop-i-2 decreases-loop-i-2
+overflow_add-i-in-loop-i-2 c = search rules
 
-shared-slice-read-masked-byte : tie.Need-shared-slice-read-masked-byte invariant-loop decreases-loop invariant-loop2 decreases-loop2
-shared-slice-read-masked-byte c =
-    let w = c.before in
-    omega (arith, inside (start2 w), w.loop2-test.true)
+bounds-file-i : tie.Need-bounds-file-i invariant-loop-i decreases-loop-i invariant-loop-i-2 decreases-loop-i-2
+bounds-file-i c =
+    omega (arith, inside (start2 c.before), c.loop-i-2-test.true)
 
-masked-byte-requires : tie.Need-masked-byte-requires invariant-loop decreases-loop invariant-loop2 decreases-loop2
-masked-byte-requires c κs = search rules
+masked_byte-requires : tie.Need-masked_byte-requires invariant-loop-i decreases-loop-i invariant-loop-i-2 decreases-loop-i-2
+masked_byte-requires c κs = search rules
 
-add-out : tie.Need-overflow-add-out invariant-loop decreases-loop invariant-loop2 decreases-loop2
-add-out c = search rules
+overflow_add-out : tie.Need-overflow_add-out invariant-loop-i decreases-loop-i invariant-loop-i-2 decreases-loop-i-2
+overflow_add-out c = search rules
 
-slice-write-out : tie.Need-slice-write-out invariant-loop decreases-loop invariant-loop2 decreases-loop2
-slice-write-out c =
-    let w = c.before.before in
-    let l = w.before in
-    let words = l.before.before.before.before.loop.invariant.1 in
-    omega (arith, (start2 w).requires.1.1, w.loop2-test.true, l.loop2.invariant.1.same, words.same)
+bounds-out-i : tie.Need-bounds-out-i invariant-loop-i decreases-loop-i invariant-loop-i-2 decreases-loop-i-2
+bounds-out-i c =
+    let words = c.loop-i.invariant.1 in
+    omega (arith, (start2 c.before.before).requires.1.1, c.loop-i-2-test.true, c.loop-i-2.invariant.1.same, words.same)
 
-add-i-2 : tie.Need-overflow-add-i-2 invariant-loop decreases-loop invariant-loop2 decreases-loop2
-add-i-2 c = search rules
+overflow_add-i-in-loop-i-2-2 : tie.Need-overflow_add-i-in-loop-i-2-2 invariant-loop-i decreases-loop-i invariant-loop-i-2 decreases-loop-i-2
+overflow_add-i-in-loop-i-2-2 c = search rules
 
-loop2-less : tie.Need-loop2-smaller invariant-loop decreases-loop invariant-loop2 decreases-loop2
-loop2-less c = search rules
+loop-i-2-smaller : tie.Need-loop-i-2-smaller invariant-loop-i decreases-loop-i invariant-loop-i-2 decreases-loop-i-2
+loop-i-2-smaller c = search rules
 
-loop2-again : tie.Need-loop2-preserved invariant-loop decreases-loop invariant-loop2 decreases-loop2
-loop2-again c =
-    let w = c.before.before in
-    let b = w.before.before in
-    let l = w.before.loop2 in
-    let s = start2 w in
+loop-i-2-preserved : tie.Need-loop-i-2-preserved invariant-loop-i decreases-loop-i invariant-loop-i-2 decreases-loop-i-2
+loop-i-2-preserved c =
+    let l = c.loop-i-2 in
+    let s = start2 c.before.before in
     let a = s.args in
-    let more = w.loop2-test.true in
-    let bit = last_bit _ a.words.now a.n l.i b.last-bits.ensures l.invariant.0 more in
-    let byte : c.masked-byte.result ≡ byte_of s l.i =
-    c.masked-byte.ensures ∙ ap (λ (z : ℕ). masked_byte a.op z (byte_at a.file.now (40 + l.i))) bit in
+    let more = c.loop-i-2-test.true in
+    let bit = last_bit _ a.words.now a.n l.i c.last_bits-bits.ensures l.invariant.0 more in
+    let byte : c.masked_byte.result ≡ byte_of s l.i =
+    c.masked_byte.ensures ∙ ap (λ (z : ℕ). masked_byte a.op z (byte_at a.file.now (40 + l.i))) bit in
     (omega (arith, l.invariant.0), slots-one (byte_of s) a.n l.invariant.1 _ more byte)
 
-same_length : tie.Need-same-length invariant-loop decreases-loop invariant-loop2 decreases-loop2
-same_length c = search rules
+shape_of-out : tie.Need-shape_of-out invariant-loop-i decreases-loop-i invariant-loop-i-2 decreases-loop-i-2
+shape_of-out c = search rules
 
-returns : tie.Need-returns invariant-loop decreases-loop invariant-loop2 decreases-loop2
+returns : tie.Need-returns invariant-loop-i decreases-loop-i invariant-loop-i-2 decreases-loop-i-2
 returns c =
-    let l = c.before in
-    let k = l.before.before.before.before in
-    let known = k.before.before.before in
-    let s = known.before.before in
-    let a = s.args in
+    let a = c.args in
     let bytes =
-    masked-primary a.op a.file.now a.words.now a.n a.k s.requires.0
-    (λ i. (known.shared-slice-known.given i).fits) in
-    slots_end (byte_of s) a.n k.loop.invariant.1 l.loop2.invariant.1 c.loop2-test.false
+    masked-primary a.op a.file.now a.words.now a.n a.k c.requires.0
+    (λ i. (c.shared_slice_known-1.given i).fits) in
+    slots_end (byte_of c.before.before.before.before.before.before.before.before.before.before) a.n c.loop-i.invariant.1 c.loop-i-2.invariant.1 c.loop-i-2-test.false
     ∙ ap (sets a.out.now 40) bytes
 
-pub put-primary-spec : {M : Type 1} → statement M
-put-primary-spec =
+pub put_primary_spec : {M : Type 1} → statement M
+put_primary_spec =
     tie.close
     (tie.spec
-    invariant-loop
-    decreases-loop
-    invariant-loop2
-    decreases-loop2
-    bit-rows-requires
-    loop-holds
-    sub-loop
-    few-at-requires
-    mul-mask-slots
-    shared-slice-read-mask-slots
-    mask-slots-requires
-    add-i
-    loop-less
-    loop-again
-    last-bits-requires
-    loop2-holds
-    array-read-masked-byte
-    add-masked-byte
-    shared-slice-read-masked-byte
-    masked-byte-requires
-    add-out
-    slice-write-out
-    add-i-2
-    loop2-less
-    loop2-again
-    same_length
+    invariant-loop-i
+    decreases-loop-i
+    invariant-loop-i-2
+    decreases-loop-i-2
+    bit_rows-rows-requires
+    loop-i-init
+    overflow_sub-n
+    few_at-few-requires
+    offset_bounds-words-i
+    bounds-words-i
+    mask_slots-requires
+    overflow_add-i
+    loop-i-smaller
+    loop-i-preserved
+    last_bits-bits-requires
+    loop-i-2-init
+    bounds-bits-i
+    overflow_add-i-in-loop-i-2
+    bounds-file-i
+    masked_byte-requires
+    overflow_add-out
+    bounds-out-i
+    overflow_add-i-in-loop-i-2-2
+    loop-i-2-smaller
+    loop-i-2-preserved
+    shape_of-out
     returns)

@@ -17,89 +17,86 @@ use borrow.Author.Rules.{rules}
 use Rattle.pciv_mask_primary.proofs.raise_set.Statement.{statement}
 use Rattle.pciv_mask_primary.proofs.raise_set.Tie as tie
 
-abbrev invariant-loop : tie.invariant-loop
-invariant-loop out₀ at word rest₀ out rest =
+abbrev invariant-loop-rest : tie.invariant-loop-rest
+invariant-loop-rest out₀ at word rest₀ out rest =
     (rest < 2 ^ 64)
     × (length out ≡ length out₀)
     × Bytes out
     × (let raised = masked_word Increment in
     sets out₀ at (table (raised out₀ at word) 0 64) ≡ sets out at (table (raised out at rest) 0 64))
 
-abbrev decreases-loop : tie.decreases-loop
-decreases-loop out₀ at word rest₀ out rest = rest
+abbrev decreases-loop-rest : tie.decreases-loop-rest
+decreases-loop-rest out₀ at word rest₀ out rest = rest
 
 -- the byte of the lowest bit that is left
-inside : (c : tie.In-loop invariant-loop decreases-loop)
-    → (let l = c.before.loop in c.before.before.before.args.at + count_trailing_zeros 64 l.rest < length l.out)
+inside : (c : tie.In-loop-rest invariant-loop-rest decreases-loop-rest)
+    → (let l = c.loop-rest in c.args.at + count_trailing_zeros 64 l.rest < length l.out)
 inside c =
-    let l = c.before.loop in
-    omega (arith, trailing_lt 64 l.rest c.loop-test.true l.invariant.0, l.invariant.1, c.before.before.before.requires)
+    let l = c.loop-rest in
+    omega (arith, trailing_lt 64 l.rest c.loop-rest-test.true l.invariant.0, l.invariant.1, c.requires)
 
-loop-holds : tie.Need-loop-init invariant-loop decreases-loop
-loop-holds c = (search rules, refl, λ i. (c.slice-known.given i).fits, refl)
+loop-rest-init : tie.Need-loop-rest-init invariant-loop-rest decreases-loop-rest
+loop-rest-init c = (search rules, refl, λ i. (c.slice_known-1.given i).fits, refl)
 
-cast-slot : tie.Need-overflow-cast-slot invariant-loop decreases-loop
-cast-slot c = omega (arith, trailing_le 64 c.before.loop.rest)
+overflow_cast-slot : tie.Need-overflow_cast-slot invariant-loop-rest decreases-loop-rest
+overflow_cast-slot c = omega (arith, trailing_le 64 c.loop-rest.rest)
 
-add-slot : tie.Need-overflow-add-slot invariant-loop decreases-loop
-add-slot c = omega (arith, inside c)
+overflow_add-slot : tie.Need-overflow_add-slot invariant-loop-rest decreases-loop-rest
+overflow_add-slot c = omega (arith, inside c)
 
-slice-read-masked-byte : tie.Need-slice-read-masked-byte invariant-loop decreases-loop
-slice-read-masked-byte c = inside c.before
+bounds-out-slot : tie.Need-bounds-out-slot invariant-loop-rest decreases-loop-rest
+bounds-out-slot c = inside c.before
 
-masked-byte-requires : tie.Need-masked-byte-requires invariant-loop decreases-loop
-masked-byte-requires c κs = search rules
+masked_byte-requires : tie.Need-masked_byte-requires invariant-loop-rest decreases-loop-rest
+masked_byte-requires c κs = search rules
 
-slice-write-out : tie.Need-slice-write-out invariant-loop decreases-loop
-slice-write-out c = inside c.before.before
+bounds-out-slot-in-loop-rest : tie.Need-bounds-out-slot-in-loop-rest invariant-loop-rest decreases-loop-rest
+bounds-out-slot-in-loop-rest c = inside c.before.before
 
-sub-rest : tie.Need-overflow-sub-rest invariant-loop decreases-loop
-sub-rest c = search rules
+overflow_sub-rest : tie.Need-overflow_sub-rest invariant-loop-rest decreases-loop-rest
+overflow_sub-rest c = search rules
 
-loop-less : tie.Need-loop-smaller invariant-loop decreases-loop
-loop-less c =
-    let w = c.before.before in
-    less-lt w.before.loop.rest w.loop-test.true
+loop-rest-smaller : tie.Need-loop-rest-smaller invariant-loop-rest decreases-loop-rest
+loop-rest-smaller c =
+    less-lt c.loop-rest.rest c.loop-rest-test.true
 
-loop-again : tie.Need-loop-preserved invariant-loop decreases-loop
-loop-again c =
-    let w = c.before.before in
-    let l = w.before.loop in
-    let s = w.before.before.before in
-    let a = s.args in
-    let more = w.loop-test.true in
-    let step = raised-lowest l.out a.at l.rest more l.invariant.0 (omega (arith, s.requires, l.invariant.1)) in (
+loop-rest-preserved : tie.Need-loop-rest-preserved invariant-loop-rest decreases-loop-rest
+loop-rest-preserved c =
+    let l = c.loop-rest in
+    let a = c.args in
+    let more = c.loop-rest-test.true in
+    let step = raised-lowest l.out a.at l.rest more l.invariant.0 (omega (arith, c.requires, l.invariant.1)) in (
       omega (arith, l.invariant.0, less-lt l.rest more),
       simp length-set l.invariant.1,
-      bytes-set l.out _ _ (inside w) l.invariant.2 (omega (arith, c.masked-byte.ensures)),
-      l.invariant.3 ∙ step ∙ rw c.masked-byte.ensures,
+      bytes-set l.out _ _ (inside c.before.before) l.invariant.2 (omega (arith, c.masked_byte.ensures)),
+      l.invariant.3 ∙ step ∙ rw c.masked_byte.ensures,
     )
 
-same_length : tie.Need-same-length invariant-loop decreases-loop
-same_length c = search rules
+shape_of-out : tie.Need-shape_of-out invariant-loop-rest decreases-loop-rest
+shape_of-out c = search rules
 
-returns : tie.Need-returns invariant-loop decreases-loop
+returns : tie.Need-returns invariant-loop-rest decreases-loop-rest
 returns c =
-    let a = c.before.before.before.args in
-    let l = c.before.loop in
-    let none : l.rest ≡ 0 = omega (arith, c.loop-test.false) in
+    let a = c.args in
+    let l = c.loop-rest in
+    let none : l.rest ≡ 0 = omega (arith, c.loop-rest-test.false) in
     let raised : ℕ → List ℕ = λ x. sets l.out a.at (table (masked_word Increment l.out a.at x) 0 64) in
     sym (l.invariant.3 ∙ ap raised none ∙ raised-none l.out a.at l.invariant.2)
 
-pub raise-set-spec : {M : Type 1} → statement M
-raise-set-spec =
+pub raise_set_spec : {M : Type 1} → statement M
+raise_set_spec =
     tie.close
     (tie.spec
-    invariant-loop
-    decreases-loop
-    loop-holds
-    cast-slot
-    add-slot
-    slice-read-masked-byte
-    masked-byte-requires
-    slice-write-out
-    sub-rest
-    loop-less
-    loop-again
-    same_length
+    invariant-loop-rest
+    decreases-loop-rest
+    loop-rest-init
+    overflow_cast-slot
+    overflow_add-slot
+    bounds-out-slot
+    masked_byte-requires
+    bounds-out-slot-in-loop-rest
+    overflow_sub-rest
+    loop-rest-smaller
+    loop-rest-preserved
+    shape_of-out
     returns)

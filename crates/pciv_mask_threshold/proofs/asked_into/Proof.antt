@@ -13,68 +13,59 @@ use Rattle.pciv_mask_threshold.proofs.asked_into.Statement.{statement}
 use Rattle.pciv_mask_threshold.proofs.asked_into.Tie as tie
 
 -- the bytes do not tell
-not-told : (c : tie.Else1) → bytes_tell c.before.before.before.before.args.asked ≡ false
-not-told c = sym c.before.bytes-tell.ensures ∙ c.if1.false
+not-told : (c : tie.Else-bytes_tell) → bytes_tell c.args.asked ≡ false
+not-told c = sym c.bytes_tell.ensures ∙ c.if-bytes_tell.false
 
-bytes-tell-requires : tie.Need-bytes-tell-requires
-bytes-tell-requires c κs = search rules
+bytes_tell-requires : tie.Need-bytes_tell-requires
+bytes_tell-requires c κs = search rules
 
-bytes-into-requires : tie.Need-bytes-into-requires
-bytes-into-requires c κs = search rules
+bytes_into-requires : tie.Need-bytes_into-requires
+bytes_into-requires c κs = search rules
 
-start-into-requires : tie.Need-start-into-requires
-start-into-requires c κs = search rules
+start_into-requires : tie.Need-start_into-requires
+start_into-requires c κs = search rules
 
-limit-asked-requires : tie.Need-limit-asked-requires
-limit-asked-requires c κs = search rules
+limit_asked-requires : tie.Need-limit_asked-requires
+limit_asked-requires c κs = search rules
 
-flip-entries-requires : tie.Need-flip-entries-requires
-flip-entries-requires c κs =
-    let l = c.before in
-    let w = l.before.before.before in
-    let e = w.before.before in
-    let s = e.before.before.before.before in (
-      s.requires.0,
-      (
-        omega (arith, l.limit-asked.ensures, asked-high s.args.asked (not-told e)),
-        omega (arith, s.requires.1, w.start-into.auto),
-      ),
-    )
+flip_entries-requires : tie.Need-flip_entries-requires
+flip_entries-requires c κs = (
+  c.requires.0,
+  (
+    omega (arith, c.limit_asked.ensures, asked-high c.args.asked (not-told c.before.before.before.before.before.before)),
+    omega (arith, c.requires.1, c.start_into.auto),
+  ),
+)
 
-same_length : tie.Need-same-length
-same_length c = search rules
+shape_of-out-then-bytes_tell : tie.Need-shape_of-out-then-bytes_tell
+shape_of-out-then-bytes_tell c = search rules
 
-returns : tie.Need-returns
-returns c = search rules
+returns-then-bytes_tell : tie.Need-returns-then-bytes_tell
+returns-then-bytes_tell c = search rules
 
-same-length-2 : tie.Need-same-length-2
-same-length-2 c = search rules
+shape_of-out-else-bytes_tell : tie.Need-shape_of-out-else-bytes_tell
+shape_of-out-else-bytes_tell c = search rules
 
-returns-2 : tie.Need-returns-2
-returns-2 c =
-    let f = c.before.before in
-    let l = f.before.before in
-    let w = l.before.before.before in
-    let e = w.before.before in
-    let s = e.before.before.before.before in
-    let a = s.args in
+returns-else-bytes_tell : tie.Need-returns-else-bytes_tell
+returns-else-bytes_tell c =
+    let a = c.args in
     let P = file_parts a.file.now a.n a.k in
-    let file : (i : ℕ) → P.byte i < 256 = λ i. (e.before.before.before.shared-slice-known.given (40 + i)).fits in
-    f.flip-entries.ensures a.out.now (start_in P a.asked) w.start-into.ensures
+    let file : (i : ℕ) → P.byte i < 256 = λ i. (c.shared_slice_known-1.given (40 + i)).fits in
+    c.flip_entries.ensures a.out.now (start_in P a.asked) c.start_into.ensures
     ∙ ap (λ (limit : ℕ). sets a.out.now 0 (mask_of a.n (flipped_from P limit (start_in P a.asked))))
-    l.limit-asked.ensures
-    ∙ ap (sets a.out.now 0) (flipped-asked P s.requires.0.parts file a.asked (not-told e))
+    c.limit_asked.ensures
+    ∙ ap (sets a.out.now 0) (flipped-asked P c.requires.0.parts file a.asked (not-told c.before.before.before.before.before.before.before.before.before))
 
-pub asked-into-spec : {M : Type 1} → statement M
-asked-into-spec =
+pub asked_into_spec : {M : Type 1} → statement M
+asked_into_spec =
     tie.close
     (tie.spec
-    bytes-tell-requires
-    bytes-into-requires
-    start-into-requires
-    limit-asked-requires
-    flip-entries-requires
-    same_length
-    returns
-    same-length-2
-    returns-2)
+    bytes_tell-requires
+    bytes_into-requires
+    start_into-requires
+    limit_asked-requires
+    flip_entries-requires
+    shape_of-out-then-bytes_tell
+    returns-then-bytes_tell
+    shape_of-out-else-bytes_tell
+    returns-else-bytes_tell)

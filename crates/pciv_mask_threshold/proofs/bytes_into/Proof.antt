@@ -13,104 +13,96 @@ use Rattle.pciv_mask_threshold.proofs.bytes_into.Statement.{statement}
 use Rattle.pciv_mask_threshold.proofs.bytes_into.Tie as tie
 
 -- the file is bytes
-bytes : (c : tie.After-shared-slice-known) → Bytes c.before.args.file.now
-bytes c i = (c.shared-slice-known.given i).fits
+bytes : (c : tie.After-shared_slice_known-1) → Bytes c.args.file.now
+bytes c i = (c.shared_slice_known-1.given i).fits
 
 -- the limit is below 255, and so is t
-low : (c : tie.After-asked) → c.asked.given.0.0 < 255
-low c = ltb-true _ 255 (rw c.asked.given.1 at c.before.before.before.before.requires.1.1)
+low : (c : tie.In-Limit) → c.in-Limit.limit < 255
+low c = ltb-true _ 255 (rw c.in-Limit.is at c.requires.1.1)
 
-low-2 : (c : tie.After-asked2) → c.asked2.given.0.0 < 255
-low-2 c = ltb-true _ 255 (rw c.asked2.given.1 at c.before.before.before.before.requires.1.1)
+low-2 : (c : tie.In-Near) → c.in-Near.t < 255
+low-2 c = ltb-true _ 255 (rw c.in-Near.is at c.requires.1.1)
 
-add-end : tie.Need-overflow-add-end
-add-end c = search rules
+overflow_add-end : tie.Need-overflow_add-end
+overflow_add-end c = search rules
 
-enum-known-asked : tie.Need-enum-known-asked
-enum-known-asked c = search rules
+enum_known-asked : tie.Need-enum_known-asked
+enum_known-asked c = search rules
 
-sub-flags-into : tie.Need-overflow-sub-flags-into
-sub-flags-into c = search rules
+slice_bounds-flags_into-count : tie.Need-slice_bounds-flags_into-count
+slice_bounds-flags_into-count c = search rules
 
-part-flags-into-start : tie.Need-slice-bounds-flags-into-start
-part-flags-into-start c = search rules
+slice_bounds-flags_into-start : tie.Need-slice_bounds-flags_into-start
+slice_bounds-flags_into-start c = search rules
 
-part-flags-into-end : tie.Need-slice-bounds-flags-into-end
-part-flags-into-end c =
-    let s = c.before.before.before.before.before in
-    primary-inside s.args.file.now s.args.n s.args.k s.requires.0
+slice_bounds-flags_into-end : tie.Need-slice_bounds-flags_into-end
+slice_bounds-flags_into-end c =
+    primary-inside c.args.file.now c.args.n c.args.k c.requires.0
 
-cast-flags-into : tie.Need-overflow-cast-flags-into
-cast-flags-into c = omega (arith, low c.before.before)
+overflow_cast-limit : tie.Need-overflow_cast-limit
+overflow_cast-limit c = omega (arith, low c.before)
 
-flags-into-requires : tie.Need-flags-into-requires
-flags-into-requires c κs = search rules
+flags_into-requires : tie.Need-flags_into-requires
+flags_into-requires c κs = search rules
 
-enum-known-asked-2 : tie.Need-enum-known-asked-2
-enum-known-asked-2 c = search rules
+enum_known-asked-in-Near-1 : tie.Need-enum_known-asked-in-Near-1
+enum_known-asked-in-Near-1 c = search rules
 
-sub-near-into : tie.Need-overflow-sub-near-into
-sub-near-into c = search rules
+slice_bounds-near_into-count : tie.Need-slice_bounds-near_into-count
+slice_bounds-near_into-count c = search rules
 
-part-near-into-start : tie.Need-slice-bounds-near-into-start
-part-near-into-start c = search rules
+slice_bounds-near_into-start : tie.Need-slice_bounds-near_into-start
+slice_bounds-near_into-start c = search rules
 
-part-near-into-end : tie.Need-slice-bounds-near-into-end
-part-near-into-end c =
-    let s = c.before.before.before.before.before in
-    primary-inside s.args.file.now s.args.n s.args.k s.requires.0
+slice_bounds-near_into-end : tie.Need-slice_bounds-near_into-end
+slice_bounds-near_into-end c =
+    primary-inside c.args.file.now c.args.n c.args.k c.requires.0
 
-cast-near-into : tie.Need-overflow-cast-near-into
-cast-near-into c = omega (arith, low-2 c.before.before)
+overflow_cast-t : tie.Need-overflow_cast-t
+overflow_cast-t c = omega (arith, low-2 c.before)
 
-near-into-requires : tie.Need-near-into-requires
-near-into-requires c κs = search rules
+near_into-requires : tie.Need-near_into-requires
+near_into-requires c κs = search rules
 
-same_length : tie.Need-same-length
-same_length c = search rules
+shape_of-out-in-Limit : tie.Need-shape_of-out-in-Limit
+shape_of-out-in-Limit c = search rules
 
-returns : tie.Need-returns
-returns c =
-    let f = c.before.before in
-    let d = f.before.before.before.before in
-    let s = d.before.before.before.before in
-    let a = s.args in
-    rw d.asked.given.1
-    ((rw (add-sub_cancel_left 40 a.n) at f.flags-into.ensures)
+returns-in-Limit : tie.Need-returns-in-Limit
+returns-in-Limit c =
+    let a = c.args in
+    rw c.in-Limit.is
+    ((rw (add-sub_cancel_left 40 a.n) at c.flags_into.ensures)
     ∙ ap (sets a.out.now 0)
-    (bytes-limit a.file.now a.n a.k s.requires.0 (bytes d.before.before.before) d.asked.given.0.0 d.asked.given.0.1.0 (omega (arith, low d))))
+    (bytes-limit a.file.now a.n a.k c.requires.0 (bytes c.before.before.before.before.before.before.before) c.in-Limit.limit c.in-Limit.negated (omega (arith, low c.before.before.before.before.before))))
 
-same-length-2 : tie.Need-same-length-2
-same-length-2 c = search rules
+shape_of-out-in-Near : tie.Need-shape_of-out-in-Near
+shape_of-out-in-Near c = search rules
 
-returns-2 : tie.Need-returns-2
-returns-2 c =
-    let f = c.before.before in
-    let d = f.before.before.before.before in
-    let s = d.before.before.before.before in
-    let a = s.args in
-    rw d.asked2.given.1
-    ((rw (add-sub_cancel_left 40 a.n) at f.near-into.ensures)
-    ∙ ap (sets a.out.now 0) (bytes-near a.file.now a.n a.k s.requires.0 (bytes d.before.before.before) _ (low-2 d)))
+returns-in-Near : tie.Need-returns-in-Near
+returns-in-Near c =
+    let a = c.args in
+    rw c.in-Near.is
+    ((rw (add-sub_cancel_left 40 a.n) at c.near_into.ensures)
+    ∙ ap (sets a.out.now 0) (bytes-near a.file.now a.n a.k c.requires.0 (bytes c.before.before.before.before.before.before.before) _ (low-2 c.before.before.before.before.before)))
 
-pub bytes-into-spec : {M : Type 1} → statement M
-bytes-into-spec =
+pub bytes_into_spec : {M : Type 1} → statement M
+bytes_into_spec =
     tie.close
     (tie.spec
-    add-end
-    enum-known-asked
-    sub-flags-into
-    part-flags-into-start
-    part-flags-into-end
-    cast-flags-into
-    flags-into-requires
-    enum-known-asked-2
-    sub-near-into
-    part-near-into-start
-    part-near-into-end
-    cast-near-into
-    near-into-requires
-    same_length
-    returns
-    same-length-2
-    returns-2)
+    overflow_add-end
+    enum_known-asked
+    slice_bounds-flags_into-count
+    slice_bounds-flags_into-start
+    slice_bounds-flags_into-end
+    overflow_cast-limit
+    flags_into-requires
+    enum_known-asked-in-Near-1
+    slice_bounds-near_into-count
+    slice_bounds-near_into-start
+    slice_bounds-near_into-end
+    overflow_cast-t
+    near_into-requires
+    shape_of-out-in-Limit
+    returns-in-Limit
+    shape_of-out-in-Near
+    returns-in-Near)

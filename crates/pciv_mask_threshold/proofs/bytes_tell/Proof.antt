@@ -3,21 +3,27 @@ use borrow.Author.Rules.{rules}
 use Rattle.pciv_mask_threshold.proofs.bytes_tell.Statement.{statement}
 use Rattle.pciv_mask_threshold.proofs.bytes_tell.Tie as tie
 
-enum-known-asked : tie.Need-enum-known-asked
-enum-known-asked c = search rules
+enum_known-asked : tie.Need-enum_known-asked
+enum_known-asked c = search rules
 
-enum-known-asked-2 : tie.Need-enum-known-asked-2
-enum-known-asked-2 c = search rules
+enum_known-asked-in-Near-1 : tie.Need-enum_known-asked-in-Near-1
+enum_known-asked-in-Near-1 c = search rules
 
-cast-result : tie.Need-overflow-cast-result
-cast-result c = search rules
+overflow_cast-result : tie.Need-overflow_cast-result
+overflow_cast-result c = search rules
 
-returns : tie.Need-returns
-returns c = rw c.before.asked.given.1
+returns-in-Limit : tie.Need-returns-in-Limit
+returns-in-Limit c = rw c.in-Limit.is
 
-returns-2 : tie.Need-returns-2
-returns-2 c = rw c.before.asked2.given.1
+returns-in-Near : tie.Need-returns-in-Near
+returns-in-Near c = rw c.in-Near.is
 
-pub bytes-tell-spec : {M : Type 1} → statement M
-bytes-tell-spec =
-    tie.close (tie.spec enum-known-asked enum-known-asked-2 cast-result returns returns-2)
+pub bytes_tell_spec : {M : Type 1} → statement M
+bytes_tell_spec =
+    tie.close
+    (tie.spec
+    enum_known-asked
+    enum_known-asked-in-Near-1
+    overflow_cast-result
+    returns-in-Limit
+    returns-in-Near)

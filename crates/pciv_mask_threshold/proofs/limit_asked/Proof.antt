@@ -3,25 +3,31 @@ use borrow.Author.Rules.{rules}
 use Rattle.pciv_mask_threshold.proofs.limit_asked.Statement.{statement}
 use Rattle.pciv_mask_threshold.proofs.limit_asked.Tie as tie
 
-enum-known-asked : tie.Need-enum-known-asked
-enum-known-asked c = search rules
+enum_known-asked : tie.Need-enum_known-asked
+enum_known-asked c = search rules
 
-enum-known-asked-2 : tie.Need-enum-known-asked-2
-enum-known-asked-2 c = search rules
+enum_known-asked-in-Near-1 : tie.Need-enum_known-asked-in-Near-1
+enum_known-asked-in-Near-1 c = search rules
 
-cast-result : tie.Need-overflow-cast-result
-cast-result c = search rules
+overflow_cast-result : tie.Need-overflow_cast-result
+overflow_cast-result c = search rules
 
-add-result : tie.Need-overflow-add-result
-add-result c = search rules
+overflow_add-result : tie.Need-overflow_add-result
+overflow_add-result c = search rules
 
-returns : tie.Need-returns
-returns c = search rules
+returns-in-Limit : tie.Need-returns-in-Limit
+returns-in-Limit c = search rules
 
-returns-2 : tie.Need-returns-2
-returns-2 c = rw c.before.asked2.given.1
+returns-in-Near : tie.Need-returns-in-Near
+returns-in-Near c = rw c.in-Near.is
 
-pub limit-asked-spec : {M : Type 1} → statement M
-limit-asked-spec =
+pub limit_asked_spec : {M : Type 1} → statement M
+limit_asked_spec =
     tie.close
-    (tie.spec enum-known-asked enum-known-asked-2 cast-result add-result returns returns-2)
+    (tie.spec
+    enum_known-asked
+    enum_known-asked-in-Near-1
+    overflow_cast-result
+    overflow_add-result
+    returns-in-Limit
+    returns-in-Near)

@@ -3,47 +3,47 @@ use borrow.Author.Rules.{rules}
 use Rattle.pciv_mask_threshold.proofs.limit_of.Statement.{statement}
 use Rattle.pciv_mask_threshold.proofs.limit_of.Tie as tie
 
-enum_told : tie.Need-enum-told
-enum_told c = search rules
+enum_told-1 : tie.Need-enum_told-1
+enum_told-1 c = search rules
 
-enum-told-2 : tie.Need-enum-told-2
-enum-told-2 c = search rules
+enum_told-in-AtMost : tie.Need-enum_told-in-AtMost
+enum_told-in-AtMost c = search rules
 
-add-result : tie.Need-overflow-add-result
-add-result c = search rules
+overflow_add-result : tie.Need-overflow_add-result
+overflow_add-result c = search rules
 
-enum-told-3 : tie.Need-enum-told-3
-enum-told-3 c = search rules
+enum_told-in-Above : tie.Need-enum_told-in-Above
+enum_told-in-Above c = search rules
 
-add-result-2 : tie.Need-overflow-add-result-2
-add-result-2 c = search rules
+overflow_add-result-in-Above : tie.Need-overflow_add-result-in-Above
+overflow_add-result-in-Above c = search rules
 
-enum-told-4 : tie.Need-enum-told-4
-enum-told-4 c = search rules
+enum_told-in-AtLeast : tie.Need-enum_told-in-AtLeast
+enum_told-in-AtLeast c = search rules
 
-returns : tie.Need-returns
-returns c = search rules
+returns-in-Below : tie.Need-returns-in-Below
+returns-in-Below c = search rules
 
-returns-2 : tie.Need-returns-2
-returns-2 c = rw c.enum-told2.given.1
+returns-in-AtMost : tie.Need-returns-in-AtMost
+returns-in-AtMost c = rw c.in-AtMost.is
 
-returns-3 : tie.Need-returns-3
-returns-3 c = rw c.enum-told3.given.1
+returns-in-Above : tie.Need-returns-in-Above
+returns-in-Above c = rw c.in-Above.is
 
-returns-4 : tie.Need-returns-4
-returns-4 c = search rules
+returns-in-AtLeast : tie.Need-returns-in-AtLeast
+returns-in-AtLeast c = search rules
 
-pub limit-of-spec : {M : Type 1} → statement M
-limit-of-spec =
+pub limit_of_spec : {M : Type 1} → statement M
+limit_of_spec =
     tie.close
     (tie.spec
-    enum_told
-    enum-told-2
-    add-result
-    enum-told-3
-    add-result-2
-    enum-told-4
-    returns
-    returns-2
-    returns-3
-    returns-4)
+    enum_told-1
+    enum_told-in-AtMost
+    overflow_add-result
+    enum_told-in-Above
+    overflow_add-result-in-Above
+    enum_told-in-AtLeast
+    returns-in-Below
+    returns-in-AtMost
+    returns-in-Above
+    returns-in-AtLeast)

@@ -16,82 +16,74 @@ use Rattle.pciv_mask_threshold.proofs.select.Statement.{statement}
 use Rattle.pciv_mask_threshold.proofs.select.Tie as tie
 
 -- what the check has shown: why the file is refused, or its counts
-is-refused : (c : tie.After-checked)
-    → counts_file 1 c.before.before.before.before.before.args.file.now ≡ refused c.checked.given.0.0
-is-refused c = counts_answer-refused _ _ (sym c.checked.given.1 ∙ c.before.before.check-counts.ensures)
+is-refused : (c : tie.In-Refused)
+    → counts_file 1 c.args.file.now ≡ refused c.in-Refused.r
+is-refused c = counts_answer-refused _ _ (sym c.in-Refused.is ∙ c.check_counts-checked.ensures)
 
-is-map : (c : tie.After-checked2)
-    → counts_file 1 c.before.before.before.before.before.args.file.now ≡ done c.checked2.given.0.0
-is-map c = counts_answer-counted _ _ (sym c.checked2.given.1 ∙ c.before.before.check-counts.ensures)
+is-map : (c : tie.In-Counted)
+    → counts_file 1 c.args.file.now ≡ done c.in-Counted.s
+is-map c = counts_answer-counted _ _ (sym c.in-Counted.is ∙ c.check_counts-checked.ensures)
 
-check-counts-requires : tie.Need-check-counts-requires
-check-counts-requires c κs = search rules
+check_counts-checked-requires : tie.Need-check_counts-checked-requires
+check_counts-checked-requires c κs = search rules
 
-enum-known-checked : tie.Need-enum-known-checked
-enum-known-checked c = search rules
+enum_known-checked : tie.Need-enum_known-checked
+enum_known-checked c = search rules
 
-enum-known-checked-2 : tie.Need-enum-known-checked-2
-enum-known-checked-2 c = search rules
+enum_known-checked-in-Counted-1 : tie.Need-enum_known-checked-in-Counted-1
+enum_known-checked-in-Counted-1 c = search rules
 
-mask-len-requires : tie.Need-mask-len-requires
-mask-len-requires c κs = (checked _ _ (is-map c.before)).header.small
+mask_len-count-requires : tie.Need-mask_len-count-requires
+mask_len-count-requires c κs = (checked _ _ (is-map c)).header.small
 
-refuse-number-requires : tie.Need-refuse-number-requires
-refuse-number-requires c κs = search rules
+refuse_number-requires : tie.Need-refuse_number-requires
+refuse_number-requires c κs = search rules
 
-returns : tie.Need-returns
-returns c =
-    let m = c.before.before in
-    let k = m.before.before in
-    let a = k.before.before.before.before.before.args in
-    let few : length a.out.now < mask_len k.checked2.given.0.0.n =
-    omega (arith, c.before.if1.true, m.mask-len.ensures) in
-    let e = select_short a.file.now _ (is-map k) (length a.out.now) few in (
-      c.refuse-number.ensures ∙ ap number_answer (sym e),
+returns-then-out-count : tie.Need-returns-then-out-count
+returns-then-out-count c =
+    let a = c.args in
+    let few : length a.out.now < mask_len c.in-Counted.s.n =
+    omega (arith, c.if-out-count.true, c.mask_len-count.ensures) in
+    let e = select_short a.file.now _ (is-map c.before.before.before) (length a.out.now) few in (
+      c.refuse_number.ensures ∙ ap number_answer (sym e),
       sym (words-refused (asked_of a.asked) a.file.now a.out.now _ e),
     )
 
-asked-into-requires : tie.Need-asked-into-requires
-asked-into-requires c κs =
-    let m = c.before.before in
-    let k = m.before.before in
-    (checked _ _ (is-map k), omega (arith, c.before.if1.false, m.mask-len.ensures))
+asked_into-requires : tie.Need-asked_into-requires
+asked_into-requires c κs =
+    (checked _ _ (is-map c.before.before.before), omega (arith, c.if-out-count.false, c.mask_len-count.ensures))
 
-returns-2 : tie.Need-returns-2
-returns-2 c =
-    let k = c.before in
-    let a = k.before.before.before.before.before.args in
-    let e = select-refused a.file.now _ (is-refused k) (length a.out.now) in
+returns-in-Refused : tie.Need-returns-in-Refused
+returns-in-Refused c =
+    let a = c.args in
+    let e = select-refused a.file.now _ (is-refused c) (length a.out.now) in
     (ap number_answer (sym e), sym (words-refused (asked_of a.asked) a.file.now a.out.now _ e))
 
-same_length : tie.Need-same-length
-same_length c = search rules
+shape_of-out : tie.Need-shape_of-out
+shape_of-out c = search rules
 
-returns-3 : tie.Need-returns-3
-returns-3 c =
-    let x = c.before.before in
-    let m = x.before.before.before in
-    let k = m.before.before in
-    let a = k.before.before.before.before.before.args in
-    let fits : mask_len k.checked2.given.0.0.n ≤ length a.out.now =
-    omega (arith, x.before.before.if1.false, m.mask-len.ensures) in
-    let e = select-done a.file.now _ (is-map k) (length a.out.now) fits in (
-      ap number_answer (ap done m.mask-len.ensures ∙ sym e),
-      x.asked-into.ensures
-          ∙ words-done a.file.now _ (is-map k) (asked_of a.asked) a.out.now fits,
+returns-else-out-count : tie.Need-returns-else-out-count
+returns-else-out-count c =
+    let a = c.args in
+    let fits : mask_len c.in-Counted.s.n ≤ length a.out.now =
+    omega (arith, c.if-out-count.false, c.mask_len-count.ensures) in
+    let e = select-done a.file.now _ (is-map c.before.before.before.before.before.before) (length a.out.now) fits in (
+      ap number_answer (ap done c.mask_len-count.ensures ∙ sym e),
+      c.asked_into.ensures
+          ∙ words-done a.file.now _ (is-map c.before.before.before.before.before.before) (asked_of a.asked) a.out.now fits,
     )
 
-pub select-spec : {M : Type 1} → statement M
-select-spec =
+pub select_spec : {M : Type 1} → statement M
+select_spec =
     tie.close
     (tie.spec
-    check-counts-requires
-    enum-known-checked
-    enum-known-checked-2
-    mask-len-requires
-    refuse-number-requires
-    returns
-    asked-into-requires
-    returns-2
-    same_length
-    returns-3)
+    check_counts-checked-requires
+    enum_known-checked
+    enum_known-checked-in-Counted-1
+    mask_len-count-requires
+    refuse_number-requires
+    returns-then-out-count
+    asked_into-requires
+    returns-in-Refused
+    shape_of-out
+    returns-else-out-count)

@@ -7,19 +7,19 @@ use borrow.Author.Tests.{lt-ltb, le-ltb}
 use Rattle.pciv_read.proofs.either_short.Statement.{statement}
 use Rattle.pciv_read.proofs.either_short.Tie as tie
 
-returns : tie.Need-returns
-returns c =
-    let a = c.before.args in
+returns-then-first-count : tie.Need-returns-then-first-count
+returns-then-first-count c =
+    let a = c.args in
     sym (lt-ltb (min a.first a.second) a.count (omega arith))
 
-returns-2 : tie.Need-returns-2
-returns-2 c =
-    let a = c.before.args in
+returns : tie.Need-returns
+returns c =
+    let a = c.args in
     let least : ℕ = min a.first a.second in
     elim (dec_le a.count a.second) [
       | yes d ↦ le-ltb a.second a.count d ∙ sym (le-ltb least a.count (omega arith))
       | no d ↦ lt-ltb a.second a.count (omega arith) ∙ sym (lt-ltb least a.count (omega arith))
     ]
 
-pub either-short-spec : {M : Type 1} → statement M
-either-short-spec = tie.close (tie.spec returns returns-2)
+pub either_short_spec : {M : Type 1} → statement M
+either_short_spec = tie.close (tie.spec returns-then-first-count returns)

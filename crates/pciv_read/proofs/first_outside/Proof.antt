@@ -12,60 +12,57 @@ use borrow.Author.Rules.{rules}
 use Rattle.pciv_read.proofs.first_outside.Statement.{statement}
 use Rattle.pciv_read.proofs.first_outside.Tie as tie
 
-abbrev invariant-loop : tie.invariant-loop
-invariant-loop slots n i₀ i = (i ≤ length slots) × ((j : ℕ) → j < i → leb n (get_or slots j 0) ≡ false)
+abbrev invariant-loop-i : tie.invariant-loop-i
+invariant-loop-i slots n i₀ i = (i ≤ length slots) × ((j : ℕ) → j < i → leb n (get_or slots j 0) ≡ false)
 
-abbrev decreases-loop : tie.decreases-loop
-decreases-loop slots n i₀ i = length slots - i
+abbrev decreases-loop-i : tie.decreases-loop-i
+decreases-loop-i slots n i₀ i = length slots - i
 
-loop-holds : tie.Need-loop-init invariant-loop decreases-loop
-loop-holds c = (omega arith, λ j h. absurd (omega arith))
+loop-i-init : tie.Need-loop-i-init invariant-loop-i decreases-loop-i
+loop-i-init c = (omega arith, λ j h. absurd (omega arith))
 
-mul-if1 : tie.Need-overflow-mul-if1 invariant-loop decreases-loop
-mul-if1 c = search rules
+offset_bounds-slots-i : tie.Need-offset_bounds-slots-i invariant-loop-i decreases-loop-i
+offset_bounds-slots-i c = search rules
 
-shared-slice-read-if1 : tie.Need-shared-slice-read-if1 invariant-loop decreases-loop
-shared-slice-read-if1 c = search rules
+bounds-slots-i : tie.Need-bounds-slots-i invariant-loop-i decreases-loop-i
+bounds-slots-i c = search rules
 
-returns : tie.Need-returns invariant-loop decreases-loop
-returns c =
-    let d = c.before.before.before in
-    let a = d.before.args in
+returns-then-n-slots : tie.Need-returns-then-n-slots invariant-loop-i decreases-loop-i
+returns-then-n-slots c =
+    let a = c.args in
     let xs = a.slots.now in
     sym
-    (first_below-at (λ (i : ℕ). leb a.n (get_or xs i 0)) (length xs) d.loop.i (omega arith) d.loop.invariant.1
-    (le-leb a.n (get_or xs d.loop.i 0) c.if1.true))
+    (first_below-at (λ (i : ℕ). leb a.n (get_or xs i 0)) (length xs) c.loop-i.i (omega arith) c.loop-i.invariant.1
+    (le-leb a.n (get_or xs c.loop-i.i 0) c.if-n-slots.true))
 
-add-i : tie.Need-overflow-add-i invariant-loop decreases-loop
-add-i c = search rules
+overflow_add-i : tie.Need-overflow_add-i invariant-loop-i decreases-loop-i
+overflow_add-i c = search rules
 
-loop-less : tie.Need-loop-smaller invariant-loop decreases-loop
-loop-less c = search rules
+loop-i-smaller : tie.Need-loop-i-smaller invariant-loop-i decreases-loop-i
+loop-i-smaller c = search rules
 
-loop-again : tie.Need-loop-preserved invariant-loop decreases-loop
-loop-again c =
-    let d = c.before.before.before in
-    (omega arith, below_more _ _ d.loop.invariant.1 (lt-leb _ _ c.if1.false))
+loop-i-preserved : tie.Need-loop-i-preserved invariant-loop-i decreases-loop-i
+loop-i-preserved c =
+    (omega arith, below_more _ _ c.loop-i.invariant.1 (lt-leb _ _ c.if-n-slots.false))
 
-returns-2 : tie.Need-returns-2 invariant-loop decreases-loop
-returns-2 c =
-    let d = c.before in
-    let a = d.before.args in
+returns : tie.Need-returns invariant-loop-i decreases-loop-i
+returns c =
+    let a = c.args in
     let xs = a.slots.now in
     let outside : ℕ → Bool = λ i. leb a.n (get_or xs i 0) in
-    omega (arith, first_below-none outside (length xs) (λ i h. d.loop.invariant.1 i (omega arith)))
+    omega (arith, first_below-none outside (length xs) (λ i h. c.loop-i.invariant.1 i (omega arith)))
 
-pub first-outside-spec : {M : Type 1} → statement M
-first-outside-spec =
+pub first_outside_spec : {M : Type 1} → statement M
+first_outside_spec =
     tie.close
     (tie.spec
-    invariant-loop
-    decreases-loop
-    loop-holds
-    mul-if1
-    shared-slice-read-if1
-    returns
-    add-i
-    loop-less
-    loop-again
-    returns-2)
+    invariant-loop-i
+    decreases-loop-i
+    loop-i-init
+    offset_bounds-slots-i
+    bounds-slots-i
+    returns-then-n-slots
+    overflow_add-i
+    loop-i-smaller
+    loop-i-preserved
+    returns)

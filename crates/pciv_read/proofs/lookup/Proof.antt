@@ -10,54 +10,51 @@ use Rattle.pciv_read.proofs.lookup.Statement.{statement}
 use Rattle.pciv_read.proofs.lookup.Tie as tie
 
 -- what the check has shown: why the file is refused, or its counts
-is-refused : (c : tie.After-checked)
-    → counts_file 1 c.before.before.before.before.args.file.now ≡ refused c.checked.given.0.0
-is-refused c = counts_answer-refused _ _ (sym c.checked.given.1 ∙ c.before.before.check-counts.ensures)
+is-refused : (c : tie.In-Refused)
+    → counts_file 1 c.args.file.now ≡ refused c.in-Refused.r
+is-refused c = counts_answer-refused _ _ (sym c.in-Refused.is ∙ c.check_counts-checked.ensures)
 
-is-map : (c : tie.After-checked2)
-    → counts_file 1 c.before.before.before.before.args.file.now ≡ done c.checked2.given.0.0
-is-map c = counts_answer-counted _ _ (sym c.checked2.given.1 ∙ c.before.before.check-counts.ensures)
+is-map : (c : tie.In-Counted)
+    → counts_file 1 c.args.file.now ≡ done c.in-Counted.s
+is-map c = counts_answer-counted _ _ (sym c.in-Counted.is ∙ c.check_counts-checked.ensures)
 
-check-counts-requires : tie.Need-check-counts-requires
-check-counts-requires c κs = search rules
+check_counts-checked-requires : tie.Need-check_counts-checked-requires
+check_counts-checked-requires c κs = search rules
 
-enum-known-checked : tie.Need-enum-known-checked
-enum-known-checked c = search rules
+enum_known-checked : tie.Need-enum_known-checked
+enum_known-checked c = search rules
 
-enum-known-checked-2 : tie.Need-enum-known-checked-2
-enum-known-checked-2 c = search rules
+enum_known-checked-in-Counted-1 : tie.Need-enum_known-checked-in-Counted-1
+enum_known-checked-in-Counted-1 c = search rules
 
-returns : tie.Need-returns
-returns c =
-    let k = c.before.before in
-    let a = k.before.before.before.before.args in
-    ap lookup_answer (sym (lookup-outside a.file.now _ (is-map k) a.slot c.if1.true))
+returns-then-n-slot : tie.Need-returns-then-n-slot
+returns-then-n-slot c =
+    let a = c.args in
+    ap lookup_answer (sym (lookup-outside a.file.now _ (is-map c.before) a.slot c.if-n-slot.true))
 
 locate-requires : tie.Need-locate-requires
 locate-requires c κs =
-    let k = c.before.before in
-    (checked _ _ (is-map k), c.if1.false)
+    (checked _ _ (is-map c.before), c.if-n-slot.false)
 
-returns-2 : tie.Need-returns-2
-returns-2 c =
-    let a = c.before.before.before.before.before.args in
-    ap lookup_answer (sym (lookup-refused a.file.now _ (is-refused c.before) a.slot))
+returns-in-Refused : tie.Need-returns-in-Refused
+returns-in-Refused c =
+    let a = c.args in
+    ap lookup_answer (sym (lookup-refused a.file.now _ (is-refused c) a.slot))
 
-returns-3 : tie.Need-returns-3
-returns-3 c =
-    let k = c.before.before.before in
-    let a = k.before.before.before.before.args in
+returns-else-n-slot : tie.Need-returns-else-n-slot
+returns-else-n-slot c =
+    let a = c.args in
     ap (λ (x : Located). lookup_answer (done x)) c.locate.ensures
-    ∙ ap lookup_answer (sym (lookup-inside a.file.now _ (is-map k) a.slot c.before.if1.false))
+    ∙ ap lookup_answer (sym (lookup-inside a.file.now _ (is-map c.before.before) a.slot c.if-n-slot.false))
 
-pub lookup-spec : {M : Type 1} → statement M
-lookup-spec =
+pub lookup_spec : {M : Type 1} → statement M
+lookup_spec =
     tie.close
     (tie.spec
-    check-counts-requires
-    enum-known-checked
-    enum-known-checked-2
-    returns
+    check_counts-checked-requires
+    enum_known-checked
+    enum_known-checked-in-Counted-1
+    returns-then-n-slot
     locate-requires
-    returns-2
-    returns-3)
+    returns-in-Refused
+    returns-else-n-slot)

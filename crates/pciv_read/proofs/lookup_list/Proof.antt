@@ -17,129 +17,115 @@ use Rattle.pciv_read.proofs.lookup_list.Statement.{statement}
 use Rattle.pciv_read.proofs.lookup_list.Tie as tie
 
 -- what the check has shown: why the file is refused, or its counts
-is-refused : (c : tie.After-checked)
-    → (let a = c.before.before.before.before.before.before.before.args in
-    counts_file 1 a.file.now ≡ refused c.checked.given.0.0)
-is-refused c = counts_answer-refused _ _ (sym c.checked.given.1 ∙ c.before.before.check-counts.ensures)
+is-refused : (c : tie.In-Refused)
+    → (let a = c.args in
+    counts_file 1 a.file.now ≡ refused c.in-Refused.r)
+is-refused c = counts_answer-refused _ _ (sym c.in-Refused.is ∙ c.check_counts-checked.ensures)
 
-is-map : (c : tie.After-checked2)
-    → (let a = c.before.before.before.before.before.before.before.args in
-    counts_file 1 a.file.now ≡ done c.checked2.given.0.0)
-is-map c = counts_answer-counted _ _ (sym c.checked2.given.1 ∙ c.before.before.check-counts.ensures)
+is-map : (c : tie.In-Counted)
+    → (let a = c.args in
+    counts_file 1 a.file.now ≡ done c.in-Counted.s)
+is-map c = counts_answer-counted _ _ (sym c.in-Counted.is ∙ c.check_counts-checked.ensures)
 
 -- every slot of the list is below n
-all-inside : (c : tie.Else1)
-    → (let k = c.before.before.before.before in
-    let xs = k.before.before.before.before.before.before.before.args.slots.now in
-    let n = k.checked2.given.0.0.n in
+all-inside : (c : tie.Else-outside-slots)
+    → (let xs = c.args.slots.now in
+    let n = c.in-Counted.s.n in
     length xs ≤ first_below (λ (i : ℕ). leb n (get_or xs i 0)) (length xs))
 all-inside c =
-    let k = c.before.before.before.before in
-    let xs = k.before.before.before.before.before.before.before.args.slots.now in
-    let none : length xs ≤ c.before.before.first-outside.result = c.if1.false in
-    omega (arith, none, c.before.before.first-outside.ensures)
+    let xs = c.args.slots.now in
+    let none : length xs ≤ c.first_outside-outside.result = c.if-outside-slots.false in
+    omega (arith, none, c.first_outside-outside.ensures)
 
-check-counts-requires : tie.Need-check-counts-requires
-check-counts-requires c κs = search rules
+check_counts-checked-requires : tie.Need-check_counts-checked-requires
+check_counts-checked-requires c κs = search rules
 
-enum-known-checked : tie.Need-enum-known-checked
-enum-known-checked c = search rules
+enum_known-checked : tie.Need-enum_known-checked
+enum_known-checked c = search rules
 
-enum-known-checked-2 : tie.Need-enum-known-checked-2
-enum-known-checked-2 c = search rules
+enum_known-checked-in-Counted-1 : tie.Need-enum_known-checked-in-Counted-1
+enum_known-checked-in-Counted-1 c = search rules
 
-first-outside-requires : tie.Need-first-outside-requires
-first-outside-requires c κs = search rules
+first_outside-outside-requires : tie.Need-first_outside-outside-requires
+first_outside-outside-requires c κs = search rules
 
-either-short-requires : tie.Need-either-short-requires
-either-short-requires c κs = search rules
+either_short-short-requires : tie.Need-either_short-short-requires
+either_short-short-requires c κs = search rules
 
-refuse-number-requires : tie.Need-refuse-number-requires
-refuse-number-requires c κs = search rules
+refuse_number-requires : tie.Need-refuse_number-requires
+refuse_number-requires c κs = search rules
 
-returns : tie.Need-returns
+returns-then-outside-slots : tie.Need-returns-then-outside-slots
 unfolding lookup_list_buffer lookup_list_entries
-returns c =
-    let g = c.before.before.before in
-    let k = g.before.before in
-    let a = k.before.before.before.before.before.before.before.args in
+returns-then-outside-slots c =
+    let a = c.args in
     let o =
-    list-outside a.file.now _ (is-map k) a.slots.now (length a.distances.now) (length a.entries.now) _
-    g.first-outside.ensures c.before.if1.true in
-    (c.refuse-number.ensures ∙ ap number_answer (sym o), (rw o, rw o))
+    list-outside a.file.now _ (is-map c.before.before.before.before) a.slots.now (length a.distances.now) (length a.entries.now) _
+    c.first_outside-outside.ensures c.if-outside-slots.true in
+    (c.refuse_number.ensures ∙ ap number_answer (sym o), (rw o, rw o))
 
-refuse-number-requires-2 : tie.Need-refuse-number-requires-2
-refuse-number-requires-2 c κs = search rules
+refuse_number-requires-then-short : tie.Need-refuse_number-requires-then-short
+refuse_number-requires-then-short c κs = search rules
 
-returns-2 : tie.Need-returns-2
+returns-then-short : tie.Need-returns-then-short
 unfolding lookup_list_buffer lookup_list_entries
-returns-2 c =
-    let t = c.before.before in
-    let k = t.before.before.before.before in
-    let a = k.before.before.before.before.before.before.before.args in
+returns-then-short c =
+    let a = c.args in
     let o =
-    list-short a.file.now _ (is-map k) a.slots.now (all-inside t) (length a.distances.now)
-    (length a.entries.now) (ltb-true _ _ (sym t.before.either-short.ensures ∙ c.before.if2.true)) in
-    (c.refuse-number2.ensures ∙ ap number_answer (sym o), (rw o, rw o))
+    list-short a.file.now _ (is-map c.before.before.before.before.before) a.slots.now (all-inside c.before.before) (length a.distances.now)
+    (length a.entries.now) (ltb-true _ _ (sym c.either_short-short.ensures ∙ c.if-short.true)) in
+    (c.refuse_number-then-short.ensures ∙ ap number_answer (sym o), (rw o, rw o))
 
 -- both lists are long enough
-fits : (c : tie.Else2)
-    → (let a = c.before.before.before.before.before.before.before.before.before.before.before.before.args in
+fits : (c : tie.Else-short)
+    → (let a = c.args in
     length a.slots.now ≤ min (length a.distances.now) (length a.entries.now))
-fits c = ltb-false _ _ (sym c.before.before.either-short.ensures ∙ c.if2.false)
+fits c = ltb-false _ _ (sym c.either_short-short.ensures ∙ c.if-short.false)
 
-locate-into-requires : tie.Need-locate-into-requires
-locate-into-requires c κs =
-    let x = c.before.before in
-    let t = x.before in
-    let k = t.before.before.before.before in
-    let a = k.before.before.before.before.before.before.before.args in
-    let inside = list_inside a.file.now _ (is-map k) a.slots.now (all-inside t) in
-    (checked _ _ (is-map k), (inside, omega (arith, fits x)))
+locate_into-requires : tie.Need-locate_into-requires
+locate_into-requires c κs =
+    let a = c.args in
+    let inside = list_inside a.file.now _ (is-map c.before.before.before.before.before.before) a.slots.now (all-inside c.before.before.before) in
+    (checked _ _ (is-map c.before.before.before.before.before.before), (inside, omega (arith, fits c.before.before)))
 
-returns-3 : tie.Need-returns-3
+returns-in-Refused : tie.Need-returns-in-Refused
 unfolding lookup_list_buffer lookup_list_entries
-returns-3 c =
-    let k = c.before in
-    let a = k.before.before.before.before.before.before.before.args in
-    let o = list-refused a.file.now _ (is-refused k) a.slots.now (length a.distances.now) (length a.entries.now) in
+returns-in-Refused c =
+    let a = c.args in
+    let o = list-refused a.file.now _ (is-refused c) a.slots.now (length a.distances.now) (length a.entries.now) in
     (ap number_answer (sym o), (rw o, rw o))
 
-same_length : tie.Need-same-length
-same_length c = search rules
+shape_of-distances : tie.Need-shape_of-distances
+shape_of-distances c = search rules
 
-same-length-2 : tie.Need-same-length-2
-same-length-2 c = search rules
+shape_of-entries : tie.Need-shape_of-entries
+shape_of-entries c = search rules
 
-returns-4 : tie.Need-returns-4
-returns-4 c =
-    let call = c.before.before.before.before in
-    let x = call.before.before.before in
-    let t = x.before in
-    let k = t.before.before.before.before in
-    let a = k.before.before.before.before.before.before.before.args in
+returns-else-short : tie.Need-returns-else-short
+returns-else-short c =
+    let a = c.args in
     let file = a.file.now in
     let slots = a.slots.now in
-    let o = list_done file _ (is-map k) slots (all-inside t) _ _ (fits x) in
-    let d = list-buffer file _ (is-map k) slots (all-inside t) _ a.distances.now (fits x) in
-    let e = list-entries file _ (is-map k) slots (all-inside t) _ a.entries.now (fits x) in
-    (ap number_answer (sym o), (call.locate-into.ensures.0 ∙ d, call.locate-into.ensures.1 ∙ e))
+    let o = list_done file _ (is-map c.before.before.before.before.before.before.before.before.before.before.before) slots (all-inside c.before.before.before.before.before.before.before.before) _ _ (fits c.before.before.before.before.before.before.before) in
+    let d = list-buffer file _ (is-map c.before.before.before.before.before.before.before.before.before.before.before) slots (all-inside c.before.before.before.before.before.before.before.before) _ a.distances.now (fits c.before.before.before.before.before.before.before) in
+    let e = list-entries file _ (is-map c.before.before.before.before.before.before.before.before.before.before.before) slots (all-inside c.before.before.before.before.before.before.before.before) _ a.entries.now (fits c.before.before.before.before.before.before.before) in
+    (ap number_answer (sym o), (c.locate_into.ensures.0 ∙ d, c.locate_into.ensures.1 ∙ e))
 
-pub lookup-list-spec : {M : Type 1} → statement M
-lookup-list-spec =
+pub lookup_list_spec : {M : Type 1} → statement M
+lookup_list_spec =
     tie.close
     (tie.spec
-    check-counts-requires
-    enum-known-checked
-    enum-known-checked-2
-    first-outside-requires
-    either-short-requires
-    refuse-number-requires
-    returns
-    refuse-number-requires-2
-    returns-2
-    locate-into-requires
-    returns-3
-    same_length
-    same-length-2
-    returns-4)
+    check_counts-checked-requires
+    enum_known-checked
+    enum_known-checked-in-Counted-1
+    first_outside-outside-requires
+    either_short-short-requires
+    refuse_number-requires
+    returns-then-outside-slots
+    refuse_number-requires-then-short
+    returns-then-short
+    locate_into-requires
+    returns-in-Refused
+    shape_of-distances
+    shape_of-entries
+    returns-else-short)

@@ -11,47 +11,47 @@ use Rattle.pciv_read.proofs.primary.Statement.{statement}
 use Rattle.pciv_read.proofs.primary.Tie as tie
 
 -- what the check has shown
-is-refused : (c : tie.After-enum-told)
-    → counts_file 1 c.before.before.before.before.args.file.now ≡ refused c.enum_told.given.0.0
-is-refused c = counts_answer-refused _ _ (sym c.enum_told.given.1 ∙ c.before.before.check-counts.ensures)
+is-refused : (c : tie.In-Refused)
+    → counts_file 1 c.args.file.now ≡ refused c.in-Refused.field-0
+is-refused c = counts_answer-refused _ _ (sym c.in-Refused.is ∙ c.check_counts-checked.ensures)
 
-is-map : (c : tie.After-checked)
-    → counts_file 1 c.before.before.before.before.args.file.now ≡ done c.checked.given.0.0
-is-map c = counts_answer-counted _ _ (sym c.checked.given.1 ∙ c.before.before.check-counts.ensures)
+is-map : (c : tie.In-Counted)
+    → counts_file 1 c.args.file.now ≡ done c.in-Counted.s
+is-map c = counts_answer-counted _ _ (sym c.in-Counted.is ∙ c.check_counts-checked.ensures)
 
-check-counts-requires : tie.Need-check-counts-requires
-check-counts-requires c κs = search rules
+check_counts-checked-requires : tie.Need-check_counts-checked-requires
+check_counts-checked-requires c κs = search rules
 
-enum_told : tie.Need-enum-told
-enum_told c = search rules
+enum_told-1 : tie.Need-enum_told-1
+enum_told-1 c = search rules
 
 part-requires : tie.Need-part-requires
 part-requires c κs = search rules
 
-enum-known-checked : tie.Need-enum-known-checked
-enum-known-checked c = search rules
+enum_known-checked : tie.Need-enum_known-checked
+enum_known-checked c = search rules
 
-part-requires-2 : tie.Need-part-requires-2
-part-requires-2 c κs = omega (arith, primary-inside _ _ _ (checked _ _ (is-map c.before)))
+part-requires-in-Counted : tie.Need-part-requires-in-Counted
+part-requires-in-Counted c κs = omega (arith, primary-inside _ _ _ (checked _ _ (is-map c)))
 
-returns : tie.Need-returns
-returns c =
+returns-in-Refused : tie.Need-returns-in-Refused
+returns-in-Refused c =
     let no = is-refused c.before in
     (c.part.ensures.0 ∙ sym (primary-refused _ _ no), c.part.ensures.1 ∙ sym (place-refused _ _ no _))
 
-returns-2 : tie.Need-returns-2
-returns-2 c =
-    let map = is-map c.before.before in
-    (c.part2.ensures.0 ∙ sym (primary-done _ _ map), c.part2.ensures.1 ∙ sym (place-done _ _ map _))
+returns-in-Counted : tie.Need-returns-in-Counted
+returns-in-Counted c =
+    let map = is-map c.before in
+    (c.part-in-Counted.ensures.0 ∙ sym (primary-done _ _ map), c.part-in-Counted.ensures.1 ∙ sym (place-done _ _ map _))
 
-pub primary-spec : {M : Type 1} → statement M
-primary-spec =
+pub primary_spec : {M : Type 1} → statement M
+primary_spec =
     tie.close
     (tie.spec
-    check-counts-requires
-    enum_told
+    check_counts-checked-requires
+    enum_told-1
     part-requires
-    enum-known-checked
-    part-requires-2
-    returns
-    returns-2)
+    enum_known-checked
+    part-requires-in-Counted
+    returns-in-Refused
+    returns-in-Counted)

@@ -17,71 +17,69 @@ use Rattle.pciv_read.proofs.readings.Statement.{statement}
 use Rattle.pciv_read.proofs.readings.Tie as tie
 
 -- what the check has shown: why the file is refused, or its counts
-is-refused : (c : tie.After-checked)
-    → counts_file 1 c.before.before.before.before.args.file.now ≡ refused c.checked.given.0.0
-is-refused c = counts_answer-refused _ _ (sym c.checked.given.1 ∙ c.before.before.check-counts.ensures)
+is-refused : (c : tie.In-Refused)
+    → counts_file 1 c.args.file.now ≡ refused c.in-Refused.r
+is-refused c = counts_answer-refused _ _ (sym c.in-Refused.is ∙ c.check_counts-checked.ensures)
 
-is-map : (c : tie.After-checked2)
-    → counts_file 1 c.before.before.before.before.args.file.now ≡ done c.checked2.given.0.0
-is-map c = counts_answer-counted _ _ (sym c.checked2.given.1 ∙ c.before.before.check-counts.ensures)
+is-map : (c : tie.In-Counted)
+    → counts_file 1 c.args.file.now ≡ done c.in-Counted.s
+is-map c = counts_answer-counted _ _ (sym c.in-Counted.is ∙ c.check_counts-checked.ensures)
 
-check-counts-requires : tie.Need-check-counts-requires
-check-counts-requires c κs = search rules
+check_counts-checked-requires : tie.Need-check_counts-checked-requires
+check_counts-checked-requires c κs = search rules
 
-enum-known-checked : tie.Need-enum-known-checked
-enum-known-checked c = search rules
+enum_known-checked : tie.Need-enum_known-checked
+enum_known-checked c = search rules
 
-enum-known-checked-2 : tie.Need-enum-known-checked-2
-enum-known-checked-2 c = search rules
+enum_known-checked-in-Counted-1 : tie.Need-enum_known-checked-in-Counted-1
+enum_known-checked-in-Counted-1 c = search rules
 
-add-end : tie.Need-overflow-add-end
-add-end c =
-    let m = checked _ _ (is-map c.before) in
+overflow_add-end : tie.Need-overflow_add-end
+overflow_add-end c =
+    let m = checked _ _ (is-map c) in
     omega (arith, m.header.small)
 
-sub-readings-of : tie.Need-overflow-sub-readings-of
-sub-readings-of c = search rules
+slice_bounds-readings_of-count : tie.Need-slice_bounds-readings_of-count
+slice_bounds-readings_of-count c = search rules
 
-part-readings-of-start : tie.Need-slice-bounds-readings-of-start
-part-readings-of-start c = search rules
+slice_bounds-readings_of-start : tie.Need-slice_bounds-readings_of-start
+slice_bounds-readings_of-start c = search rules
 
-part-readings-of-end : tie.Need-slice-bounds-readings-of-end
-part-readings-of-end c =
-    let m = checked _ _ (is-map c.before) in
+slice_bounds-readings_of-end : tie.Need-slice_bounds-readings_of-end
+slice_bounds-readings_of-end c =
+    let m = checked _ _ (is-map c) in
     omega (arith, primary-inside _ _ _ m)
 
-readings-of-requires : tie.Need-readings-of-requires
-readings-of-requires c κs = search rules
+readings_of-requires : tie.Need-readings_of-requires
+readings_of-requires c κs = search rules
 
-returns : tie.Need-returns
-returns c = ap number_answer (sym (readings-refused _ _ (is-refused c.before)))
+returns-in-Refused : tie.Need-returns-in-Refused
+returns-in-Refused c = ap number_answer (sym (readings-refused _ _ (is-refused c)))
 
-returns-2 : tie.Need-returns-2
-returns-2 c =
-    let k = c.before.before.before in
-    let known = k.before.before.before in
-    let b = known.before.args.file.now in
-    let s = k.checked2.given.0.0 in
-    let is = is-map k in
-    let bytes : Bytes b = λ i. (known.shared-slice-known.given i).fits in
+returns-in-Counted : tie.Need-returns-in-Counted
+returns-in-Counted c =
+    let b = c.args.file.now in
+    let s = c.in-Counted.s in
+    let is = is-map c.before.before in
+    let bytes : Bytes b = λ i. (c.shared_slice_known-1.given i).fits in
     let f = counted-is-file 1 b s bytes is in
     let n : 40 + s.n - 40 ≡ s.n = omega arith in
     let primary : primary_part (file_of (list_of b)) ≡ take (40 + s.n - 40) (drop 40 b) =
     ap primary_part (sym f.bytes) ∙ primary-done b s is ∙ ap (λ (z : ℕ). take z (drop 40 b)) (sym n) in
-    ap (λ (x : ℕ). number_answer (done x)) (c.readings-of.ensures.1 (list_of b) f.limits primary)
+    ap (λ (x : ℕ). number_answer (done x)) (c.readings_of.ensures.1 (list_of b) f.limits primary)
     ∙ ap number_answer (sym (readings-done b s is))
 
-pub readings-spec : {M : Type 1} → statement M
-readings-spec =
+pub readings_spec : {M : Type 1} → statement M
+readings_spec =
     tie.close
     (tie.spec
-    check-counts-requires
-    enum-known-checked
-    enum-known-checked-2
-    add-end
-    sub-readings-of
-    part-readings-of-start
-    part-readings-of-end
-    readings-of-requires
-    returns
-    returns-2)
+    check_counts-checked-requires
+    enum_known-checked
+    enum_known-checked-in-Counted-1
+    overflow_add-end
+    slice_bounds-readings_of-count
+    slice_bounds-readings_of-start
+    slice_bounds-readings_of-end
+    readings_of-requires
+    returns-in-Refused
+    returns-in-Counted)

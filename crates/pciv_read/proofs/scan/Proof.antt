@@ -11,70 +11,65 @@ use Rattle.pciv_read.proofs.scan.Statement.{statement}
 use Rattle.pciv_read.proofs.scan.Tie as tie
 
 -- what the check has shown: why the file is refused, or its counts
-is-refused : (c : tie.After-checked)
-    → counts_file 1 c.before.before.before.before.before.args.file.now ≡ refused c.checked.given.0.0
-is-refused c = counts_answer-refused _ _ (sym c.checked.given.1 ∙ c.before.before.check-counts.ensures)
+is-refused : (c : tie.In-Refused)
+    → counts_file 1 c.args.file.now ≡ refused c.in-Refused.r
+is-refused c = counts_answer-refused _ _ (sym c.in-Refused.is ∙ c.check_counts-checked.ensures)
 
-is-map : (c : tie.After-checked2)
-    → counts_file 1 c.before.before.before.before.before.args.file.now ≡ done c.checked2.given.0.0
-is-map c = counts_answer-counted _ _ (sym c.checked2.given.1 ∙ c.before.before.check-counts.ensures)
+is-map : (c : tie.In-Counted)
+    → counts_file 1 c.args.file.now ≡ done c.in-Counted.s
+is-map c = counts_answer-counted _ _ (sym c.in-Counted.is ∙ c.check_counts-checked.ensures)
 
-check-counts-requires : tie.Need-check-counts-requires
-check-counts-requires c κs = search rules
+check_counts-checked-requires : tie.Need-check_counts-checked-requires
+check_counts-checked-requires c κs = search rules
 
-enum-known-checked : tie.Need-enum-known-checked
-enum-known-checked c = search rules
+enum_known-checked : tie.Need-enum_known-checked
+enum_known-checked c = search rules
 
-enum-known-checked-2 : tie.Need-enum-known-checked-2
-enum-known-checked-2 c = search rules
+enum_known-checked-in-Counted-1 : tie.Need-enum_known-checked-in-Counted-1
+enum_known-checked-in-Counted-1 c = search rules
 
-refuse-number-requires : tie.Need-refuse-number-requires
-refuse-number-requires c κs = search rules
+refuse_number-requires : tie.Need-refuse_number-requires
+refuse_number-requires c κs = search rules
 
-returns : tie.Need-returns
+returns-then-out-n : tie.Need-returns-then-out-n
 unfolding scan_buffer
-returns c =
-    let k = c.before.before.before in
-    let a = k.before.before.before.before.before.args in
-    let short = scan-short a.file.now _ (is-map k) (length a.out.now) c.before.if1.true in
-    (c.refuse-number.ensures ∙ ap number_answer (sym short), rw short)
+returns-then-out-n c =
+    let a = c.args in
+    let short = scan-short a.file.now _ (is-map c.before.before) (length a.out.now) c.if-out-n.true in
+    (c.refuse_number.ensures ∙ ap number_answer (sym short), rw short)
 
-scan-into-requires : tie.Need-scan-into-requires
-scan-into-requires c κs =
-    let k = c.before.before.before in
-    (checked _ _ (is-map k), c.before.if1.false)
+scan_into-requires : tie.Need-scan_into-requires
+scan_into-requires c κs =
+    (checked _ _ (is-map c.before.before), c.if-out-n.false)
 
-returns-2 : tie.Need-returns-2
+returns-in-Refused : tie.Need-returns-in-Refused
 unfolding scan_buffer
-returns-2 c =
-    let k = c.before in
-    let a = k.before.before.before.before.before.args in
-    let e = scan-refused a.file.now _ (is-refused k) (length a.out.now) in
+returns-in-Refused c =
+    let a = c.args in
+    let e = scan-refused a.file.now _ (is-refused c) (length a.out.now) in
     (ap number_answer (sym e), rw e)
 
-same_length : tie.Need-same-length
-same_length c = search rules
+shape_of-out : tie.Need-shape_of-out
+shape_of-out c = search rules
 
-returns-3 : tie.Need-returns-3
-returns-3 c =
-    let x = c.before.before in
-    let k = x.before.before.before.before in
-    let a = k.before.before.before.before.before.args in
-    let fits = x.before.before.if1.false in (
-      ap number_answer (sym (scan-done a.file.now _ (is-map k) (length a.out.now) fits)),
-      x.scan-into.ensures ∙ scan-buffer a.file.now _ (is-map k) a.out.now fits,
+returns-else-out-n : tie.Need-returns-else-out-n
+returns-else-out-n c =
+    let a = c.args in
+    let fits = c.if-out-n.false in (
+      ap number_answer (sym (scan-done a.file.now _ (is-map c.before.before.before.before.before) (length a.out.now) fits)),
+      c.scan_into.ensures ∙ scan-buffer a.file.now _ (is-map c.before.before.before.before.before) a.out.now fits,
     )
 
-pub scan-spec : {M : Type 1} → statement M
-scan-spec =
+pub scan_spec : {M : Type 1} → statement M
+scan_spec =
     tie.close
     (tie.spec
-    check-counts-requires
-    enum-known-checked
-    enum-known-checked-2
-    refuse-number-requires
-    returns
-    scan-into-requires
-    returns-2
-    same_length
-    returns-3)
+    check_counts-checked-requires
+    enum_known-checked
+    enum_known-checked-in-Counted-1
+    refuse_number-requires
+    returns-then-out-n
+    scan_into-requires
+    returns-in-Refused
+    shape_of-out
+    returns-else-out-n)

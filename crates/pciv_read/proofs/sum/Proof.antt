@@ -11,30 +11,37 @@ use Rattle.pciv_read.proofs.sum.Statement.{statement}
 use Rattle.pciv_read.proofs.sum.Tie as tie
 
 -- what the check has shown: why the file is refused, or its summary
-is-refused : (c : tie.After-checked)
-    → counts_file 1 c.before.before.before.before.args.file.now ≡ refused c.checked.given.0.0
+is-refused : (c : tie.In-Refused)
+    → counts_file 1 c.args.file.now ≡ refused c.in-Refused.r
 is-refused c =
     ((counts-refuse-alike 1 _).0 _).0
-    (file_answer-refused _ _ (sym c.checked.given.1 ∙ c.before.before.check.ensures))
+    (file_answer-refused _ _ (sym c.in-Refused.is ∙ c.check-checked.ensures))
 
-is-done : (c : tie.After-checked2)
-    → check_file 1 c.before.before.before.before.args.file.now ≡ done c.checked2.given.0.0
-is-done c = file_answer-done _ _ (sym c.checked2.given.1 ∙ c.before.before.check.ensures)
+is-done : (c : tie.In-Done)
+    → check_file 1 c.args.file.now ≡ done c.in-Done.s
+is-done c = file_answer-done _ _ (sym c.in-Done.is ∙ c.check-checked.ensures)
 
-check-requires : tie.Need-check-requires
-check-requires c κs = search rules
+check-checked-requires : tie.Need-check-checked-requires
+check-checked-requires c κs = search rules
 
-enum-known-checked : tie.Need-enum-known-checked
-enum-known-checked c = search rules
+enum_known-checked : tie.Need-enum_known-checked
+enum_known-checked c = search rules
 
-enum-known-checked-2 : tie.Need-enum-known-checked-2
-enum-known-checked-2 c = search rules
+enum_known-checked-in-Done-1 : tie.Need-enum_known-checked-in-Done-1
+enum_known-checked-in-Done-1 c = search rules
 
-returns : tie.Need-returns
-returns c = ap number_answer (sym (sum-refused _ _ (is-refused c.before)))
+returns-in-Refused : tie.Need-returns-in-Refused
+returns-in-Refused c = ap number_answer (sym (sum-refused _ _ (is-refused c)))
 
-returns-2 : tie.Need-returns-2
-returns-2 c = ap number_answer (sym (check-sum _ _ (is-done c.before)))
+returns-in-Done : tie.Need-returns-in-Done
+returns-in-Done c = ap number_answer (sym (check-sum _ _ (is-done c)))
 
-pub sum-spec : {M : Type 1} → statement M
-sum-spec = tie.close (tie.spec check-requires enum-known-checked enum-known-checked-2 returns returns-2)
+pub sum_spec : {M : Type 1} → statement M
+sum_spec =
+    tie.close
+    (tie.spec
+    check-checked-requires
+    enum_known-checked
+    enum_known-checked-in-Done-1
+    returns-in-Refused
+    returns-in-Done)

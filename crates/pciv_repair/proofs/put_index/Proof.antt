@@ -16,84 +16,73 @@ use borrow.Author.Rules.{rules}
 use Rattle.pciv_repair.proofs.put_index.Statement.{statement}
 use Rattle.pciv_repair.proofs.put_index.Tie as tie
 
-bytes : (q : tie.After-shared-slice-known) → Bytes q.before.args.file.now
-bytes q i = (q.shared-slice-known.given i).fits
+bytes : (q : tie.After-shared_slice_known-1) → Bytes q.args.file.now
+bytes q i = (q.shared_slice_known-1.given i).fits
 
-small : (q : tie.After-shared-slice-known) → q.before.args.kept ≤ max_slots
-small q = omega (arith, q.before.requires.1.0, kept_small _ _ _ (bytes q) q.before.requires.0)
+small : (q : tie.After-shared_slice_known-1) → q.args.kept ≤ max_slots
+small q = omega (arith, q.requires.1.0, kept_small _ _ _ (bytes q) q.requires.0)
 
 -- there is one line
-one : (c : tie.Else1)
-    → (let a = c.before.before.before.args in
+one : (c : tie.Else-indexed)
+    → (let a = c.args in
     let b = a.file.now in
     (length (index_lines b a.n a.k) ≡ 1)
     × (numbers_of (index_lines b a.n a.k)
     ≡ 4 ∷ 0 ∷ length (bytes_after b a.n a.k) ∷ length (rebuilt_index b a.n a.k) ∷ []))
 one c =
-    let q = c.before.before in
-    let s = q.before in
-    one_number _ _ (index-one _ _ _ (bytes q) s.requires.0 (sym s.requires.1.1.0 ∙ c.if1.false))
+    one_number _ _ (index-one _ _ _ (bytes c.before.before) c.requires.0 (sym c.requires.1.1.0 ∙ c.if-indexed.false))
+
+returns-then-indexed : tie.Need-returns-then-indexed
+returns-then-indexed c =
+    let none = index-none _ _ _ (bytes c.before.before) c.requires.0 (sym c.requires.1.1.0 ∙ c.if-indexed.true) in
+    (no-numbers _ none c.args.line c.args.list.now).1
+
+overflow_add-after : tie.Need-overflow_add-after
+overflow_add-after c = search rules
+
+overflow_mul-after : tie.Need-overflow_mul-after
+overflow_mul-after c = search rules
+
+overflow_add-after-2 : tie.Need-overflow_add-after-2
+overflow_add-after-2 c = search rules
+
+overflow_sub-file : tie.Need-overflow_sub-file
+overflow_sub-file c = search rules
+
+index_len-requires : tie.Need-index_len-requires
+index_len-requires c κs = small c.before.before.before
+
+overflow_mul-index_len : tie.Need-overflow_mul-index_len
+overflow_mul-index_len c =
+    let kept : ℕ = c.args.kept in
+    omega (arith, c.index_len.ensures, index_len-le kept, index_step-le kept, small c.before.before.before.before)
+
+put_line-requires : tie.Need-put_line-requires
+put_line-requires c κs =
+    omega (arith, (one c.before.before).0, c.requires.1.1.1)
+
+shape_of-list : tie.Need-shape_of-list
+shape_of-list c = search rules
 
 returns : tie.Need-returns
 returns c =
-    let q = c.before.before in
-    let s = q.before in
-    let none = index-none _ _ _ (bytes q) s.requires.0 (sym s.requires.1.1.0 ∙ c.if1.true) in
-    (no-numbers _ none s.args.line s.args.list.now).1
+    let a = c.args in
+    c.put_line.ensures.1
+    ∙ ap₂ (λ (x y : ℕ). sets a.list.now (4 * a.line) (4 ∷ 0 ∷ x ∷ y ∷ [])) (sym (length-after _ _ _ (bytes c.before.before.before.before.before.before.before) c.requires.0))
+    (ap (λ (m : ℕ). 16 * m) (c.index_len.ensures ∙ ap index_len c.requires.1.0) ∙ sym (length-rebuilt _ _ _ (bytes c.before.before.before.before.before.before.before) c.requires.0))
+    ∙ ap (sets a.list.now (4 * a.line)) (sym (one c.before.before.before.before.before).1)
 
-add-after : tie.Need-overflow-add-after
-add-after c = search rules
-
-mul-after : tie.Need-overflow-mul-after
-mul-after c = search rules
-
-add-after-2 : tie.Need-overflow-add-after-2
-add-after-2 c = search rules
-
-sub-put-line : tie.Need-overflow-sub-put-line
-sub-put-line c = search rules
-
-index-len-requires : tie.Need-index-len-requires
-index-len-requires c κs = small c.before.before.before
-
-mul-put-line : tie.Need-overflow-mul-put-line
-mul-put-line c =
-    let q = c.before.before.before.before in
-    let kept : ℕ = q.before.args.kept in
-    omega (arith, c.index-len.ensures, index_len-le kept, index_step-le kept, small q)
-
-put-line-requires : tie.Need-put-line-requires
-put-line-requires c κs =
-    let e = c.before.before in
-    omega (arith, (one e).0, e.before.before.before.requires.1.1.1)
-
-same_length : tie.Need-same-length
-same_length c = search rules
-
-returns-2 : tie.Need-returns-2
-returns-2 c =
-    let p = c.before.before in
-    let i = p.before in
-    let e = i.before.before in
-    let q = e.before.before in
-    let s = q.before in
-    let a = s.args in
-    p.put-line.ensures.1
-    ∙ ap₂ (λ (x y : ℕ). sets a.list.now (4 * a.line) (4 ∷ 0 ∷ x ∷ y ∷ [])) (sym (length-after _ _ _ (bytes q) s.requires.0))
-    (ap (λ (m : ℕ). 16 * m) (i.index-len.ensures ∙ ap index_len s.requires.1.0) ∙ sym (length-rebuilt _ _ _ (bytes q) s.requires.0))
-    ∙ ap (sets a.list.now (4 * a.line)) (sym (one e).1)
-
-pub put-index-spec : {M : Type 1} → statement M
-put-index-spec =
+pub put_index_spec : {M : Type 1} → statement M
+put_index_spec =
     tie.close
     (tie.spec
-    returns
-    add-after
-    mul-after
-    add-after-2
-    sub-put-line
-    index-len-requires
-    mul-put-line
-    put-line-requires
-    same_length
-    returns-2)
+    returns-then-indexed
+    overflow_add-after
+    overflow_mul-after
+    overflow_add-after-2
+    overflow_sub-file
+    index_len-requires
+    overflow_mul-index_len
+    put_line-requires
+    shape_of-list
+    returns)

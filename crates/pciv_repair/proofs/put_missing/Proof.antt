@@ -15,48 +15,39 @@ use borrow.Author.Rules.{rules}
 use Rattle.pciv_repair.proofs.put_missing.Statement.{statement}
 use Rattle.pciv_repair.proofs.put_missing.Tie as tie
 
-bytes : (q : tie.After-shared-slice-known) → Bytes q.before.args.file.now
-bytes q i = (q.shared-slice-known.given i).fits
+bytes : (q : tie.After-shared_slice_known-1) → Bytes q.args.file.now
+bytes q i = (q.shared_slice_known-1.given i).fits
 
 -- which slots the rebuilt file tells
-told : (c : tie.After-slice-known)
-    → (let a = c.before.before.before.args in
+told : (c : tie.After-slice_known-1)
+    → (let a = c.args in
     positions (was_set a.file.now a.new.now) 0 a.n ≡ positions (is_set (file_parts a.file.now a.n a.k)) 0 a.n)
 told c =
-    let q = c.before.before in
-    let s = q.before in
-    was_set-is _ _ _ (bytes q) s.requires.0 _ _ s.requires.1.1.0
+    was_set-is _ _ _ (bytes c.before.before) c.requires.0 _ _ c.requires.1.1.0
+
+returns-then-full-kept : tie.Need-returns-then-full-kept
+returns-then-full-kept c =
+    let none = set-none _ _ _ (bytes c.before.before.before) c.requires.0 (omega (arith, c.if-full-kept.true, c.requires.1.0)) in
+    no-numbers _ none c.args.from c.args.list.now
+
+put_set-requires : tie.Need-put_set-requires
+put_set-requires c κs = (
+  (omega (arith, c.requires.0.inside), rebuilt-long _ _ _ (bytes c.before.before.before.before) c.requires.0 _ _ c.requires.1.1.0),
+  rw (told c.before.before) (rw length-map at c.requires.1.1.1),
+)
+
+shape_of-list : tie.Need-shape_of-list
+shape_of-list c = search rules
 
 returns : tie.Need-returns
 returns c =
-    let q = c.before.before.before in
-    let s = q.before in
-    let none = set-none _ _ _ (bytes q) s.requires.0 (omega (arith, c.if1.true, s.requires.1.0)) in
-    no-numbers _ none s.args.from s.args.list.now
-
-put-set-requires : tie.Need-put-set-requires
-put-set-requires c κs =
-    let k = c.before.before in
-    let q = k.before.before in
-    let s = q.before in (
-      (omega (arith, s.requires.0.inside), rebuilt-long _ _ _ (bytes q) s.requires.0 _ _ s.requires.1.1.0),
-      rw (told k) (rw length-map at s.requires.1.1.1),
-    )
-
-same_length : tie.Need-same-length
-same_length c = search rules
-
-returns-2 : tie.Need-returns-2
-returns-2 c =
-    let p = c.before.before in
-    let k = p.before.before.before in
-    let a = k.before.before.before.args in (
-      p.put-set.ensures.0
-          ∙ ap (λ (l : List ℕ). a.from + length l) (told k)
+    let a = c.args in (
+      c.put_set.ensures.0
+          ∙ ap (λ (l : List ℕ). a.from + length l) (told c.before.before.before.before.before)
           ∙ simp length-map refl,
-      p.put-set.ensures.1
-          ∙ ap (λ (l : List ℕ). sets a.list.now (4 * a.from) (numbers_of (map set_line l))) (told k),
+      c.put_set.ensures.1
+          ∙ ap (λ (l : List ℕ). sets a.list.now (4 * a.from) (numbers_of (map set_line l))) (told c.before.before.before.before.before),
     )
 
-pub put-missing-spec : {M : Type 1} → statement M
-put-missing-spec = tie.close (tie.spec returns put-set-requires same_length returns-2)
+pub put_missing_spec : {M : Type 1} → statement M
+put_missing_spec = tie.close (tie.spec returns-then-full-kept put_set-requires shape_of-list returns)

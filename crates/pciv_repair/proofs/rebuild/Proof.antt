@@ -10,123 +10,114 @@ use borrow.Author.Rules.{rules}
 use Rattle.pciv_repair.proofs.rebuild.Statement.{statement}
 use Rattle.pciv_repair.proofs.rebuild.Tie as tie
 
-abbrev start_of : tie.After-count-lines → tie.Start
+abbrev start_of : tie.After-count_lines-lines → tie.Start
 start_of c = c.before.before.before.before.before.before.before
 
-bytes : (c : tie.After-count-lines) → Bytes (start_of c).args.file.now
-bytes c i = (c.before.before.before.before.before.before.shared-slice-known.given i).fits
+bytes : (c : tie.After-count_lines-lines) → Bytes (start_of c).args.file.now
+bytes c i = (c.shared_slice_known-1.given i).fits
 
 -- from after `put_repaired`: how many changes there are, and that the list holds them
-abbrev counted : tie.After-put-repaired → tie.After-count-lines
+abbrev counted : tie.After-put_repaired-written → tie.After-count_lines-lines
 counted c = c.before.before.before
 
-listed : (c : tie.After-put-repaired)
+listed : (c : tie.After-put_repaired-written)
     → (let a = (start_of (counted c)).args in
     4 * length (corrections a.file.now a.n a.k) ≤ length a.list.now)
-listed c = omega (arith, c.before.before.if1.false, (counted c).count-lines.ensures)
+listed c = omega (arith, c.if-list-lines.false, (counted c).count_lines-lines.ensures)
 
-count-kept-requires : tie.Need-count-kept-requires
-count-kept-requires c κs = search rules
+count_kept-kept-requires : tie.Need-count_kept-kept-requires
+count_kept-kept-requires c κs = search rules
 
-count-full-requires : tie.Need-count-full-requires
-count-full-requires c κs = omega (arith, c.before.before.before.before.requires.inside)
+count_full-full-requires : tie.Need-count_full-full-requires
+count_full-full-requires c κs = omega (arith, c.requires.inside)
 
-same-index-requires : tie.Need-same-index-requires
-same-index-requires c κs = search rules
+same_index-indexed-requires : tie.Need-same_index-indexed-requires
+same_index-indexed-requires c κs = search rules
 
-count-lines-requires : tie.Need-count-lines-requires
-count-lines-requires c κs = search rules
+count_lines-lines-requires : tie.Need-count_lines-lines-requires
+count_lines-lines-requires c κs = search rules
 
-mul-if1 : tie.Need-overflow-mul-if1
-mul-if1 c =
+overflow_mul-lines : tie.Need-overflow_mul-lines
+overflow_mul-lines c =
     let s = start_of c in
-    let p = s.pre in
-    omega (arith, c.count-lines.ensures, lines-few _ _ _ (bytes c) p, p.few, p.small)
+    let p = s.requires in
+    omega (arith, c.count_lines-lines.ensures, lines-few _ _ _ (bytes c) p, p.few, p.small)
 
-refuse-repair-requires : tie.Need-refuse-repair-requires
-refuse-repair-requires c κs = search rules
+refuse_repair-requires : tie.Need-refuse_repair-requires
+refuse_repair-requires c κs = search rules
 
-returns : tie.Need-returns
-returns c =
-    let t = c.before in
-    let l = t.before in
+returns-then-list-lines : tie.Need-returns-then-list-lines
+returns-then-list-lines c =
+    let s = start_of c.before.before in
+    let a = s.args in
+    ends-unlisted a.file.now a.n a.k a.out.now a.list.now s.requires _ c.refuse_repair.ensures
+    (omega (arith, c.if-list-lines.true, c.count_lines-lines.ensures))
+
+put_repaired-written-requires : tie.Need-put_repaired-written-requires
+put_repaired-written-requires c κs = search rules
+
+enum_known-written : tie.Need-enum_known-written
+enum_known-written c = search rules
+
+enum_known-written-in-Done-1 : tie.Need-enum_known-written-in-Done-1
+enum_known-written-in-Done-1 c = search rules
+
+put_lines-requires : tie.Need-put_lines-requires
+put_lines-requires c κs =
+    let l = counted c.before.before.before.before in
     let s = start_of l in
     let a = s.args in
-    ends-unlisted a.file.now a.n a.k a.out.now a.list.now s.pre _ c.refuse-repair.ensures
-    (omega (arith, t.if1.true, l.count-lines.ensures))
-
-put-repaired-requires : tie.Need-put-repaired-requires
-put-repaired-requires c κs = search rules
-
-enum-known-written : tie.Need-enum-known-written
-enum-known-written c = search rules
-
-enum-known-written-2 : tie.Need-enum-known-written-2
-enum-known-written-2 c = search rules
-
-put-lines-requires : tie.Need-put-lines-requires
-put-lines-requires c κs =
-    let w = c.before.before.before in
-    let r = w.before.before.before.before in
-    let l = counted r in
-    let s = start_of l in
-    let a = s.args in
-    let front = stands a.file.now a.n a.k a.out.now a.list.now s.pre (listed r) _ _
-    r.put-repaired.ensures.0 r.put-repaired.ensures.1 _ w.written2.given.1 in (
-      s.pre,
+    let front = stands a.file.now a.n a.k a.out.now a.list.now s.requires (listed c.before.before.before.before) _ _
+    c.put_repaired-written.ensures.0 c.put_repaired-written.ensures.1 _ c.in-Done.is in (
+      s.requires,
       (
-        (l.before.before.before.count_kept.ensures, l.before.before.count-full.ensures),
-        (l.before.same_index.ensures, (front, listed r)),
+        (l.count_kept-kept.ensures, l.count_full-full.ensures),
+        (l.same_index-indexed.ensures, (front, listed c.before.before.before.before)),
       ),
     )
 
-same_length : tie.Need-same-length
-same_length c = search rules
+shape_of-out-in-Refused : tie.Need-shape_of-out-in-Refused
+shape_of-out-in-Refused c = search rules
 
-returns-2 : tie.Need-returns-2
-returns-2 c =
-    let w = c.before in
-    let r = w.before.before.before.before in
-    let s = start_of (counted r) in
+returns-in-Refused : tie.Need-returns-in-Refused
+returns-in-Refused c =
+    let s = start_of (counted c.before.before.before) in
     let a = s.args in
-    ends-refused a.file.now a.n a.k a.out.now a.list.now s.pre (listed r) _ _
-    r.put-repaired.ensures.0 r.put-repaired.ensures.1 _ w.written.given.1
+    ends-refused a.file.now a.n a.k a.out.now a.list.now s.requires (listed c.before.before.before) _ _
+    c.put_repaired-written.ensures.0 c.put_repaired-written.ensures.1 _ c.in-Refused.is
 
-same-length-2 : tie.Need-same-length-2
-same-length-2 c = search rules
+shape_of-out-in-Done : tie.Need-shape_of-out-in-Done
+shape_of-out-in-Done c = search rules
 
-same-length-3 : tie.Need-same-length-3
-same-length-3 c = search rules
+shape_of-list : tie.Need-shape_of-list
+shape_of-list c = search rules
 
-returns-3 : tie.Need-returns-3
-returns-3 c =
-    let p = c.before.before in
-    let w = p.before.before.before.before in
-    let r = w.before.before.before.before in
-    let l = counted r in
+returns-in-Done : tie.Need-returns-in-Done
+returns-in-Done c =
+    let l = counted c.before.before.before.before.before.before.before in
     let s = start_of l in
     let a = s.args in
-    ends-done a.file.now a.n a.k a.out.now a.list.now s.pre (listed r) _ _
-    r.put-repaired.ensures.0 r.put-repaired.ensures.1 _ w.written2.given.1 _ p.put-lines.ensures
-    l.count-lines.result l.count-lines.ensures
+    ends-done a.file.now a.n a.k a.out.now a.list.now s.requires (listed c.before.before.before.before.before.before.before) _ _
+    c.put_repaired-written.ensures.0 c.put_repaired-written.ensures.1 _ c.in-Done.is _ c.put_lines.ensures
+    l.count_lines-lines.result l.count_lines-lines.ensures
 
-pub rebuild-spec : {M : Type 1} → statement M
-rebuild-spec =
+pub rebuild_spec : {M : Type 1} → statement M
+rebuild_spec =
     tie.close
     (tie.spec
-    count-kept-requires
-    count-full-requires
-    same-index-requires
-    count-lines-requires
-    mul-if1
-    refuse-repair-requires
-    returns
-    put-repaired-requires
-    enum-known-written
-    enum-known-written-2
-    put-lines-requires
-    same_length
-    returns-2
-    same-length-2
-    same-length-3
-    returns-3)
+    count_kept-kept-requires
+    count_full-full-requires
+    same_index-indexed-requires
+    count_lines-lines-requires
+    overflow_mul-lines
+    refuse_repair-requires
+    returns-then-list-lines
+    put_repaired-written-requires
+    enum_known-written
+    enum_known-written-in-Done-1
+    put_lines-requires
+    shape_of-out-in-Refused
+    returns-in-Refused
+    shape_of-out-in-Done
+    shape_of-list
+    returns-in-Done)

@@ -5,76 +5,72 @@ use borrow.Author.Rules.{rules}
 use Rattle.pciv_repair.proofs.repair.Statement.{statement}
 use Rattle.pciv_repair.proofs.repair.Tie as tie
 
-refuse-repair-requires : tie.Need-refuse-repair-requires
-refuse-repair-requires c κs = search rules
+refuse_repair-requires : tie.Need-refuse_repair-requires
+refuse_repair-requires c κs = search rules
 
-returns : tie.Need-returns
-returns c =
-    let a = c.before.before.before.before.before.args in
-    ends-many a.file.now a.n a.k a.out.now a.list.now _ c.refuse-repair.ensures c.before.if1.true
+returns-then-n-gt-MAX_SLOTS : tie.Need-returns-then-n-gt-MAX_SLOTS
+returns-then-n-gt-MAX_SLOTS c =
+    let a = c.args in
+    ends-many a.file.now a.n a.k a.out.now a.list.now _ c.refuse_repair.ensures c.if-n-gt-MAX_SLOTS.true
 
-refuse-repair-requires-2 : tie.Need-refuse-repair-requires-2
-refuse-repair-requires-2 c κs = search rules
+refuse_repair-requires-then-n-k : tie.Need-refuse_repair-requires-then-n-k
+refuse_repair-requires-then-n-k c κs = search rules
 
-returns-2 : tie.Need-returns-2
-returns-2 c =
-    let t = c.before in
-    let e = t.before in
-    let a = e.before.before.before.before.args in
-    ends-counts a.file.now a.n a.k a.out.now a.list.now (omega arith) _ c.refuse-repair2.ensures
-    t.if2.true
+returns-then-n-k : tie.Need-returns-then-n-k
+returns-then-n-k c =
+    let a = c.args in
+    ends-counts a.file.now a.n a.k a.out.now a.list.now (omega arith) _ c.refuse_repair-then-n-k.ensures
+    c.if-n-k.true
 
-add-if3 : tie.Need-overflow-add-if3
-add-if3 c = search rules
+overflow_add-n : tie.Need-overflow_add-n
+overflow_add-n c = search rules
 
-mul-if3 : tie.Need-overflow-mul-if3
-mul-if3 c = search rules
+overflow_mul-k : tie.Need-overflow_mul-k
+overflow_mul-k c = search rules
 
-add-if3-2 : tie.Need-overflow-add-if3-2
-add-if3-2 c = search rules
+overflow_add-n-2 : tie.Need-overflow_add-n-2
+overflow_add-n-2 c = search rules
 
-refuse-repair-requires-3 : tie.Need-refuse-repair-requires-3
-refuse-repair-requires-3 c κs = search rules
+refuse_repair-requires-then-file-n : tie.Need-refuse_repair-requires-then-file-n
+refuse_repair-requires-then-file-n c κs = search rules
 
-returns-3 : tie.Need-returns-3
-returns-3 c =
-    let t = c.before in
-    let a = t.before.before.before.before.before.before.args in
-    ends-short a.file.now a.n a.k a.out.now a.list.now (omega arith) _ c.refuse-repair3.ensures
-    (omega arith) t.if3.true
+returns-then-file-n : tie.Need-returns-then-file-n
+returns-then-file-n c =
+    let a = c.args in
+    ends-short a.file.now a.n a.k a.out.now a.list.now (omega arith) _ c.refuse_repair-then-file-n.ensures
+    (omega arith) c.if-file-n.true
 
 rebuild-requires : tie.Need-rebuild-requires
 rebuild-requires c κs =
-    let e = c.before.before in
     record {
       small = omega arith;
       few = omega arith;
-      inside = e.if3.false;
+      inside = c.if-file-n.false;
     }
 
-same_length : tie.Need-same-length
-same_length c = search rules
+shape_of-out : tie.Need-shape_of-out
+shape_of-out c = search rules
 
-same-length-2 : tie.Need-same-length-2
-same-length-2 c = search rules
+shape_of-list : tie.Need-shape_of-list
+shape_of-list c = search rules
 
-returns-4 : tie.Need-returns-4
-returns-4 c = search rules
+returns : tie.Need-returns
+returns c = search rules
 
-pub repair-spec : {M : Type 1} → statement M
-repair-spec =
+pub repair_spec : {M : Type 1} → statement M
+repair_spec =
     tie.close
     (tie.spec
-    refuse-repair-requires
-    returns
-    refuse-repair-requires-2
-    returns-2
-    add-if3
-    mul-if3
-    add-if3-2
-    refuse-repair-requires-3
-    returns-3
+    refuse_repair-requires
+    returns-then-n-gt-MAX_SLOTS
+    refuse_repair-requires-then-n-k
+    returns-then-n-k
+    overflow_add-n
+    overflow_mul-k
+    overflow_add-n-2
+    refuse_repair-requires-then-file-n
+    returns-then-file-n
     rebuild-requires
-    same_length
-    same-length-2
-    returns-4)
+    shape_of-out
+    shape_of-list
+    returns)

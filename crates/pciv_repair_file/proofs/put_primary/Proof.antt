@@ -7,56 +7,52 @@ use borrow.Author.Rules.{rules}
 use Rattle.pciv_repair_file.proofs.put_primary.Statement.{statement}
 use Rattle.pciv_repair_file.proofs.put_primary.Tie as tie
 
-add-copy-bytes : tie.Need-overflow-add-copy-bytes
-add-copy-bytes c = search rules
+overflow_add-n : tie.Need-overflow_add-n
+overflow_add-n c = search rules
 
-sub-copy-bytes : tie.Need-overflow-sub-copy-bytes
-sub-copy-bytes c = search rules
+slice_bounds-copy_bytes-count : tie.Need-slice_bounds-copy_bytes-count
+slice_bounds-copy_bytes-count c = search rules
 
-part-copy-bytes-start : tie.Need-slice-bounds-copy-bytes-start
-part-copy-bytes-start c = search rules
+slice_bounds-copy_bytes-start : tie.Need-slice_bounds-copy_bytes-start
+slice_bounds-copy_bytes-start c = search rules
 
-part-copy-bytes-end : tie.Need-slice-bounds-copy-bytes-end
-part-copy-bytes-end c = search rules
+slice_bounds-copy_bytes-end : tie.Need-slice_bounds-copy_bytes-end
+slice_bounds-copy_bytes-end c = search rules
 
-copy-bytes-requires : tie.Need-copy-bytes-requires
-copy-bytes-requires c κs = search rules
+copy_bytes-requires : tie.Need-copy_bytes-requires
+copy_bytes-requires c κs = search rules
 
-put-lowered-requires : tie.Need-put-lowered-requires
-put-lowered-requires c κs = search rules
+put_lowered-requires : tie.Need-put_lowered-requires
+put_lowered-requires c κs = search rules
 
-same_length : tie.Need-same-length
-same_length c = search rules
+shape_of-out-then-full-kept : tie.Need-shape_of-out-then-full-kept
+shape_of-out-then-full-kept c = search rules
 
-returns : tie.Need-returns
-returns c =
-    let y = c.before.before in
-    let t = y.before.before.before in
-    let q = t.before.before in
-    let s = q.before in
-    let a = s.args in
-    y.copy-bytes.ensures
+returns-then-full-kept : tie.Need-returns-then-full-kept
+returns-then-full-kept c =
+    let a = c.args in
+    c.copy_bytes.ensures
     ∙ ap (sets a.out.now 40)
-    (primary-copy a.file.now a.n a.k (λ i. (q.shared-slice-known.given i).fits) (omega (arith, s.requires.0.inside))
-    (sym s.requires.1.0.1 ∙ t.if1.true ∙ s.requires.1.0.0))
+    (primary-copy a.file.now a.n a.k (λ i. (c.shared_slice_known-1.given i).fits) (omega (arith, c.requires.0.inside))
+    (sym c.requires.1.0.1 ∙ c.if-full-kept.true ∙ c.requires.1.0.0))
 
-same-length-2 : tie.Need-same-length-2
-same-length-2 c = search rules
+shape_of-out-else-full-kept : tie.Need-shape_of-out-else-full-kept
+shape_of-out-else-full-kept c = search rules
 
-returns-2 : tie.Need-returns-2
-returns-2 c = search rules
+returns-else-full-kept : tie.Need-returns-else-full-kept
+returns-else-full-kept c = search rules
 
-pub put-primary-spec : {M : Type 1} → statement M
-put-primary-spec =
+pub put_primary_spec : {M : Type 1} → statement M
+put_primary_spec =
     tie.close
     (tie.spec
-    add-copy-bytes
-    sub-copy-bytes
-    part-copy-bytes-start
-    part-copy-bytes-end
-    copy-bytes-requires
-    put-lowered-requires
-    same_length
-    returns
-    same-length-2
-    returns-2)
+    overflow_add-n
+    slice_bounds-copy_bytes-count
+    slice_bounds-copy_bytes-start
+    slice_bounds-copy_bytes-end
+    copy_bytes-requires
+    put_lowered-requires
+    shape_of-out-then-full-kept
+    returns-then-full-kept
+    shape_of-out-else-full-kept
+    returns-else-full-kept)

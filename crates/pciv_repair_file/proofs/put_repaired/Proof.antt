@@ -19,138 +19,121 @@ use Rattle.pciv_repair_file.proofs.put_repaired.Tie as tie
 abbrev distances : tie.Start → ℕ → ℕ
 distances c = let a = c.args in repaired_at a.file.now a.n a.k
 
-bytes : (c : tie.After-shared-slice-known) → Bytes c.before.args.file.now
-bytes c i = (c.shared-slice-known.given i).fits
+bytes : (c : tie.After-shared_slice_known-1) → Bytes c.args.file.now
+bytes c i = (c.shared_slice_known-1.given i).fits
 
-count : (c : tie.After-shared-slice-known)
-    → (let s = c.before in s.args.kept ≡ overflow_count s.args.n (distances s))
+count : (c : tie.After-shared_slice_known-1)
+    → (c.args.kept ≡ overflow_count c.args.n (distances c.before))
 count c =
-    let s = c.before in
-    let a = s.args in
-    s.requires.1.0 ∙ sym (repaired-count a.file.now a.n a.k (bytes c))
+    let a = c.args in
+    c.requires.1.0 ∙ sym (repaired-count a.file.now a.n a.k (bytes c))
 
 -- from after `begin`
-abbrev known : tie.After-begin → tie.After-shared-slice-known
+abbrev known : tie.After-begin-begun → tie.After-shared_slice_known-1
 known c = c.before.before.before
 
-abbrev entry : tie.After-begin → tie.Start
+abbrev entry : tie.After-begin-begun → tie.Start
 entry c = (known c).before
 
-opened : (b : tie.After-begin)
+opened : (b : tie.After-begin-begun)
     → (let s = entry b in
     let a = s.args in
     Opened a.n a.kept (distances s) (file_into a.n (distances s) (length a.out.now)) a.out.now
-    b.begin.result b.begin.new.0)
+    b.begin-begun.result b.begin-begun.new.out)
 opened b =
     let s = entry b in
     let a = s.args in
     record {
-      few = s.pre.0.small;
+      few = s.requires.0.small;
       each = repaired-le a.file.now a.n a.k (bytes (known b));
       count = count (known b);
       into = refl;
-      answer = b.begin.ensures.0;
-      buffer = b.begin.ensures.1;
+      answer = b.begin-begun.ensures.0;
+      buffer = b.begin-begun.ensures.1;
     }
 
 -- the primary array and the entries are written
-abbrev start_of : tie.After-put-primary → tie.After-begin
-start_of c = c.before.before.before.before.before.before.before
+abbrev start_of : tie.After-put_primary → tie.After-begin-begun
+start_of c = c.before.before.before.before.before
 
-primary-put : (y : tie.After-put-primary)
+primary-put : (y : tie.After-put_primary)
     → (let s = entry (start_of y) in
-    y.put-primary.new.1.1.1.1.1.0 ≡ sets (start_of y).begin.new.0 40 (primary s.args.n (distances s)))
+    y.put_primary.new.out ≡ sets (start_of y).begin-begun.new.out 40 (primary s.args.n (distances s)))
 primary-put y =
     let b = start_of y in
     let a = (entry b).args in
-    y.put-primary.ensures
-    ∙ ap (sets b.begin.last.0 40) (sym (repaired-primary a.file.now a.n a.k (bytes (known b))))
+    y.put_primary.ensures
+    ∙ ap (sets b.begin-begun.new.out 40) (sym (repaired-primary a.file.now a.n a.k (bytes (known b))))
 
-entries-put : (p : tie.After-put-kept)
-    → (let y = p.before.before.before.before in
-    let s = entry (start_of y) in
-    p.put-kept.new.1.1.1.1.0
-    ≡ sets y.put-primary.new.1.1.1.1.1.0 (40 + s.args.n) (overflow_part s.args.n (distances s)))
+entries-put : (p : tie.After-put_kept)
+    → (let s = entry (start_of p.before.before.before.before) in
+    p.put_kept.new.out
+    ≡ sets p.put_primary.new.out (40 + s.args.n) (overflow_part s.args.n (distances s)))
 entries-put p =
-    let y = p.before.before.before.before in
-    let b = start_of y in
+    let b = start_of p.before.before.before.before in
     let a = (entry b).args in
-    p.put-kept.ensures
-    ∙ ap (sets y.put-primary.new.1.1.1.1.1.0 (40 + a.n))
+    p.put_kept.ensures
+    ∙ ap (sets p.put_primary.new.out (40 + a.n))
     (sym (repaired-entries a.file.now a.n a.k (bytes (known b))))
 
-begin-requires : tie.Need-begin-requires
-begin-requires c κs =
-    let q = c.before.before in
-    let s = q.before in
-    begin-few s.args.n s.args.kept (distances s) s.requires.0.small (count q)
+begin-begun-requires : tie.Need-begin-begun-requires
+begin-begun-requires c κs =
+    begin-few c.args.n c.args.kept (distances c.before.before.before) c.requires.0.small (count c.before.before)
 
-enum-known-begun : tie.Need-enum-known-begun
-enum-known-begun c = search rules
+enum_known-begun : tie.Need-enum_known-begun
+enum_known-begun c = search rules
 
-enum-known-begun-2 : tie.Need-enum-known-begun-2
-enum-known-begun-2 c = search rules
+enum_known-begun-in-Counted-1 : tie.Need-enum_known-begun-in-Counted-1
+enum_known-begun-in-Counted-1 c = search rules
 
-put-primary-requires : tie.Need-put-primary-requires
-put-primary-requires c κs =
-    let o = c.before.before in
-    let b = o.before.before.before.before in
+put_primary-requires : tie.Need-put_primary-requires
+put_primary-requires c κs =
+    let s = entry c.before.before.before.before in
+    (s.requires.0, (s.requires.1, omega (arith, opened-space (opened c.before.before.before.before) _ c.in-Counted.is)))
+
+put_kept-requires : tie.Need-put_kept-requires
+put_kept-requires c κs =
+    let b = start_of c.before.before.before in
     let s = entry b in
-    (s.pre.0, (s.pre.1, omega (arith, opened-space (opened b) _ o.begun2.given.1)))
-
-put-kept-requires : tie.Need-put-kept-requires
-put-kept-requires c κs =
-    let y = c.before.before.before in
-    let b = start_of y in
-    let s = entry b in
-    let room = (opened-entries (opened b) _ y.before.before.before.begun2.given.1 _ (primary-put y)).1 in
-    (s.pre.0, (s.pre.1.0, room))
+    let room = (opened-entries (opened b) _ c.in-Counted.is _ (primary-put c.before.before.before)).1 in
+    (s.requires.0, (s.requires.1.0, room))
 
 finish-requires : tie.Need-finish-requires
 finish-requires c κs =
-    let p = c.before.before.before in
-    let y = p.before.before.before.before in
-    opened-finish (opened (start_of y)) _ y.before.before.before.begun2.given.1 _ (primary-put y) _ (entries-put p)
+    opened-finish (opened (start_of c.before.before.before.before.before.before.before)) _ c.in-Counted.is _ (primary-put c.before.before.before.before.before.before.before) _ (entries-put c.before.before.before)
 
-summary-of-requires : tie.Need-summary-of-requires
-summary-of-requires c κs =
-    let f = c.before.before.before in
-    let p = f.before.before.before.before in
-    let y = p.before.before.before.before in
-    opened_map (opened (start_of y)) _ y.before.before.before.begun2.given.1 _ (primary-put y) _ (entries-put p)
-    _ f.finish.ensures
+summary_of-requires : tie.Need-summary_of-requires
+summary_of-requires c κs =
+    opened_map (opened (start_of c.before.before.before.before.before.before.before.before.before.before)) _ c.in-Counted.is _ (primary-put c.before.before.before.before.before.before.before.before.before.before) _ (entries-put c.before.before.before.before.before.before)
+    _ c.finish.ensures
 
-same_length : tie.Need-same-length
-same_length c = search rules
+shape_of-out-in-Refused : tie.Need-shape_of-out-in-Refused
+shape_of-out-in-Refused c = search rules
 
-returns : tie.Need-returns
-returns c =
-    let u = c.before in
-    opened-refused (opened u.before.before.before.before) _ u.begun.given.1
+returns-in-Refused : tie.Need-returns-in-Refused
+returns-in-Refused c =
+    opened-refused (opened c.before.before.before) _ c.in-Refused.is
 
-same-length-2 : tie.Need-same-length-2
-same-length-2 c = search rules
+shape_of-out-in-Counted : tie.Need-shape_of-out-in-Counted
+shape_of-out-in-Counted c = search rules
 
-returns-2 : tie.Need-returns-2
-returns-2 c =
-    let f = c.before.before.before.before in
-    let p = f.before.before.before.before in
-    let y = p.before.before.before.before in
-    opened-done (opened (start_of y)) _ y.before.before.before.begun2.given.1 _ (primary-put y) _ (entries-put p)
-    _ f.finish.ensures _ c.summary-of.ensures
+returns-in-Counted : tie.Need-returns-in-Counted
+returns-in-Counted c =
+    opened-done (opened (start_of c.before.before.before.before.before.before.before.before.before.before.before)) _ c.in-Counted.is _ (primary-put c.before.before.before.before.before.before.before.before.before.before.before) _ (entries-put c.before.before.before.before.before.before.before)
+    _ c.finish.ensures _ c.summary_of.ensures
 
-pub put-repaired-spec : {M : Type 1} → statement M
-put-repaired-spec =
+pub put_repaired_spec : {M : Type 1} → statement M
+put_repaired_spec =
     tie.close
     (tie.spec
-    begin-requires
-    enum-known-begun
-    enum-known-begun-2
-    put-primary-requires
-    put-kept-requires
+    begin-begun-requires
+    enum_known-begun
+    enum_known-begun-in-Counted-1
+    put_primary-requires
+    put_kept-requires
     finish-requires
-    summary-of-requires
-    same_length
-    returns
-    same-length-2
-    returns-2)
+    summary_of-requires
+    shape_of-out-in-Refused
+    returns-in-Refused
+    shape_of-out-in-Counted
+    returns-in-Counted)

@@ -9,26 +9,25 @@ use Rattle.pciv_format.specs.declared.NumberAnswer.TheVariants as InNumber
 use Rattle.pciv_report.proofs.deliver.Statement.{statement}
 use Rattle.pciv_report.proofs.deliver.Tie as tie
 
-returns : tie.Need-returns
-returns c =
-    let short = lt-ltb _ _ c.if1.true in
+returns-then-out-text : tie.Need-returns-then-out-text
+returns-then-out-text c =
+    let short = lt-ltb _ _ c.if-out-text.true in
     (simp short, simp short)
 
-put-word-requires : tie.Need-put-word-requires
-put-word-requires c κs = search rules
+put_word-requires : tie.Need-put_word-requires
+put_word-requires c κs = search rules
 
-same_length : tie.Need-same-length
-same_length c = search rules
+shape_of-out : tie.Need-shape_of-out
+shape_of-out c = search rules
 
-returns-2 : tie.Need-returns-2
-returns-2 c =
-    let put = c.before.before.put_word.ensures in
-    let before = c.before.before.before.before in
-    let a = before.before.before.before.args in
-    let space = le-ltb _ _ before.if1.false in
-    let len : c.before.before.put_word.result ≡ length a.text.now = omega (arith, put.next) in
-    let front = sets-front a.text.now a.out.now before.if1.false in
+returns : tie.Need-returns
+returns c =
+    let put = c.put_word.ensures in
+    let a = c.args in
+    let space = le-ltb _ _ c.if-out-text.false in
+    let len : c.put_word.result ≡ length a.text.now = omega (arith, put.next) in
+    let front = sets-front a.text.now a.out.now c.if-out-text.false in
     (simp space (ap InNumber.Number len), simp space (put.bytes ∙ front))
 
-pub deliver-spec : {M : Type 1} → statement M
-deliver-spec = tie.close (tie.spec returns put-word-requires same_length returns-2)
+pub deliver_spec : {M : Type 1} → statement M
+deliver_spec = tie.close (tie.spec returns-then-out-text put_word-requires shape_of-out returns)

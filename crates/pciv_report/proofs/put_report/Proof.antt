@@ -9,88 +9,77 @@ use Rattle.pciv_report.proofs.TextLaws.{report_text-done}
 use Rattle.pciv_report.proofs.put_report.Statement.{statement}
 use Rattle.pciv_report.proofs.put_report.Tie as tie
 
-put-refusal-requires : tie.Need-put-refusal-requires
-put-refusal-requires c κs = search rules
+put_refusal-requires : tie.Need-put_refusal-requires
+put_refusal-requires c κs = search rules
 
-same_length : tie.Need-same-length
-same_length c = search rules
+shape_of-out-then-input-gt-MAX_INPUT : tie.Need-shape_of-out-then-input-gt-MAX_INPUT
+shape_of-out-then-input-gt-MAX_INPUT c = search rules
 
-returns : tie.Need-returns
-returns c =
-    let put = c.before.before in
-    let test = put.before.before in
-    let input = test.before.before.before.args.input.now in
-    (rw (report_text-long input test.if1.true) put.put-refusal.ensures.0, search rules)
+returns-then-input-gt-MAX_INPUT : tie.Need-returns-then-input-gt-MAX_INPUT
+returns-then-input-gt-MAX_INPUT c =
+    let input = c.args.input.now in
+    (rw (report_text-long input c.if-input-gt-MAX_INPUT.true) c.put_refusal.ensures.0, search rules)
 
 check-requires : tie.Need-check-requires
 check-requires c κs = search rules
 
-enum-known-s : tie.Need-enum-known-s
-enum-known-s c = search rules
+enum_known-s : tie.Need-enum_known-s
+enum_known-s c = search rules
 
 readings-requires : tie.Need-readings-requires
 readings-requires c κs = search rules
 
-number-of-requires : tie.Need-number-of-requires
-number-of-requires c κs = search rules
+number_of-requires : tie.Need-number_of-requires
+number_of-requires c κs = search rules
 
-put-map-requires : tie.Need-put-map-requires
-put-map-requires c κs = search rules
+put_map-requires : tie.Need-put_map-requires
+put_map-requires c κs = search rules
 
-enum-known-r : tie.Need-enum-known-r
-enum-known-r c = search rules
+enum_known-r : tie.Need-enum_known-r
+enum_known-r c = search rules
 
-put-refusal-requires-2 : tie.Need-put-refusal-requires-2
-put-refusal-requires-2 c κs = search rules
+put_refusal-requires-in-Refused : tie.Need-put_refusal-requires-in-Refused
+put_refusal-requires-in-Refused c κs = search rules
 
-same-length-2 : tie.Need-same-length-2
-same-length-2 c = search rules
+shape_of-out-in-Done : tie.Need-shape_of-out-in-Done
+shape_of-out-in-Done c = search rules
 
-returns-2 : tie.Need-returns-2
-returns-2 c =
-    let put = c.before.before in
-    let counted = put.before in
-    let matched = counted.before.before.before.before in
-    let checked = matched.before.before in
-    let test = checked.before in
-    let s = matched.s.given.0.0 in
-    let input = test.before.before.before.args.input.now in
-    let answer = sym matched.s.given.1 ∙ checked.check.ensures in
+returns-in-Done : tie.Need-returns-in-Done
+returns-in-Done c =
+    let s = c.in-Done.s in
+    let input = c.args.input.now in
+    let answer = sym c.in-Done.is ∙ c.check.ensures in
     let good = file_answer-done (check_file 1 input) s answer in
-    let count = counted.number_of_lem.ensures ∙ ap number_of counted.before.readings.ensures in
-    let text = report_text-done input s test.if1.false good in
-    (rw (text, ← count) put.put_map.ensures.0, search rules)
+    let count = c.number_of.ensures ∙ ap number_of c.readings.ensures in
+    let text = report_text-done input s c.if-input-gt-MAX_INPUT.false good in
+    (rw (text, ← count) c.put_map.ensures.0, search rules)
 
-same-length-3 : tie.Need-same-length-3
-same-length-3 c = search rules
+shape_of-out-in-Refused : tie.Need-shape_of-out-in-Refused
+shape_of-out-in-Refused c = search rules
 
-returns-3 : tie.Need-returns-3
-returns-3 c =
-    let put = c.before.before in
-    let matched = put.before.before.before in
-    let checked = matched.before.before in
-    let test = checked.before in
-    let r = matched.r.given.0.0 in
-    let input = test.before.before.before.args.input.now in
-    let answer = sym matched.r.given.1 ∙ checked.check.ensures in
+returns-in-Refused : tie.Need-returns-in-Refused
+returns-in-Refused c =
+    let r = c.in-Refused.r in
+    let input = c.args.input.now in
+    let answer = sym c.in-Refused.is ∙ c.check.ensures in
     let bad = file_answer-refused (check_file 1 input) r answer in
-    (rw (report_text-refused input r test.if1.false bad) put.put-refusal2.ensures.0, search rules)
+    (rw (report_text-refused input r c.if-input-gt-MAX_INPUT.false bad) c.put_refusal-in-Refused.ensures.0, search rules)
 
-pub put-report-spec : {M : Type 1} → statement M
-put-report-spec =
+pub put_report_spec : {M : Type 1} → statement M
+put_report_spec =
     tie.close
     (tie.spec
-    put-refusal-requires
-    same_length
-    returns
+    put_refusal-requires
+    shape_of-out-then-input-gt-MAX_INPUT
+    returns-then-input-gt-MAX_INPUT
     check-requires
-    enum-known-s
+    enum_known-s
     readings-requires
-    number-of-requires
-    put-map-requires
-    enum-known-r
-    put-refusal-requires-2
-    same-length-2
-    returns-2
-    same-length-3
-    returns-3)
+    number_of-requires
+    put_map-requires
+    enum_known-r
+    put_refusal-requires-in-Refused
+    shape_of-out-in-Done
+    returns-in-Done
+    shape_of-out-in-Refused
+    returns-in-Refused)

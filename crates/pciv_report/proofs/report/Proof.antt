@@ -7,42 +7,40 @@ use Rattle.pciv_report.proofs.TextLaws.{put_front}
 use Rattle.pciv_report.proofs.report.Statement.{statement}
 use Rattle.pciv_report.proofs.report.Tie as tie
 
-slice-aggregate-put-report : tie.Need-slice-aggregate-put-report
-slice-aggregate-put-report c = search rules
+slice_bounds-put_report-end : tie.Need-slice_bounds-put_report-end
+slice_bounds-put_report-end c = search rules
 
-put-report-requires : tie.Need-put-report-requires
-put-report-requires c κs = search rules
+put_report-len-requires : tie.Need-put_report-len-requires
+put_report-len-requires c κs = search rules
 
-array-share-prefix-text : tie.Need-array-share-prefix-text
-array-share-prefix-text c = search rules
+slice_bounds-text-end : tie.Need-slice_bounds-text-end
+slice_bounds-text-end c = search rules
 
-slice-aggregate-deliver : tie.Need-slice-aggregate-deliver
-slice-aggregate-deliver c =
-    let made = c.before.before.put-report in
-    sym (length-take-le made.result made.new.0 (search rules))
+slice_bounds-deliver-end : tie.Need-slice_bounds-deliver-end
+slice_bounds-deliver-end c =
+    let made = c.put_report-len in
+    sym (length-take-le made.result made.new.out (search rules))
 
 deliver-requires : tie.Need-deliver-requires
 deliver-requires c κs = search rules
 
-same_length : tie.Need-same-length
-same_length c = search rules
+shape_of-out : tie.Need-shape_of-out
+shape_of-out c = search rules
 
 returns : tie.Need-returns
 unfolding report_outcome report_buffer
 returns c =
-    let sent = c.before.before in
-    let made = sent.before.before.before.before in
-    let front = put_front made.put-report.ensures.0 (search rules) in
-    (rw front at sent.deliver.ensures.0, rw front at sent.deliver.ensures.1)
+    let front = put_front c.put_report-len.ensures.0 (search rules) in
+    (rw front at c.deliver.ensures.0, rw front at c.deliver.ensures.1)
 
-pub report-spec : {M : Type 1} → statement M
-report-spec =
+pub report_spec : {M : Type 1} → statement M
+report_spec =
     tie.close
     (tie.spec
-    slice-aggregate-put-report
-    put-report-requires
-    array-share-prefix-text
-    slice-aggregate-deliver
+    slice_bounds-put_report-end
+    put_report-len-requires
+    slice_bounds-text-end
+    slice_bounds-deliver-end
     deliver-requires
-    same_length
+    shape_of-out
     returns)

@@ -5,23 +5,31 @@ use borrow.Author.Rules.{rules}
 use Rattle.pciv_slot.proofs.above_count.Statement.{statement}
 use Rattle.pciv_slot.proofs.above_count.Tie as tie
 
-cast-if1 : tie.Need-overflow-cast-if1
-cast-if1 c = search rules
+overflow_cast-t-4 : tie.Need-overflow_cast-t-4
+overflow_cast-t-4 c = search rules
 
-sub-result : tie.Need-overflow-sub-result
-sub-result c = omega (arith, c.before.requires.0 c.if1.true)
+overflow_sub-result : tie.Need-overflow_sub-result
+overflow_sub-result c = omega (arith, c.requires.0 c.if-distance.true)
 
-sub-result-2 : tie.Need-overflow-sub-result-2
-sub-result-2 c = omega (arith, c.before.requires.0 c.if1.true)
+overflow_sub-result-then-distance : tie.Need-overflow_sub-result-then-distance
+overflow_sub-result-then-distance c = omega (arith, c.requires.0 c.if-distance.true)
+
+returns-then-distance : tie.Need-returns-then-distance
+returns-then-distance c = rw (lt-ltb _ 255 c.if-distance.true)
+
+overflow_sub-result-2 : tie.Need-overflow_sub-result-2
+overflow_sub-result-2 c = omega (arith, c.requires.1 c.if-distance.false)
 
 returns : tie.Need-returns
-returns c = rw (lt-ltb _ 255 c.if1.true)
+returns c = rw (le-ltb _ 255 c.if-distance.false)
 
-sub-result-3 : tie.Need-overflow-sub-result-3
-sub-result-3 c = omega (arith, c.before.requires.1 c.if1.false)
-
-returns-2 : tie.Need-returns-2
-returns-2 c = rw (le-ltb _ 255 c.if1.false)
-
-pub above-count-spec : {M : Type 1} → statement M
-above-count-spec = tie.close (tie.spec cast-if1 sub-result sub-result-2 returns sub-result-3 returns-2)
+pub above_count_spec : {M : Type 1} → statement M
+above_count_spec =
+    tie.close
+    (tie.spec
+    overflow_cast-t-4
+    overflow_sub-result
+    overflow_sub-result-then-distance
+    returns-then-distance
+    overflow_sub-result-2
+    returns)

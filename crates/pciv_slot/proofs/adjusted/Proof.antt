@@ -5,14 +5,14 @@ use borrow.Author.Rules.{rules}
 use Rattle.pciv_slot.proofs.adjusted.Statement.{statement}
 use Rattle.pciv_slot.proofs.adjusted.Tie as tie
 
-sub-result : tie.Need-overflow-sub-result
-sub-result c = search rules
+overflow_sub-result : tie.Need-overflow_sub-result
+overflow_sub-result c = search rules
 
-add-result : tie.Need-overflow-add-result
-add-result c = omega (arith, c.requires, c.ranges.distance)
+overflow_add-result : tie.Need-overflow_add-result
+overflow_add-result c = omega (arith, c.requires, c.ranges.distance)
 
 returns : tie.Need-returns
 returns c = refl
 
-pub adjusted-spec : {M : Type 1} → statement M
-adjusted-spec = tie.close (tie.spec sub-result add-result returns)
+pub adjusted_spec : {M : Type 1} → statement M
+adjusted_spec = tie.close (tie.spec overflow_sub-result overflow_add-result returns)

@@ -9,18 +9,17 @@ use borrow.Author.Rules.{rules}
 use Rattle.pciv_slot.proofs.edited.Statement.{statement}
 use Rattle.pciv_slot.proofs.edited.Tie as tie
 
-counts-of-requires : tie.Need-counts-of-requires
-counts-of-requires c κs = search rules
+counts_of-requires : tie.Need-counts_of-requires
+counts_of-requires c κs = search rules
 
 summarized-requires : tie.Need-summarized-requires
 summarized-requires c κs = search rules
 
 returns : tie.Need-returns
 returns c =
-    let counted = c.before in
-    let a = counted.before.args in
+    let a = c.args in
     ap (λ (s : Summary). edit_answer (done s) a.moved)
-    (c.summarized.ensures ∙ ap (λ (z : Counts). summarize z a.sum) counted.Counts-of.ensures)
+    (c.summarized.ensures ∙ ap (λ (z : Counts). summarize z a.sum) c.counts_of.ensures)
 
-pub edited-spec : {M : Type 1} → statement M
-edited-spec = tie.close (tie.spec counts-of-requires summarized-requires returns)
+pub edited_spec : {M : Type 1} → statement M
+edited_spec = tie.close (tie.spec counts_of-requires summarized-requires returns)

@@ -11,44 +11,47 @@ use Rattle.pciv_slot.proofs.old_distance.Statement.{statement}
 use Rattle.pciv_slot.proofs.old_distance.Tie as tie
 
 -- the slot is in overflow
-full : (c : tie.Else1) → (let a = c.before.before.before.args in
+full : (c : tie.Else-byte-lt-SENTINEL) → (let a = c.args in
     (file_parts a.buffer.now a.n a.k).byte a.slot ≡ 255)
-full c = omega (arith, c.before.shared-slice-known2.given (40 + c.before.before.before.args.slot))
+full c = omega (arith, c.shared_slice_known-2-1.given (40 + c.args.slot))
 
-add-byte : tie.Need-overflow-add-byte
-add-byte c = search rules
+overflow_add-byte : tie.Need-overflow_add-byte
+overflow_add-byte c = search rules
 
-shared-slice-read-byte : tie.Need-shared-slice-read-byte
-shared-slice-read-byte c =
-    let p = c.before.before.requires.0 in
+bounds-buffer-slot : tie.Need-bounds-buffer-slot
+bounds-buffer-slot c =
+    let p = c.requires.0 in
     omega (arith, p.inside, primary-inside _ _ _ p.checked)
 
-cast-result : tie.Need-overflow-cast-result
-cast-result c = search rules
+overflow_cast-result : tie.Need-overflow_cast-result
+overflow_cast-result c = search rules
+
+returns-then-byte-lt-SENTINEL : tie.Need-returns-then-byte-lt-SENTINEL
+returns-then-byte-lt-SENTINEL c =
+    sym (value_of-inline _ c.requires.0.checked.parts c.args.slot (omega arith))
+
+entry_distance-requires : tie.Need-entry_distance-requires
+entry_distance-requires c κs =
+    let p = c.requires.0 in
+    let entry = value_of-entry _ p.checked.parts c.args.slot p.inside (full c) in
+    entry-inside _ _ _ p.checked _ (omega (arith, entry.0, c.requires.1))
 
 returns : tie.Need-returns
 returns c =
-    let start = c.before.before.before in
-    sym (value_of-inline _ start.requires.0.checked.parts start.args.slot (omega arith))
-
-entry-distance-requires : tie.Need-entry-distance-requires
-entry-distance-requires c κs =
-    let start = c.before.before.before in
-    let p = start.requires.0 in
-    let entry = value_of-entry _ p.checked.parts start.args.slot p.inside (full c) in
-    entry-inside _ _ _ p.checked _ (omega (arith, entry.0, start.requires.1))
-
-returns-2 : tie.Need-returns-2
-returns-2 c =
-    let start = c.before.before.before.before in
-    let a = start.args in
+    let a = c.args in
     let P = file_parts a.buffer.now a.n a.k in
-    let p = start.requires.0 in
-    c.entry-distance.ensures
-    ∙ ap (λ (j : ℕ). P.distance j) start.requires.1
+    let p = c.requires.0 in
+    c.entry_distance.ensures
+    ∙ ap (λ (j : ℕ). P.distance j) c.requires.1
     ∙ sym (value_of-entry P p.checked.parts a.slot p.inside (full c.before)).1
 
-pub old-distance-spec : {M : Type 1} → statement M
-old-distance-spec =
+pub old_distance_spec : {M : Type 1} → statement M
+old_distance_spec =
     tie.close
-    (tie.spec add-byte shared-slice-read-byte cast-result returns entry-distance-requires returns-2)
+    (tie.spec
+    overflow_add-byte
+    bounds-buffer-slot
+    overflow_cast-result
+    returns-then-byte-lt-SENTINEL
+    entry_distance-requires
+    returns)

@@ -16,8 +16,8 @@ use borrow.Author.Rules.{rules}
 use Rattle.pciv_slot.proofs.stay_inline.Statement.{statement}
 use Rattle.pciv_slot.proofs.stay_inline.Tie as tie
 
-bytes : (c : tie.After-slice-known) → Bytes c.before.args.buffer.now
-bytes c i = (c.slice-known.given i).fits
+bytes : (c : tie.After-slice_known-1) → Bytes c.args.buffer.now
+bytes c i = (c.slice_known-1.given i).fits
 
 abbrev the-edit : tie.Start → Edit
 the-edit s = record { slot = s.args.slot; distance = s.args.distance }
@@ -26,38 +26,35 @@ inside : (s : tie.Start) → 40 + s.args.slot < 40 + s.args.n
 inside s = omega (arith, s.requires.0.inside)
 
 -- the sum, adjusted by the slot's byte
-adjusts : (c : tie.After-slice-known)
-    → (let a = c.before.args in
+adjusts : (c : tie.After-slice_known-1)
+    → (let a = c.args in
     let old = get_or a.buffer.now (40 + a.slot) 0 in
     (old ≤ a.sum) × (a.sum < 2 ^ 52)
     × (a.sum - old + a.distance ≡ total (edited (held a.buffer.now) (the-edit c.before))))
 adjusts c =
-    let s = c.before in
-    let a = s.args in
-    sum-after a.buffer.now a.n a.k (bytes c) (the-edit s) s.requires.0 a.sum _ s.requires.1.1
-    (sym (value_of-inline _ s.requires.0.checked.parts a.slot s.requires.1.0.0))
+    let a = c.args in
+    sum-after a.buffer.now a.n a.k (bytes c) (the-edit c.before) c.requires.0 a.sum _ c.requires.1.1
+    (sym (value_of-inline _ c.requires.0.checked.parts a.slot c.requires.1.0.0))
 
-add-old : tie.Need-overflow-add-old
-add-old c = search rules
+overflow_add-old : tie.Need-overflow_add-old
+overflow_add-old c = search rules
 
-slice-read-old : tie.Need-slice-read-old
-slice-read-old c =
-    let s = c.before.before in
-    omega (arith, inside s, s.requires.0.checked.fits, file_len-is s.args.n s.args.k)
+bounds-buffer-slot : tie.Need-bounds-buffer-slot
+bounds-buffer-slot c =
+    omega (arith, inside c.before.before, c.requires.0.checked.fits, file_len-is c.args.n c.args.k)
 
-cast-old : tie.Need-overflow-cast-old
-cast-old c = omega (arith, c.before.before.requires.1.0.0)
+overflow_cast-old : tie.Need-overflow_cast-old
+overflow_cast-old c = omega (arith, c.requires.1.0.0)
 
-cast-buffer : tie.Need-overflow-cast-buffer
-cast-buffer c = search rules
+overflow_cast-buffer : tie.Need-overflow_cast-buffer
+overflow_cast-buffer c = search rules
 
-add-buffer : tie.Need-overflow-add-buffer
-add-buffer c = search rules
+overflow_add-buffer : tie.Need-overflow_add-buffer
+overflow_add-buffer c = search rules
 
-slice-write-buffer : tie.Need-slice-write-buffer
-slice-write-buffer c =
-    let s = c.before.before in
-    omega (arith, inside s, s.requires.0.checked.fits, file_len-is s.args.n s.args.k)
+bounds-buffer-slot-2 : tie.Need-bounds-buffer-slot-2
+bounds-buffer-slot-2 c =
+    omega (arith, inside c.before.before, c.requires.0.checked.fits, file_len-is c.args.n c.args.k)
 
 adjusted-requires : tie.Need-adjusted-requires
 adjusted-requires c κs = let q = adjusts c.before in (q.0, q.1)
@@ -65,35 +62,32 @@ adjusted-requires c κs = let q = adjusts c.before in (q.0, q.1)
 stayed-requires : tie.Need-stayed-requires
 stayed-requires c κs = search rules
 
-same_length : tie.Need-same-length
-same_length c = search rules
+shape_of-buffer : tie.Need-shape_of-buffer
+shape_of-buffer c = search rules
 
 returns : tie.Need-returns
 returns c =
-    let adjusted = c.before in
-    let known = adjusted.before.before in
-    let s = known.before in
-    let a = s.args in
+    let a = c.args in
     let is =
-    stays-inline a.buffer.now a.n a.k (bytes known) (the-edit s) s.requires.0 s.requires.1.0.0
-    s.requires.1.0.1 in
-    let sum = adjusted.adjusted.ensures ∙ (adjusts known).2 in (
+    stays-inline a.buffer.now a.n a.k (bytes c.before.before.before) (the-edit c.before.before.before.before) c.requires.0 c.requires.1.0.0
+    c.requires.1.0.1 in
+    let sum = c.adjusted.ensures ∙ (adjusts c.before.before.before).2 in (
       c.stayed.ensures
           ∙ ap₂ edit_answer (ap (λ (x : ℕ). done (summarize (counts_of a.n a.k) x)) sum ∙ sym is.0) (sym is.1),
       sym is.2,
     )
 
-pub stay-inline-spec : {M : Type 1} → statement M
-stay-inline-spec =
+pub stay_inline_spec : {M : Type 1} → statement M
+stay_inline_spec =
     tie.close
     (tie.spec
-    add-old
-    slice-read-old
-    cast-old
-    cast-buffer
-    add-buffer
-    slice-write-buffer
+    overflow_add-old
+    bounds-buffer-slot
+    overflow_cast-old
+    overflow_cast-buffer
+    overflow_add-buffer
+    bounds-buffer-slot-2
     adjusted-requires
     stayed-requires
-    same_length
+    shape_of-buffer
     returns)

@@ -9,5 +9,5 @@ edited-requires c κs = search rules
 returns : tie.Need-returns
 returns c = c.edited.ensures
 
-pub stayed-spec : {M : Type 1} → statement M
-stayed-spec = tie.close (tie.spec edited-requires returns)
+pub stayed_spec : {M : Type 1} → statement M
+stayed_spec = tie.close (tie.spec edited-requires returns)

@@ -10,62 +10,62 @@ use borrow.Author.Rules.{rules}
 use Rattle.pciv_write.proofs.count_overflow.Statement.{statement}
 use Rattle.pciv_write.proofs.count_overflow.Tie as tie
 
-abbrev invariant-loop : tie.invariant-loop
-invariant-loop distances count₀ i₀ count i =
+abbrev invariant-loop-i : tie.invariant-loop-i
+invariant-loop-i distances count₀ i₀ count i =
     Added (overflow_at distances) (length distances) (sum_from (overflow_at distances) 0 (length distances - 0)) i count
 
-abbrev decreases-loop : tie.decreases-loop
-decreases-loop distances count₀ i₀ count i = length distances - i
+abbrev decreases-loop-i : tie.decreases-loop-i
+decreases-loop-i distances count₀ i₀ count i = length distances - i
 
-loop-holds : tie.Need-loop-init invariant-loop decreases-loop
-loop-holds c = added_none _ 0 _ (omega arith)
+loop-i-init : tie.Need-loop-i-init invariant-loop-i decreases-loop-i
+loop-i-init c = added_none _ 0 _ (omega arith)
 
-mul-overflow-flag : tie.Need-overflow-mul-overflow-flag invariant-loop decreases-loop
-mul-overflow-flag c = search rules
+offset_bounds-distances-i : tie.Need-offset_bounds-distances-i invariant-loop-i decreases-loop-i
+offset_bounds-distances-i c = search rules
 
-shared-slice-read-overflow-flag : tie.Need-shared-slice-read-overflow-flag invariant-loop decreases-loop
-shared-slice-read-overflow-flag c = search rules
+bounds-distances-i : tie.Need-bounds-distances-i invariant-loop-i decreases-loop-i
+bounds-distances-i c = search rules
 
-overflow-flag-requires : tie.Need-overflow-flag-requires invariant-loop decreases-loop
-overflow-flag-requires c κs = search rules
+overflow_flag-count-requires : tie.Need-overflow_flag-count-requires invariant-loop-i decreases-loop-i
+overflow_flag-count-requires c κs = search rules
 
-loop-again : tie.Need-loop-preserved invariant-loop decreases-loop
-loop-again c = rw c.overflow-flag.ensures (added-one c.before.before.before.loop.invariant (omega arith))
+loop-i-preserved : tie.Need-loop-i-preserved invariant-loop-i decreases-loop-i
+loop-i-preserved c = rw c.overflow_flag-count.ensures (added-one c.loop-i.invariant (omega arith))
 
-add-count : tie.Need-overflow-add-count invariant-loop decreases-loop
-add-count c =
-    let xs = c.before.before.before.before.before.args.distances.now in
-    omega (arith, (loop-again c).rest, count_small xs)
+overflow_add-count : tie.Need-overflow_add-count invariant-loop-i decreases-loop-i
+overflow_add-count c =
+    let xs = c.args.distances.now in
+    omega (arith, (loop-i-preserved c).rest, count_small xs)
 
-add-i : tie.Need-overflow-add-i invariant-loop decreases-loop
-add-i c = search rules
+overflow_add-i : tie.Need-overflow_add-i invariant-loop-i decreases-loop-i
+overflow_add-i c = search rules
 
-loop-less : tie.Need-loop-smaller invariant-loop decreases-loop
-loop-less c = search rules
+loop-i-smaller : tie.Need-loop-i-smaller invariant-loop-i decreases-loop-i
+loop-i-smaller c = search rules
 
-cast-result : tie.Need-overflow-cast-result invariant-loop decreases-loop
-cast-result c =
-    let l = c.before.loop in
-    omega (arith, l.invariant.rest, count_small c.before.before.before.args.distances.now)
+overflow_cast-result : tie.Need-overflow_cast-result invariant-loop-i decreases-loop-i
+overflow_cast-result c =
+    let l = c.loop-i in
+    omega (arith, l.invariant.rest, count_small c.args.distances.now)
 
-returns : tie.Need-returns invariant-loop decreases-loop
+returns : tie.Need-returns invariant-loop-i decreases-loop-i
 returns c =
-    let l = c.before.loop in
-    count-is c.before.before.before.args.distances.now l.count (added-all l.invariant (omega arith))
+    let l = c.loop-i in
+    count-is c.args.distances.now l.count (added-all l.invariant (omega arith))
 
-pub count-overflow-spec : {M : Type 1} → statement M
-count-overflow-spec =
+pub count_overflow_spec : {M : Type 1} → statement M
+count_overflow_spec =
     tie.close
     (tie.spec
-    invariant-loop
-    decreases-loop
-    loop-holds
-    mul-overflow-flag
-    shared-slice-read-overflow-flag
-    overflow-flag-requires
-    add-count
-    add-i
-    loop-less
-    loop-again
-    cast-result
+    invariant-loop-i
+    decreases-loop-i
+    loop-i-init
+    offset_bounds-distances-i
+    bounds-distances-i
+    overflow_flag-count-requires
+    overflow_add-count
+    overflow_add-i
+    loop-i-smaller
+    loop-i-preserved
+    overflow_cast-result
     returns)

@@ -8,59 +8,59 @@ use borrow.Author.Rules.{rules}
 use Rattle.pciv_write.proofs.put_primary.Statement.{statement}
 use Rattle.pciv_write.proofs.put_primary.Tie as tie
 
-abbrev invariant-loop : tie.invariant-loop
-invariant-loop out₀ distances i₀ out i = PrimaryLeft (length distances) (at distances) out₀ i out
+abbrev invariant-loop-i : tie.invariant-loop-i
+invariant-loop-i out₀ distances i₀ out i = PrimaryLeft (length distances) (at distances) out₀ i out
 
-abbrev decreases-loop : tie.decreases-loop
-decreases-loop out₀ distances i₀ out i = length distances - i
+abbrev decreases-loop-i : tie.decreases-loop-i
+decreases-loop-i out₀ distances i₀ out i = length distances - i
 
-loop-holds : tie.Need-loop-init invariant-loop decreases-loop
-loop-holds c = primary-start _ _ _
+loop-i-init : tie.Need-loop-i-init invariant-loop-i decreases-loop-i
+loop-i-init c = primary-start _ _ _
 
-mul-primary-byte : tie.Need-overflow-mul-primary-byte invariant-loop decreases-loop
-mul-primary-byte c = search rules
+offset_bounds-distances-i : tie.Need-offset_bounds-distances-i invariant-loop-i decreases-loop-i
+offset_bounds-distances-i c = search rules
 
-shared-slice-read-primary-byte : tie.Need-shared-slice-read-primary-byte invariant-loop decreases-loop
-shared-slice-read-primary-byte c = search rules
+bounds-distances-i : tie.Need-bounds-distances-i invariant-loop-i decreases-loop-i
+bounds-distances-i c = search rules
 
-primary-byte-requires : tie.Need-primary-byte-requires invariant-loop decreases-loop
-primary-byte-requires c κs = search rules
+primary_byte-requires : tie.Need-primary_byte-requires invariant-loop-i decreases-loop-i
+primary_byte-requires c κs = search rules
 
-add-out : tie.Need-overflow-add-out invariant-loop decreases-loop
-add-out c = search rules
+overflow_add-out : tie.Need-overflow_add-out invariant-loop-i decreases-loop-i
+overflow_add-out c = search rules
 
-slice-write-out : tie.Need-slice-write-out invariant-loop decreases-loop
-slice-write-out c = search rules
+bounds-out-i : tie.Need-bounds-out-i invariant-loop-i decreases-loop-i
+bounds-out-i c = search rules
 
-add-i : tie.Need-overflow-add-i invariant-loop decreases-loop
-add-i c = search rules
+overflow_add-i : tie.Need-overflow_add-i invariant-loop-i decreases-loop-i
+overflow_add-i c = search rules
 
-loop-less : tie.Need-loop-smaller invariant-loop decreases-loop
-loop-less c = search rules
+loop-i-smaller : tie.Need-loop-i-smaller invariant-loop-i decreases-loop-i
+loop-i-smaller c = search rules
 
-loop-again : tie.Need-loop-preserved invariant-loop decreases-loop
-loop-again c = primary-more c.before.before.before.loop.invariant (omega arith) _ c.primary-byte.ensures
+loop-i-preserved : tie.Need-loop-i-preserved invariant-loop-i decreases-loop-i
+loop-i-preserved c = primary-more c.loop-i.invariant (omega arith) _ c.primary_byte.ensures
 
-same_length : tie.Need-same-length invariant-loop decreases-loop
-same_length c = search rules
+shape_of-out : tie.Need-shape_of-out invariant-loop-i decreases-loop-i
+shape_of-out c = search rules
 
-returns : tie.Need-returns invariant-loop decreases-loop
-returns c = primary-end c.before.loop.invariant (omega arith)
+returns : tie.Need-returns invariant-loop-i decreases-loop-i
+returns c = primary-end c.loop-i.invariant (omega arith)
 
-pub put-primary-spec : {M : Type 1} → statement M
-put-primary-spec =
+pub put_primary_spec : {M : Type 1} → statement M
+put_primary_spec =
     tie.close
     (tie.spec
-    invariant-loop
-    decreases-loop
-    loop-holds
-    mul-primary-byte
-    shared-slice-read-primary-byte
-    primary-byte-requires
-    add-out
-    slice-write-out
-    add-i
-    loop-less
-    loop-again
-    same_length
+    invariant-loop-i
+    decreases-loop-i
+    loop-i-init
+    offset_bounds-distances-i
+    bounds-distances-i
+    primary_byte-requires
+    overflow_add-out
+    bounds-out-i
+    overflow_add-i
+    loop-i-smaller
+    loop-i-preserved
+    shape_of-out
     returns)

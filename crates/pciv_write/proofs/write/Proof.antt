@@ -14,131 +14,105 @@ use borrow.Author.Rules.{rules}
 use Rattle.pciv_write.proofs.write.Statement.{statement}
 use Rattle.pciv_write.proofs.write.Tie as tie
 
-abbrev entry : tie.After-count-overflow → tie.Start
+abbrev entry : tie.After-count_overflow-k → tie.Start
 entry c = c.before.before.before.before
 
-abbrev list : tie.After-count-overflow → List ℕ
+abbrev list : tie.After-count_overflow-k → List ℕ
 list c = (entry c).args.distances.now
 
-abbrev buffer : tie.After-count-overflow → List ℕ
+abbrev buffer : tie.After-count_overflow-k → List ℕ
 buffer c = (entry c).args.out.now
 
-few : (c : tie.After-count-overflow) → length (list c) ≤ max_slots
-few c = c.before.if1.false
+few : (c : tie.After-count_overflow-k) → length (list c) ≤ max_slots
+few c = c.if-n-gt-MAX_SLOTS.false
 
-opened : (b : tie.After-begin)
-    → (let e = b.before.before in
-    Opened (length (list e)) e.count-overflow.result (at (list e)) (write_outcome (list e) (length (buffer e)))
-    (buffer e)
-    b.begin.result b.begin.new.0)
+opened : (b : tie.After-begin-begun)
+    → (Opened (length (list b.before.before)) b.count_overflow-k.result (at (list b.before.before)) (write_outcome (list b.before.before) (length (buffer b.before.before)))
+    (buffer b.before.before)
+    b.begin-begun.result b.begin-begun.new.out)
 opened b =
-    let e = b.before.before in
     record {
-      few = few e;
-      each = λ i h. omega (arith, (e.before.before.before.shared-slice-known.given i).fits);
-      count = e.count-overflow.ensures;
-      into = write-into (list e) (buffer e) (few e);
-      answer = b.begin.ensures.0;
-      buffer = b.begin.ensures.1;
+      few = few b.before.before;
+      each = λ i h. omega (arith, (b.shared_slice_known-1.given i).fits);
+      count = b.count_overflow-k.ensures;
+      into = write-into (list b.before.before) (buffer b.before.before) (few b.before.before);
+      answer = b.begin-begun.ensures.0;
+      buffer = b.begin-begun.ensures.1;
     }
 
-refuse-file-requires : tie.Need-refuse-file-requires
-refuse-file-requires c κs = search rules
+refuse_file-requires : tie.Need-refuse_file-requires
+refuse_file-requires c κs = search rules
 
-returns : tie.Need-returns
-returns c =
-    let t = c.before in
-    let a = t.before.before.before.args in
-    let r = write-long a.distances.now a.out.now t.if1.true in
-    (c.refuse-file.ensures ∙ ap file_answer (sym r.0), sym r.1)
+returns-then-n-gt-MAX_SLOTS : tie.Need-returns-then-n-gt-MAX_SLOTS
+returns-then-n-gt-MAX_SLOTS c =
+    let a = c.args in
+    let r = write-long a.distances.now a.out.now c.if-n-gt-MAX_SLOTS.true in
+    (c.refuse_file.ensures ∙ ap file_answer (sym r.0), sym r.1)
 
-count-overflow-requires : tie.Need-count-overflow-requires
-count-overflow-requires c κs = search rules
+count_overflow-k-requires : tie.Need-count_overflow-k-requires
+count_overflow-k-requires c κs = search rules
 
-begin-requires : tie.Need-begin-requires
-begin-requires c κs =
-    let e = c.before in
-    begin-few (length (list e)) e.count-overflow.result (at (list e)) (few e) e.count-overflow.ensures
+begin-begun-requires : tie.Need-begin-begun-requires
+begin-begun-requires c κs =
+    begin-few (length (list c.before)) c.count_overflow-k.result (at (list c.before)) (few c.before) c.count_overflow-k.ensures
 
-enum-known-begun : tie.Need-enum-known-begun
-enum-known-begun c = search rules
+enum_known-begun : tie.Need-enum_known-begun
+enum_known-begun c = search rules
 
-enum-known-begun-2 : tie.Need-enum-known-begun-2
-enum-known-begun-2 c = search rules
+enum_known-begun-in-Counted-1 : tie.Need-enum_known-begun-in-Counted-1
+enum_known-begun-in-Counted-1 c = search rules
 
-put-primary-requires : tie.Need-put-primary-requires
-put-primary-requires c κs =
-    let k = c.before.before in
-    omega (arith, opened-space (opened k.before.before.before.before) _ k.begun2.given.1)
+put_primary-requires : tie.Need-put_primary-requires
+put_primary-requires c κs =
+    omega (arith, opened-space (opened c.before.before.before.before) _ c.in-Counted.is)
 
-put-entries-requires : tie.Need-put-entries-requires
-put-entries-requires c κs =
-    let p = c.before.before.before in
-    let k = p.before.before.before in
-    let b = k.before.before.before.before in
-    let e = b.before.before in
-    let o = opened-entries (opened b) _ k.begun2.given.1 _ p.put-primary.ensures in
-    (few e, (e.count-overflow.ensures, (o.1, o.0)))
+put_entries-requires : tie.Need-put_entries-requires
+put_entries-requires c κs =
+    let o = opened-entries (opened c.before.before.before.before.before.before.before.before) _ c.in-Counted.is _ c.put_primary.ensures in
+    (few c.before.before.before.before.before.before.before.before.before.before, (c.count_overflow-k.ensures, (o.1, o.0)))
 
 finish-requires : tie.Need-finish-requires
 finish-requires c κs =
-    let q = c.before.before.before in
-    let p = q.before.before.before.before in
-    let k = p.before.before.before in
-    opened-finish (opened k.before.before.before.before) _ k.begun2.given.1 _ p.put-primary.ensures _
-    q.put_entries.ensures
+    opened-finish (opened c.before.before.before.before.before.before.before.before.before.before.before.before) _ c.in-Counted.is _ c.put_primary.ensures _
+    c.put_entries.ensures
 
-summary-of-requires : tie.Need-summary-of-requires
-summary-of-requires c κs =
-    let f = c.before.before.before in
-    let q = f.before.before.before.before in
-    let p = q.before.before.before.before in
-    let k = p.before.before.before in
-    let b = k.before.before.before.before in
-    opened_map (opened b) _ k.begun2.given.1 _ p.put-primary.ensures _ q.put_entries.ensures
-    _ f.finish.ensures
+summary_of-requires : tie.Need-summary_of-requires
+summary_of-requires c κs =
+    opened_map (opened c.before.before.before.before.before.before.before.before.before.before.before.before.before.before.before) _ c.in-Counted.is _ c.put_primary.ensures _ c.put_entries.ensures
+    _ c.finish.ensures
 
-same_length : tie.Need-same-length
-same_length c = search rules
+shape_of-out-in-Refused : tie.Need-shape_of-out-in-Refused
+shape_of-out-in-Refused c = search rules
 
-returns-2 : tie.Need-returns-2
-returns-2 c =
-    let k = c.before in
-    let b = k.before.before.before.before in
-    let e = b.before.before in
-    let r = opened-refused (opened b) _ k.begun.given.1 in
-    (r.0, r.1 ∙ sym (write_buffer-is (list e) (buffer e)))
+returns-in-Refused : tie.Need-returns-in-Refused
+returns-in-Refused c =
+    let r = opened-refused (opened c.before.before.before) _ c.in-Refused.is in
+    (r.0, r.1 ∙ sym (write_buffer-is (list c.before.before.before.before.before) (buffer c.before.before.before.before.before)))
 
-same-length-2 : tie.Need-same-length-2
-same-length-2 c = search rules
+shape_of-out-in-Counted : tie.Need-shape_of-out-in-Counted
+shape_of-out-in-Counted c = search rules
 
-returns-3 : tie.Need-returns-3
-returns-3 c =
-    let f = c.before.before.before.before in
-    let q = f.before.before.before.before in
-    let p = q.before.before.before.before in
-    let k = p.before.before.before in
-    let b = k.before.before.before.before in
-    let e = b.before.before in
-    let r = opened-done (opened b) _ k.begun2.given.1 _ p.put-primary.ensures _ q.put_entries.ensures
-    _ f.finish.ensures _ c.summary-of.ensures in
-    (r.0, r.1 ∙ sym (write_buffer-is (list e) (buffer e)))
+returns-in-Counted : tie.Need-returns-in-Counted
+returns-in-Counted c =
+    let r = opened-done (opened c.before.before.before.before.before.before.before.before.before.before.before.before.before.before.before.before) _ c.in-Counted.is _ c.put_primary.ensures _ c.put_entries.ensures
+    _ c.finish.ensures _ c.summary_of.ensures in
+    (r.0, r.1 ∙ sym (write_buffer-is (list c.before.before.before.before.before.before.before.before.before.before.before.before.before.before.before.before.before.before) (buffer c.before.before.before.before.before.before.before.before.before.before.before.before.before.before.before.before.before.before)))
 
 pub write_spec : {M : Type 1} → statement M
 write_spec =
     tie.close
     (tie.spec
-    refuse-file-requires
-    returns
-    count-overflow-requires
-    begin-requires
-    enum-known-begun
-    enum-known-begun-2
-    put-primary-requires
-    put-entries-requires
+    refuse_file-requires
+    returns-then-n-gt-MAX_SLOTS
+    count_overflow-k-requires
+    begin-begun-requires
+    enum_known-begun
+    enum_known-begun-in-Counted-1
+    put_primary-requires
+    put_entries-requires
     finish-requires
-    summary-of-requires
-    same_length
-    returns-2
-    same-length-2
-    returns-3)
+    summary_of-requires
+    shape_of-out-in-Refused
+    returns-in-Refused
+    shape_of-out-in-Counted
+    returns-in-Counted)

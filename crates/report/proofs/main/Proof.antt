@@ -12,71 +12,69 @@ use Rattle.report.proofs.main.Statement.{statement}
 use Rattle.report.proofs.main.Tie as tie
 
 -- the report fits the text's array
-len-fits : (c : tie.After-answer) → c.answer.given.0.0 ≤ 160
+len-fits : (c : tie.In-Number) → c.in-Number.len ≤ 160
 len-fits c =
-    let called = c.before.before.before in
-    let len = c.answer.given.0.0 in
-    let input = called.before.before.before.before.read-full in
-    let b = take input.result input.new.1.0 in
-    let answer = sym c.answer.given.1 ∙ called.report.ensures.0 in
+    let len = c.in-Number.len in
+    let input = c.read_full-got in
+    let b = take input.result input.new.buf in
+    let answer = sym c.in-Number.is ∙ c.report-answer.ensures.0 in
     report_outcome-le b 160 len (number_answer-number (report_outcome b 160) len answer)
 
-slice-aggregate-read-full : tie.Need-slice-aggregate-read-full
-slice-aggregate-read-full c = search rules
+slice_bounds-read_full-end : tie.Need-slice_bounds-read_full-end
+slice_bounds-read_full-end c = search rules
 
-read-full-requires : tie.Need-read-full-requires
-read-full-requires c κs = search rules
+read_full-got-requires : tie.Need-read_full-got-requires
+read_full-got-requires c κs = search rules
 
-array-share-prefix-input : tie.Need-array-share-prefix-input
-array-share-prefix-input c = search rules
+slice_bounds-input-end : tie.Need-slice_bounds-input-end
+slice_bounds-input-end c = search rules
 
-slice-aggregate-report : tie.Need-slice-aggregate-report
-slice-aggregate-report c = search rules
+slice_bounds-report-end : tie.Need-slice_bounds-report-end
+slice_bounds-report-end c = search rules
 
-slice-aggregate-report-2 : tie.Need-slice-aggregate-report-2
-slice-aggregate-report-2 c = search rules
+slice_bounds-report-end-2 : tie.Need-slice_bounds-report-end-2
+slice_bounds-report-end-2 c = search rules
 
-report-requires : tie.Need-report-requires
-report-requires c κs = search rules
+report-answer-requires : tie.Need-report-answer-requires
+report-answer-requires c κs = search rules
 
-enum-known-answer : tie.Need-enum-known-answer
-enum-known-answer c = search rules
+enum_known-answer : tie.Need-enum_known-answer
+enum_known-answer c = search rules
 
-array-share-prefix-text : tie.Need-array-share-prefix-text
-array-share-prefix-text c = omega (arith, len-fits c.before)
+slice_bounds-text-end : tie.Need-slice_bounds-text-end
+slice_bounds-text-end c = omega (arith, len-fits c)
 
-slice-aggregate-write-all : tie.Need-slice-aggregate-write-all
-slice-aggregate-write-all c =
-    let told = c.before.before in
-    let text = told.before.before.before.report.new.1.0 in
-    sym (length-take-le told.answer.given.0.0 text (omega (arith, len-fits told)))
+slice_bounds-write_all-end : tie.Need-slice_bounds-write_all-end
+slice_bounds-write_all-end c =
+    let text = c.report-answer.new.out in
+    sym (length-take-le c.in-Number.len text (omega (arith, len-fits c.before)))
 
-write-all-requires : tie.Need-write-all-requires
-write-all-requires c κs = search rules
+write_all-requires : tie.Need-write_all-requires
+write_all-requires c κs = search rules
 
-enum_told : tie.Need-enum-told
-enum_told c = search rules
+enum_told-1 : tie.Need-enum_told-1
+enum_told-1 c = search rules
 
-returns : tie.Need-returns
-returns c = search rules
+returns-in-Number : tie.Need-returns-in-Number
+returns-in-Number c = search rules
 
-returns-2 : tie.Need-returns-2
-returns-2 c = search rules
+returns-in_default : tie.Need-returns-in_default
+returns-in_default c = search rules
 
 pub main_spec : {M : Type 1} → statement M
 main_spec =
     tie.close
     (tie.spec
-    slice-aggregate-read-full
-    read-full-requires
-    array-share-prefix-input
-    slice-aggregate-report
-    slice-aggregate-report-2
-    report-requires
-    enum-known-answer
-    array-share-prefix-text
-    slice-aggregate-write-all
-    write-all-requires
-    enum_told
-    returns
-    returns-2)
+    slice_bounds-read_full-end
+    read_full-got-requires
+    slice_bounds-input-end
+    slice_bounds-report-end
+    slice_bounds-report-end-2
+    report-answer-requires
+    enum_known-answer
+    slice_bounds-text-end
+    slice_bounds-write_all-end
+    write_all-requires
+    enum_told-1
+    returns-in-Number
+    returns-in_default)

@@ -3,20 +3,27 @@ use borrow.Author.Rules.{rules}
 use Rattle.pciv_arith_add.proofs.addend.addend_slot.Statement.{statement}
 use Rattle.pciv_arith_add.proofs.addend.addend_slot.Tie as tie
 
-enum_told : tie.Need-enum-told
-enum_told c = search rules
+enum_told-1 : tie.Need-enum_told-1
+enum_told-1 c = search rules
 
-next-slot-requires : tie.Need-next-slot-requires
-next-slot-requires c κs = search rules
+next_slot-requires : tie.Need-next_slot-requires
+next_slot-requires c κs = search rules
 
-enum-told-2 : tie.Need-enum-told-2
-enum-told-2 c = search rules
+enum_told-in-Number : tie.Need-enum_told-in-Number
+enum_told-in-Number c = search rules
 
-returns : tie.Need-returns
-returns c = rw c.before.enum_told.given.1 c.next-slot.ensures
+returns-in-Map : tie.Need-returns-in-Map
+returns-in-Map c = rw c.in-Map.is c.next_slot.ensures
 
-returns-2 : tie.Need-returns-2
-returns-2 c = search rules
+returns-in-Number : tie.Need-returns-in-Number
+returns-in-Number c = search rules
 
-pub addend-slot-spec : {M : Type 1} → statement M
-addend-slot-spec = tie.close (tie.spec enum_told next-slot-requires enum-told-2 returns returns-2)
+pub addend_slot_spec : {M : Type 1} → statement M
+addend_slot_spec =
+    tie.close
+    (tie.spec
+    enum_told-1
+    next_slot-requires
+    enum_told-in-Number
+    returns-in-Map
+    returns-in-Number)

@@ -6,31 +6,35 @@ use borrow.Author.Rules.{rules}
 use Rattle.pciv_arith_add.proofs.large.first_too_large.Statement.{statement}
 use Rattle.pciv_arith_add.proofs.large.first_too_large.Tie as tie
 
-most-added-requires : tie.Need-most-added-requires
-most-added-requires c κs = search rules
+most_added-requires : tie.Need-most_added-requires
+most_added-requires c κs = search rules
 
-most-in-requires : tie.Need-most-in-requires
-most-in-requires c κs = search rules
+most_in-requires : tie.Need-most_in-requires
+most_in-requires c κs = search rules
 
-sub-if1 : tie.Need-overflow-sub-if1
-sub-if1 c = search rules
+overflow_sub-most_in : tie.Need-overflow_sub-most_in
+overflow_sub-most_in c = search rules
+
+returns-then-most_added-most_in : tie.Need-returns-then-most_added-most_in
+returns-then-most_added-most_in c =
+    let a = c.args in
+    none-large a.of (file_parts a.a.now a.n a.ka) (file_parts a.b.now a.n a.kb)
+    c.most_in.result
+    c.most_added.result c.most_in.ensures c.most_added.ensures c.if-most_added-most_in.true (omega arith)
+
+walk_large-requires : tie.Need-walk_large-requires
+walk_large-requires c κs = search rules
 
 returns : tie.Need-returns
-returns c =
-    let x = c.before in
-    let y = x.before in
-    let a = y.before.before.before.args in
-    none-large a.of (file_parts a.a.now a.n a.ka) (file_parts a.b.now a.n a.kb)
-    x.most-in.result
-    y.most-added.result x.most-in.ensures y.most-added.ensures c.if1.true (omega arith)
+returns c = search rules
 
-walk-large-requires : tie.Need-walk-large-requires
-walk-large-requires c κs = search rules
-
-returns-2 : tie.Need-returns-2
-returns-2 c = search rules
-
-pub first-too-large-spec : {M : Type 1} → statement M
-first-too-large-spec =
+pub first_too_large_spec : {M : Type 1} → statement M
+first_too_large_spec =
     tie.close
-    (tie.spec most-added-requires most-in-requires sub-if1 returns walk-large-requires returns-2)
+    (tie.spec
+    most_added-requires
+    most_in-requires
+    overflow_sub-most_in
+    returns-then-most_added-most_in
+    walk_large-requires
+    returns)

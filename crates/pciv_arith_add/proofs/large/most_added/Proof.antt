@@ -4,20 +4,20 @@ use borrow.Author.Rules.{rules}
 use Rattle.pciv_arith_add.proofs.large.most_added.Statement.{statement}
 use Rattle.pciv_arith_add.proofs.large.most_added.Tie as tie
 
-enum_told : tie.Need-enum-told
-enum_told c = search rules
+enum_told-1 : tie.Need-enum_told-1
+enum_told-1 c = search rules
 
-most-in-requires : tie.Need-most-in-requires
-most-in-requires c κs = search rules
+most_in-requires : tie.Need-most_in-requires
+most_in-requires c κs = search rules
 
-enum-known-of : tie.Need-enum-known-of
-enum-known-of c = search rules
+enum_known-of : tie.Need-enum_known-of
+enum_known-of c = search rules
 
-returns : tie.Need-returns
-returns c = rw c.before.enum_told.given.1 c.most-in.ensures
+returns-in-Map : tie.Need-returns-in-Map
+returns-in-Map c = rw c.in-Map.is c.most_in.ensures
 
-returns-2 : tie.Need-returns-2
-returns-2 c = rw c.before.of.given.1 (λ i h. le_refl c.before.of.given.0.0)
+returns-in-Number : tie.Need-returns-in-Number
+returns-in-Number c = rw c.in-Number.is (λ i h. le_refl c.in-Number.d)
 
-pub most-added-spec : {M : Type 1} → statement M
-most-added-spec = tie.close (tie.spec enum_told most-in-requires enum-known-of returns returns-2)
+pub most_added_spec : {M : Type 1} → statement M
+most_added_spec = tie.close (tie.spec enum_told-1 most_in-requires enum_known-of returns-in-Map returns-in-Number)

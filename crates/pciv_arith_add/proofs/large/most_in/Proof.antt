@@ -9,71 +9,64 @@ use borrow.Author.Rules.{rules}
 use Rattle.pciv_arith_add.proofs.large.most_in.Statement.{statement}
 use Rattle.pciv_arith_add.proofs.large.most_in.Tie as tie
 
-abbrev invariant-loop : tie.invariant-loop
-invariant-loop file n k most₀ j₀ most j = MostOf (file_parts file n k) j most
+abbrev invariant-loop-j : tie.invariant-loop-j
+invariant-loop-j file n k most₀ j₀ most j = MostOf (file_parts file n k) j most
 
-abbrev decreases-loop : tie.decreases-loop
-decreases-loop file n k most₀ j₀ most j = k - j
+abbrev decreases-loop-j : tie.decreases-loop-j
+decreases-loop-j file n k most₀ j₀ most j = k - j
 
-abbrev parts : tie.Start invariant-loop decreases-loop → Parts
+abbrev parts : tie.Start invariant-loop-j decreases-loop-j → Parts
 parts s = file_parts s.args.file.now s.args.n s.args.k
 
-cast-most : tie.Need-overflow-cast-most invariant-loop decreases-loop
-cast-most c = search rules
+overflow_cast-most : tie.Need-overflow_cast-most invariant-loop-j decreases-loop-j
+overflow_cast-most c = search rules
 
-loop-holds : tie.Need-loop-init invariant-loop decreases-loop
-loop-holds c = record { inline = omega arith; entries = λ t h. absurd (omega arith) }
+loop-j-init : tie.Need-loop-j-init invariant-loop-j decreases-loop-j
+loop-j-init c = record { inline = omega arith; entries = λ t h. absurd (omega arith) }
 
-entry-distance-requires : tie.Need-entry-distance-requires invariant-loop decreases-loop
-entry-distance-requires c κs =
-    let s = c.before.before.before in
-    entry-inside s.args.file.now s.args.n s.args.k s.requires c.before.loop.j (omega arith)
+entry_distance-x-requires : tie.Need-entry_distance-x-requires invariant-loop-j decreases-loop-j
+entry_distance-x-requires c κs =
+    entry-inside c.args.file.now c.args.n c.args.k c.requires c.loop-j.j (omega arith)
 
-add-j : tie.Need-overflow-add-j invariant-loop decreases-loop
-add-j c = search rules
+overflow_add-j : tie.Need-overflow_add-j invariant-loop-j decreases-loop-j
+overflow_add-j c = search rules
 
-loop-less : tie.Need-loop-smaller invariant-loop decreases-loop
-loop-less c = search rules
+loop-j-smaller-then-most-x : tie.Need-loop-j-smaller-then-most-x invariant-loop-j decreases-loop-j
+loop-j-smaller-then-most-x c = search rules
 
-loop-again : tie.Need-loop-preserved invariant-loop decreases-loop
-loop-again c =
-    let d = c.before in
-    let l = d.before.before.loop in
-    let s = d.before.before.before.before in
-    most-more (parts s) l.j l.most d.entry-distance.result l.invariant
-    (omega (arith, c.if1.true)) (omega (arith, d.entry-distance.ensures))
+loop-j-preserved-then-most-x : tie.Need-loop-j-preserved-then-most-x invariant-loop-j decreases-loop-j
+loop-j-preserved-then-most-x c =
+    let l = c.loop-j in
+    most-more (parts c.before.before.before.before.before) l.j l.most c.entry_distance-x.result l.invariant
+    (omega (arith, c.if-most-x.true)) (omega (arith, c.entry_distance-x.ensures))
 
-loop-less-2 : tie.Need-loop-smaller-2 invariant-loop decreases-loop
-loop-less-2 c = search rules
+loop-j-smaller : tie.Need-loop-j-smaller invariant-loop-j decreases-loop-j
+loop-j-smaller c = search rules
 
-loop-again-2 : tie.Need-loop-preserved-2 invariant-loop decreases-loop
-loop-again-2 c =
-    let d = c.before in
-    let l = d.before.before.loop in
-    let s = d.before.before.before.before in
-    most-more (parts s) l.j l.most l.most l.invariant (omega arith)
-    (omega (arith, c.if1.false, d.entry-distance.ensures))
+loop-j-preserved : tie.Need-loop-j-preserved invariant-loop-j decreases-loop-j
+loop-j-preserved c =
+    let l = c.loop-j in
+    most-more (parts c.before.before.before.before.before) l.j l.most l.most l.invariant (omega arith)
+    (omega (arith, c.if-most-x.false, c.entry_distance-x.ensures))
 
-returns : tie.Need-returns invariant-loop decreases-loop
+returns : tie.Need-returns invariant-loop-j decreases-loop-j
 returns c =
-    let l = c.before.loop in
-    let k = c.before.before in
-    let s = k.before in
-    most-all (parts s) s.requires.parts (λ i. (k.shared-slice-known.given (40 + i)).fits) l.j l.most l.invariant
+    let l = c.loop-j in
+    most-all (parts c.before.before.before) c.requires.parts (λ i. (c.shared_slice_known-1.given (40 + i)).fits) l.j l.most l.invariant
     (omega arith)
 
-pub most-in-spec : {M : Type 1} → statement M
-most-in-spec =
+pub most_in_spec : {M : Type 1} → statement M
+most_in_spec =
     tie.close
     (tie.spec
-    invariant-loop
-    decreases-loop
-    cast-most
-    loop-holds
-    entry-distance-requires
-    add-j
-    loop-less
-    loop-again
-    loop-less-2
-    loop-again-2
+    invariant-loop-j
+    decreases-loop-j
+    overflow_cast-most
+    loop-j-init
+    entry_distance-x-requires
+    overflow_add-j
+    loop-j-smaller-then-most-x
+    loop-j-preserved-then-most-x
+    loop-j-smaller
+    loop-j-preserved
     returns)

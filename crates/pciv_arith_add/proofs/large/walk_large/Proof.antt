@@ -8,107 +8,94 @@ use borrow.Author.Rules.{rules}
 use Rattle.pciv_arith_add.proofs.large.walk_large.Statement.{statement}
 use Rattle.pciv_arith_add.proofs.large.walk_large.Tie as tie
 
-abbrev invariant-loop : tie.invariant-loop
-invariant-loop of a b n ka kb j₀ t₀ slot₀ j t slot = Walked of (file_parts a n ka) (file_parts b n kb) j t slot
+abbrev invariant-loop-slot : tie.invariant-loop-slot
+invariant-loop-slot of a b n ka kb j₀ t₀ slot₀ j t slot = Walked of (file_parts a n ka) (file_parts b n kb) j t slot
 
-abbrev decreases-loop : tie.decreases-loop
-decreases-loop of a b n ka kb j₀ t₀ slot₀ j t slot = n - slot
+abbrev decreases-loop-slot : tie.decreases-loop-slot
+decreases-loop-slot of a b n ka kb j₀ t₀ slot₀ j t slot = n - slot
 
-abbrev entry : tie.After-shared-slice-known2 invariant-loop decreases-loop → tie.Start invariant-loop decreases-loop
+abbrev entry : tie.After-shared_slice_known-2-1 invariant-loop-slot decreases-loop-slot → tie.Start invariant-loop-slot decreases-loop-slot
 entry c = c.before.before
 
-maps : (c : tie.After-shared-slice-known2 invariant-loop decreases-loop)
+maps : (c : tie.After-shared_slice_known-2-1 invariant-loop-slot decreases-loop-slot)
     → (let a = (entry c).args in Maps a.a.now a.b.now a.n a.ka a.kb)
 maps c =
     record {
       pair = (entry c).requires.0;
-      bytes-a = λ i. (c.before.shared-slice-known.given i).fits;
-      bytes-b = λ i. (c.shared-slice-known2.given i).fits;
+      bytes-a = λ i. (c.shared_slice_known-1.given i).fits;
+      bytes-b = λ i. (c.shared_slice_known-2-1.given i).fits;
     }
 
-either-slot-requires : tie.Need-either-slot-requires invariant-loop decreases-loop
-either-slot-requires c κs = c.before.before.requires.0
+either_slot-slot-requires : tie.Need-either_slot-slot-requires invariant-loop-slot decreases-loop-slot
+either_slot-slot-requires c κs = c.requires.0
 
-loop-holds : tie.Need-loop-init invariant-loop decreases-loop
-loop-holds c =
-    let k = c.before in
-    walked_start (sound (maps k)) (entry k).args.of (entry k).requires.1 c.either-slot.result
-    c.either-slot.ensures
+loop-slot-init : tie.Need-loop-slot-init invariant-loop-slot decreases-loop-slot
+loop-slot-init c =
+    walked_start (sound (maps c.before)) (entry c.before).args.of (entry c.before).requires.1 c.either_slot-slot.result
+    c.either_slot-slot.ensures
 
-take-at-requires : tie.Need-take-at-requires invariant-loop decreases-loop
-take-at-requires c κs =
+take_at-x-requires : tie.Need-take_at-x-requires invariant-loop-slot decreases-loop-slot
+take_at-x-requires c κs =
     let s = entry c.before.before.before in
-    (s.pre.0.first, (c.loop-test.true, c.before.loop.invariant.first))
+    (s.requires.0.first, (c.loop-slot-test.true, c.loop-slot.invariant.first))
 
-take-addend-requires : tie.Need-take-addend-requires invariant-loop decreases-loop
-take-addend-requires c κs =
-    let d = c.before in
-    let s = entry d.before.before.before in
-    (s.pre.0.second, (d.loop-test.true, d.before.loop.invariant.second))
+take_addend-y-requires : tie.Need-take_addend-y-requires invariant-loop-slot decreases-loop-slot
+take_addend-y-requires c κs =
+    let s = entry c.before.before.before.before in
+    (s.requires.0.second, (c.loop-slot-test.true, c.loop-slot.invariant.second))
 
-sub-if1 : tie.Need-overflow-sub-if1 invariant-loop decreases-loop
-sub-if1 c = search rules
+overflow_sub-x : tie.Need-overflow_sub-x invariant-loop-slot decreases-loop-slot
+overflow_sub-x c = search rules
 
-returns : tie.Need-returns invariant-loop decreases-loop
-returns c =
-    let y = c.before.before.before in
-    let x = y.before in
-    let d = x.before in
-    let k = d.before.before.before in
-    let s = entry k in
-    walked-found (sound (maps k)) s.args.of s.pre.1 _ _ _ d.before.loop.invariant d.loop-test.true
-    (omega (arith, c.if1.true, x.take_at.ensures.is, y.take-addend.ensures.is))
+returns-then-x-y : tie.Need-returns-then-x-y invariant-loop-slot decreases-loop-slot
+returns-then-x-y c =
+    let s = entry c.before.before.before.before.before.before.before.before in
+    walked-found (sound (maps c.before.before.before.before.before.before.before.before)) s.args.of s.requires.1 _ _ _ c.loop-slot.invariant c.loop-slot-test.true
+    (omega (arith, c.if-x-y.true, c.take_at-x.ensures.is, c.take_addend-y.ensures.is))
 
-either-slot-requires-2 : tie.Need-either-slot-requires-2 invariant-loop decreases-loop
-either-slot-requires-2 c κs = (entry c.before.before.before.before.before.before.before.before).pre.0
+either_slot-slot-requires-in-loop-slot : tie.Need-either_slot-slot-requires-in-loop-slot invariant-loop-slot decreases-loop-slot
+either_slot-slot-requires-in-loop-slot c κs = (entry c.before.before.before.before.before.before.before.before).requires.0
 
 -- one turn: the walk goes on, at a later slot
-again : (c : tie.After-either-slot2 invariant-loop decreases-loop)
-    → (let y = c.before.before.before.before in
-    let x = y.before in
-    let l = x.before.before.loop in
-    let a = (entry x.before.before.before.before).args in
+again : (c : tie.After-either_slot-slot-in-loop-slot invariant-loop-slot decreases-loop-slot)
+    → (let l = c.loop-slot in
+    let a = (entry c.before.before.before.before.before.before.before.before.before).args in
     Walked a.of (file_parts a.a.now a.n a.ka) (file_parts a.b.now a.n a.kb)
-    x.take_at.result.next y.take-addend.result.next c.either-slot2.result
-    × (l.slot + 1 ≤ c.either-slot2.result))
+    c.take_at-x.result.next c.take_addend-y.result.next c.either_slot-slot-in-loop-slot.result
+    × (l.slot + 1 ≤ c.either_slot-slot-in-loop-slot.result))
 again c =
-    let y = c.before.before.before.before in
-    let x = y.before in
-    let d = x.before in
-    let k = d.before.before.before in
-    let s = entry k in
-    let tx = x.take_at.ensures in
-    let ty = y.take-addend.ensures in
-    let pair = sound (maps k) in
-    walked_more pair s.args.of s.pre.1 _ _ _ _ _ _ d.before.loop.invariant d.loop-test.true
-    (omega (arith, c.before.if1.false, tx.is, ty.is, pair.fits-first _ d.loop-test.true)) tx.next
-    ty.next c.either-slot2.ensures
+    let s = entry c.before.before.before.before.before.before.before.before.before in
+    let tx = c.take_at-x.ensures in
+    let ty = c.take_addend-y.ensures in
+    let pair = sound (maps c.before.before.before.before.before.before.before.before.before) in
+    walked_more pair s.args.of s.requires.1 _ _ _ _ _ _ c.loop-slot.invariant c.loop-slot-test.true
+    (omega (arith, c.if-x-y.false, tx.is, ty.is, pair.fits-first _ c.loop-slot-test.true)) tx.next
+    ty.next c.either_slot-slot-in-loop-slot.ensures
 
-loop-less : tie.Need-loop-smaller invariant-loop decreases-loop
-loop-less c = omega (arith, (again c).1)
+loop-slot-smaller : tie.Need-loop-slot-smaller invariant-loop-slot decreases-loop-slot
+loop-slot-smaller c = omega (arith, (again c).1)
 
-loop-again : tie.Need-loop-preserved invariant-loop decreases-loop
-loop-again c = (again c).0
+loop-slot-preserved : tie.Need-loop-slot-preserved invariant-loop-slot decreases-loop-slot
+loop-slot-preserved c = (again c).0
 
-returns-2 : tie.Need-returns-2 invariant-loop decreases-loop
-returns-2 c =
-    let k = c.before.before.before in
-    let s = entry k in
-    walked_none (sound (maps k)) s.args.of s.pre.1 _ _ _ c.before.loop.invariant c.loop-test.false
+returns : tie.Need-returns invariant-loop-slot decreases-loop-slot
+returns c =
+    let s = entry c.before.before.before in
+    walked_none (sound (maps c.before.before.before)) s.args.of s.requires.1 _ _ _ c.loop-slot.invariant c.loop-slot-test.false
 
-pub walk-large-spec : {M : Type 1} → statement M
-walk-large-spec =
+pub walk_large_spec : {M : Type 1} → statement M
+walk_large_spec =
     tie.close
     (tie.spec
-    invariant-loop
-    decreases-loop
-    either-slot-requires
-    loop-holds
-    take-at-requires
-    take-addend-requires
-    sub-if1
-    returns
-    either-slot-requires-2
-    loop-less
-    loop-again
-    returns-2)
+    invariant-loop-slot
+    decreases-loop-slot
+    either_slot-slot-requires
+    loop-slot-init
+    take_at-x-requires
+    take_addend-y-requires
+    overflow_sub-x
+    returns-then-x-y
+    either_slot-slot-requires-in-loop-slot
+    loop-slot-smaller
+    loop-slot-preserved
+    returns)

@@ -9,110 +9,104 @@ use Rattle.pciv_arith_add.proofs.put.count_added.Statement.{statement}
 use Rattle.pciv_arith_add.proofs.put.count_added.Tie as tie
 
 -- at the branch: two checked files
-maps : (c : tie.After-shared-slice-known2)
-    → (let a = c.before.before.args in Maps a.a.now a.b.now a.n a.ka a.kb)
+maps : (c : tie.After-shared_slice_known-2-1)
+    → (let a = c.args in Maps a.a.now a.b.now a.n a.ka a.kb)
 maps c =
     record {
-      pair = c.before.before.requires;
-      bytes-a = λ i. (c.before.shared-slice-known.given i).fits;
-      bytes-b = λ i. (c.shared-slice-known2.given i).fits;
+      pair = c.requires;
+      bytes-a = λ i. (c.shared_slice_known-1.given i).fits;
+      bytes-b = λ i. (c.shared_slice_known-2-1.given i).fits;
     }
 
-abbrev entry : tie.After-enum-told → tie.Start
-entry c = c.before.before.before.before
+abbrev entry : tie.In-Map → tie.Start
+entry c = c.before.before.before
 
-add-end : tie.Need-overflow-add-end
-add-end c = search rules
+overflow_add-end : tie.Need-overflow_add-end
+overflow_add-end c = search rules
 
-enum_told : tie.Need-enum-told
-enum_told c = search rules
+enum_told-1 : tie.Need-enum_told-1
+enum_told-1 c = search rules
 
-sub-count-full : tie.Need-overflow-sub-count-full
-sub-count-full c = search rules
+slice_bounds-count_full-count : tie.Need-slice_bounds-count_full-count
+slice_bounds-count_full-count c = search rules
 
-part-count-full-start : tie.Need-slice-bounds-count-full-start
-part-count-full-start c = search rules
+slice_bounds-count_full-start : tie.Need-slice_bounds-count_full-start
+slice_bounds-count_full-start c = search rules
 
-part-count-full-end : tie.Need-slice-bounds-count-full-end
-part-count-full-end c =
+slice_bounds-count_full-end : tie.Need-slice_bounds-count_full-end
+slice_bounds-count_full-end c =
     let a = (entry c).args in
     primary-inside a.a.now a.n a.ka (entry c).requires.first
 
-sub-count-full-2 : tie.Need-overflow-sub-count-full-2
-sub-count-full-2 c = search rules
+slice_bounds-count_full-count-in-Map : tie.Need-slice_bounds-count_full-count-in-Map
+slice_bounds-count_full-count-in-Map c = search rules
 
-part-count-full-start-2 : tie.Need-slice-bounds-count-full-start-2
-part-count-full-start-2 c = search rules
+slice_bounds-count_full-start-in-Map : tie.Need-slice_bounds-count_full-start-in-Map
+slice_bounds-count_full-start-in-Map c = search rules
 
-part-count-full-end-2 : tie.Need-slice-bounds-count-full-end-2
-part-count-full-end-2 c =
+slice_bounds-count_full-end-in-Map : tie.Need-slice_bounds-count_full-end-in-Map
+slice_bounds-count_full-end-in-Map c =
     let s = entry c.before in
-    primary-inside s.args.b.now s.args.n s.args.kb s.pre.second
+    primary-inside s.args.b.now s.args.n s.args.kb s.requires.second
 
-count-full-requires : tie.Need-count-full-requires
-count-full-requires c κs =
+count_full-requires : tie.Need-count_full-requires
+count_full-requires c κs =
     let s = entry c.before.before in
     let a = s.args in
     rw (
       add-sub_cancel_left 40 a.n,
-      primary-length a.a.now a.n a.ka s.pre.first,
-      primary-length a.b.now a.n a.kb s.pre.second,
+      primary-length a.a.now a.n a.ka s.requires.first,
+      primary-length a.b.now a.n a.kb s.requires.second,
     )
 
-enum-known-of : tie.Need-enum-known-of
-enum-known-of c = search rules
+enum_known-of : tie.Need-enum_known-of
+enum_known-of c = search rules
 
-sub-count-from : tie.Need-overflow-sub-count-from
-sub-count-from c = search rules
+slice_bounds-count_from-count : tie.Need-slice_bounds-count_from-count
+slice_bounds-count_from-count c = search rules
 
-part-count-from-start : tie.Need-slice-bounds-count-from-start
-part-count-from-start c = search rules
+slice_bounds-count_from-start : tie.Need-slice_bounds-count_from-start
+slice_bounds-count_from-start c = search rules
 
-part-count-from-end : tie.Need-slice-bounds-count-from-end
-part-count-from-end c =
-    let s = c.before.before.before.before.before in
-    primary-inside s.args.a.now s.args.n s.args.ka s.requires.first
+slice_bounds-count_from-end : tie.Need-slice_bounds-count_from-end
+slice_bounds-count_from-end c =
+    primary-inside c.args.a.now c.args.n c.args.ka c.requires.first
 
-first-full-requires : tie.Need-first-full-requires
-first-full-requires c κs = search rules
+first_full-requires : tie.Need-first_full-requires
+first_full-requires c κs = search rules
 
-count-from-requires : tie.Need-count-from-requires
-count-from-requires c κs = search rules
+count_from-requires : tie.Need-count_from-requires
+count_from-requires c κs = search rules
 
-returns : tie.Need-returns
-returns c =
-    let d = c.before.before.before in
-    let k = d.before.before in
-    rw d.enum_told.given.1
-    ((rw (add-sub_cancel_left 40 k.before.before.args.n) at c.count-full.ensures) ∙ count_map (maps k))
+returns-in-Map : tie.Need-returns-in-Map
+returns-in-Map c =
+    rw c.in-Map.is
+    ((rw (add-sub_cancel_left 40 c.args.n) at c.count_full.ensures) ∙ count_map (maps c.before.before.before.before))
 
-returns-2 : tie.Need-returns-2
-returns-2 c =
-    let y = c.before in
-    let d = y.before.before.before in
-    let k = d.before.before in
-    rw d.of.given.1
-    ((rw (add-sub_cancel_left 40 k.before.before.args.n, y.first-full.ensures) at c.count-from.ensures)
-    ∙ count-number (maps k) d.of.given.0.0)
+returns-in-Number : tie.Need-returns-in-Number
+returns-in-Number c =
+    rw c.in-Number.is
+    ((rw (add-sub_cancel_left 40 c.args.n, c.first_full.ensures) at c.count_from.ensures)
+    ∙ count-number (maps c.before.before.before.before) c.in-Number.d)
 
-pub count-added-spec : {M : Type 1} → statement M
-count-added-spec =
+pub count_added_spec : {M : Type 1} → statement M
+count_added_spec =
     tie.close
     (tie.spec
-    add-end
-    enum_told
-    sub-count-full
-    part-count-full-start
-    part-count-full-end
-    sub-count-full-2
-    part-count-full-start-2
-    part-count-full-end-2
-    count-full-requires
-    enum-known-of
-    sub-count-from
-    part-count-from-start
-    part-count-from-end
-    first-full-requires
-    count-from-requires
-    returns
-    returns-2)
+    overflow_add-end
+    enum_told-1
+    slice_bounds-count_full-count
+    slice_bounds-count_full-start
+    slice_bounds-count_full-end
+    slice_bounds-count_full-count-in-Map
+    slice_bounds-count_full-start-in-Map
+    slice_bounds-count_full-end-in-Map
+    count_full-requires
+    enum_known-of
+    slice_bounds-count_from-count
+    slice_bounds-count_from-start
+    slice_bounds-count_from-end
+    first_full-requires
+    count_from-requires
+    returns-in-Map
+    returns-in-Number)

@@ -4,17 +4,23 @@ use borrow.Author.Rules.{rules}
 use Rattle.pciv_arith_add.proofs.put.first_full.Statement.{statement}
 use Rattle.pciv_arith_add.proofs.put.first_full.Tie as tie
 
-primary-byte-requires : tie.Need-primary-byte-requires
-primary-byte-requires c κs = search rules
+primary_byte-left-requires : tie.Need-primary_byte-left-requires
+primary_byte-left-requires c κs = search rules
 
-sub-left : tie.Need-overflow-sub-left
-sub-left c = omega arith
+overflow_sub-left : tie.Need-overflow_sub-left
+overflow_sub-left c = omega arith
 
-returns : tie.Need-returns
-returns c = omega arith
+returns-then-left-eq0 : tie.Need-returns-then-left-eq0
+returns-then-left-eq0 c = omega arith
 
-returns-2 : tie.Need-returns-2
-returns-2 c = omega arith
+returns-else-left-eq0 : tie.Need-returns-else-left-eq0
+returns-else-left-eq0 c = omega arith
 
-pub first-full-spec : {M : Type 1} → statement M
-first-full-spec = tie.close (tie.spec primary-byte-requires sub-left returns returns-2)
+pub first_full_spec : {M : Type 1} → statement M
+first_full_spec =
+    tie.close
+    (tie.spec
+    primary_byte-left-requires
+    overflow_sub-left
+    returns-then-left-eq0
+    returns-else-left-eq0)

@@ -14,161 +14,142 @@ use borrow.Author.Rules.{rules}
 use Rattle.pciv_arith_add.proofs.put.put_entries.Statement.{statement}
 use Rattle.pciv_arith_add.proofs.put.put_entries.Tie as tie
 
-abbrev invariant-loop : tie.invariant-loop
-invariant-loop out₀ of a b n ka kb k at₀ end j₀ t₀ out at j t =
+abbrev invariant-loop-at : tie.invariant-loop-at
+invariant-loop-at out₀ of a b n ka kb k at₀ end j₀ t₀ out at j t =
     Putting of (file_parts a n ka) (file_parts b n kb) out₀ out at j t
 
-abbrev decreases-loop : tie.decreases-loop
-decreases-loop out₀ of a b n ka kb k at₀ end j₀ t₀ out at j t = end - at
+abbrev decreases-loop-at : tie.decreases-loop-at
+decreases-loop-at out₀ of a b n ka kb k at₀ end j₀ t₀ out at j t = end - at
 
-abbrev entry : tie.After-shared-slice-known2 invariant-loop decreases-loop → tie.Start invariant-loop decreases-loop
+abbrev entry : tie.After-shared_slice_known-2-1 invariant-loop-at decreases-loop-at → tie.Start invariant-loop-at decreases-loop-at
 entry c = c.before.before.before
 
-maps : (c : tie.After-shared-slice-known2 invariant-loop decreases-loop)
+maps : (c : tie.After-shared_slice_known-2-1 invariant-loop-at decreases-loop-at)
     → (let a = (entry c).args in Maps a.a.now a.b.now a.n a.ka a.kb)
 maps c =
     record {
       pair = (entry c).requires.0;
-      bytes-a = λ i. (c.before.shared-slice-known.given i).fits;
-      bytes-b = λ i. (c.shared-slice-known2.given i).fits;
+      bytes-a = λ i. (c.shared_slice_known-1.given i).fits;
+      bytes-b = λ i. (c.shared_slice_known-2-1.given i).fits;
     }
 
 -- the distances of the result
-abbrev v : tie.Start invariant-loop decreases-loop → ℕ → ℕ
+abbrev v : tie.Start invariant-loop-at decreases-loop-at → ℕ → ℕ
 v s =
     added_at s.args.of (file_parts s.args.a.now s.args.n s.args.ka)
     (file_parts s.args.b.now s.args.n s.args.kb)
 
 -- from the loop: where both maps are known
-abbrev known : tie.At-loop invariant-loop decreases-loop → tie.After-shared-slice-known2 invariant-loop decreases-loop
+abbrev known : tie.At-loop-at invariant-loop-at decreases-loop-at → tie.After-shared_slice_known-2-1 invariant-loop-at decreases-loop-at
 known c = c.before.before.before.before.before
 
-space : (s : tie.Start invariant-loop decreases-loop)
+space : (s : tie.Start invariant-loop-at decreases-loop-at)
     → 40 + s.args.n + 12 * overflow_count s.args.n (v s) ≤ length s.args.out.now
 space s = omega (arith, s.requires.1.1.1.0, s.requires.1.1.1.1)
 
 -- both cursors at the next slot in overflow
-next-at : (c : tie.In-loop invariant-loop decreases-loop)
-    → (let l = c.before.loop in
+next-at : (c : tie.In-loop-at invariant-loop-at decreases-loop-at)
+    → (let l = c.loop-at in
     let a = (entry (known c.before)).args in
     (slot : ℕ) → slot ≡ get 8 l.out l.at
     → PutAt a.of (file_parts a.a.now a.n a.ka) (file_parts a.b.now a.n a.kb) l.invariant.from
     l.out l.at l.j l.t slot)
 next-at c slot is =
-    let l = c.before.loop in
+    let l = c.loop-at in
     let k = known c.before in
     let s = entry k in
     putting-next (sound (maps k)) s.args.of _ l.out l.at l.j l.t l.invariant
-    (omega (arith, c.loop-test.true, s.pre.1.1.1.0)) slot is
+    (omega (arith, c.loop-at-test.true, s.requires.1.1.1.0)) slot is
 
-put-slots-requires : tie.Need-put-slots-requires invariant-loop decreases-loop
-put-slots-requires c κs =
+put_slots-requires : tie.Need-put_slots-requires invariant-loop-at decreases-loop-at
+put_slots-requires c κs =
     let s = entry c.before in
-    omega (arith, same_count s.args.n (v s) s.args.out.now s.pre.1.1.0, space s)
+    omega (arith, same_count s.args.n (v s) s.args.out.now s.requires.1.1.0, space s)
 
-add_at : tie.Need-overflow-add-at invariant-loop decreases-loop
-add_at c = search rules
+overflow_add-at : tie.Need-overflow_add-at invariant-loop-at decreases-loop-at
+overflow_add-at c = search rules
 
-mul-end : tie.Need-overflow-mul-end invariant-loop decreases-loop
-mul-end c = search rules
+overflow_mul-end : tie.Need-overflow_mul-end invariant-loop-at decreases-loop-at
+overflow_mul-end c = search rules
 
-add-end : tie.Need-overflow-add-end invariant-loop decreases-loop
-add-end c = search rules
+overflow_add-end : tie.Need-overflow_add-end invariant-loop-at decreases-loop-at
+overflow_add-end c = search rules
 
-loop-holds : tie.Need-loop-init invariant-loop decreases-loop
-loop-holds c =
-    let p = c.before.before in
-    let k = p.before.before in
-    let s = entry k in
-    putting-start (sound (maps k)) s.args.of _ _
-    (fill_start s.args.n (v s) s.args.out.now _ s.pre.1.1.0 (space s) p.put-slots.ensures
-    s.pre.0.first.header.small)
+loop-at-init : tie.Need-loop-at-init invariant-loop-at decreases-loop-at
+loop-at-init c =
+    let s = entry c.before.before.before.before in
+    putting-start (sound (maps c.before.before.before.before)) s.args.of _ _
+    (fill_start s.args.n (v s) s.args.out.now _ s.requires.1.1.0 (space s) c.put_slots.ensures
+    s.requires.0.first.header.small)
 
-get64-requires : tie.Need-get64-requires invariant-loop decreases-loop
-get64-requires c κs =
-    let d = c.before in
-    let l = d.before.loop in
-    omega (arith, (next-at d (get 8 l.out l.at) refl).next.space)
+get64-slot-requires : tie.Need-get64-slot-requires invariant-loop-at decreases-loop-at
+get64-slot-requires c κs =
+    let l = c.loop-at in
+    omega (arith, (next-at c (get 8 l.out l.at) refl).next.space)
 
-take-at-requires : tie.Need-take-at-requires invariant-loop decreases-loop
-take-at-requires c κs =
-    let d = c.before.before in
-    let here = next-at d c.get64.result c.get64.ensures in
-    ((entry (known d.before)).pre.0.first, (here.next.inside, here.first))
+take_at-x-requires : tie.Need-take_at-x-requires invariant-loop-at decreases-loop-at
+take_at-x-requires c κs =
+    let here = next-at c.before c.get64-slot.result c.get64-slot.ensures in
+    ((entry (known c.before.before)).requires.0.first, (here.next.inside, here.first))
 
-take-addend-requires : tie.Need-take-addend-requires invariant-loop decreases-loop
-take-addend-requires c κs =
-    let g = c.before in
-    let d = g.before.before in
-    let here = next-at d g.get64.result g.get64.ensures in
-    ((entry (known d.before)).pre.0.second, (here.next.inside, here.second))
+take_addend-y-requires : tie.Need-take_addend-y-requires invariant-loop-at decreases-loop-at
+take_addend-y-requires c κs =
+    let here = next-at c.before.before c.get64-slot.result c.get64-slot.ensures in
+    ((entry (known c.before.before.before)).requires.0.second, (here.next.inside, here.second))
 
-add-put-entry : tie.Need-overflow-add-put-entry invariant-loop decreases-loop
-add-put-entry c =
-    let y = c.before.before.before in
-    let x = y.before in
-    let g = x.before in
-    let d = g.before.before in
-    let here = next-at d g.get64.result g.get64.ensures in
+overflow_add-x : tie.Need-overflow_add-x invariant-loop-at decreases-loop-at
+overflow_add-x c =
+    let here = next-at c.before.before.before.before.before.before c.get64-slot.result c.get64-slot.ensures in
     omega (
       arith,
-      (entry (known d.before)).pre.1.0 _ here.next.inside,
+      (entry (known c.before.before.before.before.before.before.before)).requires.1.0 _ here.next.inside,
       here.sum,
-      x.take_at.ensures.is,
-      y.take-addend.ensures.is,
+      c.take_at-x.ensures.is,
+      c.take_addend-y.ensures.is,
     )
 
-put-entry-requires : tie.Need-put-entry-requires invariant-loop decreases-loop
-put-entry-requires c κs =
-    let g = c.before.before.before.before.before in
-    (next-at g.before.before g.get64.result g.get64.ensures).next.space
+put_entry-at-requires : tie.Need-put_entry-at-requires invariant-loop-at decreases-loop-at
+put_entry-at-requires c κs =
+    (next-at c.before.before.before.before.before.before c.get64-slot.result c.get64-slot.ensures).next.space
 
-loop-less : tie.Need-loop-smaller invariant-loop decreases-loop
-loop-less c =
-    let e = c.before.before in
-    let d = e.before.before.before.before.before.before.before.before in
-    omega (arith, e.put-entry.ensures.0, d.loop-test.true)
+loop-at-smaller : tie.Need-loop-at-smaller invariant-loop-at decreases-loop-at
+loop-at-smaller c =
+    omega (arith, c.put_entry-at.ensures.0, c.loop-at-test.true)
 
-loop-again : tie.Need-loop-preserved invariant-loop decreases-loop
-loop-again c =
-    let e = c.before.before in
-    let y = e.before.before.before.before in
-    let x = y.before in
-    let g = x.before in
-    let d = g.before.before in
-    let k = known d.before in
-    putting-more (sound (maps k)) (entry k).args.of _ _ _ _ _ _ _ _ _ _ _ d.before.loop.invariant
-    (next-at d g.get64.result g.get64.ensures) x.take_at.ensures y.take-addend.ensures refl
-    e.put-entry.ensures.1
-    e.put-entry.ensures.0
+loop-at-preserved : tie.Need-loop-at-preserved invariant-loop-at decreases-loop-at
+loop-at-preserved c =
+    let k = known c.before.before.before.before.before.before.before.before.before.before in
+    putting-more (sound (maps k)) (entry k).args.of _ _ _ _ _ _ _ _ _ _ _ c.loop-at.invariant
+    (next-at c.before.before.before.before.before.before.before.before.before c.get64-slot.result c.get64-slot.ensures) c.take_at-x.ensures c.take_addend-y.ensures refl
+    c.put_entry-at.ensures.1
+    c.put_entry-at.ensures.0
 
-same_length : tie.Need-same-length invariant-loop decreases-loop
-same_length c = search rules
+shape_of-out : tie.Need-shape_of-out invariant-loop-at decreases-loop-at
+shape_of-out c = search rules
 
-returns : tie.Need-returns invariant-loop decreases-loop
+returns : tie.Need-returns invariant-loop-at decreases-loop-at
 returns c =
-    let p = c.before.before.before.before in
     let s = entry (known c.before) in
-    fill_end c.before.loop.invariant.fill (omega (arith, c.loop-test.false, s.pre.1.1.1.0))
-    ∙ fill-over s.args.n (v s) s.args.out.now _ s.pre.1.1.0 (space s) p.put-slots.ensures
+    fill_end c.loop-at.invariant.fill (omega (arith, c.loop-at-test.false, s.requires.1.1.1.0))
+    ∙ fill-over s.args.n (v s) s.args.out.now _ s.requires.1.1.0 (space s) c.put_slots.ensures
 
-pub put-entries-spec : {M : Type 1} → statement M
-put-entries-spec =
+pub put_entries_spec : {M : Type 1} → statement M
+put_entries_spec =
     tie.close
     (tie.spec
-    invariant-loop
-    decreases-loop
-    put-slots-requires
-    add_at
-    mul-end
-    add-end
-    loop-holds
-    get64-requires
-    take-at-requires
-    take-addend-requires
-    add-put-entry
-    put-entry-requires
-    loop-less
-    loop-again
-    same_length
+    invariant-loop-at
+    decreases-loop-at
+    put_slots-requires
+    overflow_add-at
+    overflow_mul-end
+    overflow_add-end
+    loop-at-init
+    get64-slot-requires
+    take_at-x-requires
+    take_addend-y-requires
+    overflow_add-x
+    put_entry-at-requires
+    loop-at-smaller
+    loop-at-preserved
+    shape_of-out
     returns)

@@ -10,125 +10,116 @@ use Rattle.pciv_arith_add.proofs.put.put_primary.Statement.{statement}
 use Rattle.pciv_arith_add.proofs.put.put_primary.Tie as tie
 
 -- at the branch: two checked files
-maps : (c : tie.After-shared-slice-known2)
-    → (let a = c.before.before.before.args in Maps a.a.now a.b.now a.n a.ka a.kb)
+maps : (c : tie.After-shared_slice_known-2-1)
+    → (let a = c.args in Maps a.a.now a.b.now a.n a.ka a.kb)
 maps c =
     record {
-      pair = c.before.before.before.requires.0;
-      bytes-a = λ i. (c.before.shared-slice-known.given i).fits;
-      bytes-b = λ i. (c.shared-slice-known2.given i).fits;
+      pair = c.requires.0;
+      bytes-a = λ i. (c.shared_slice_known-1.given i).fits;
+      bytes-b = λ i. (c.shared_slice_known-2-1.given i).fits;
     }
 
-abbrev entry : tie.After-enum-told → tie.Start
-entry c = c.before.before.before.before.before
+abbrev entry : tie.In-Map → tie.Start
+entry c = c.before.before.before.before
 
-add-end : tie.Need-overflow-add-end
-add-end c = search rules
+overflow_add-end : tie.Need-overflow_add-end
+overflow_add-end c = search rules
 
-enum_told : tie.Need-enum-told
-enum_told c = search rules
+enum_told-1 : tie.Need-enum_told-1
+enum_told-1 c = search rules
 
-sub-zip-into : tie.Need-overflow-sub-zip-into
-sub-zip-into c = search rules
+slice_bounds-zip_into-count : tie.Need-slice_bounds-zip_into-count
+slice_bounds-zip_into-count c = search rules
 
-part-zip-into-start : tie.Need-slice-bounds-zip-into-start
-part-zip-into-start c = search rules
+slice_bounds-zip_into-start : tie.Need-slice_bounds-zip_into-start
+slice_bounds-zip_into-start c = search rules
 
-part-zip-into-end : tie.Need-slice-bounds-zip-into-end
-part-zip-into-end c =
+slice_bounds-zip_into-end : tie.Need-slice_bounds-zip_into-end
+slice_bounds-zip_into-end c =
     let s = entry c in
-    primary-inside s.args.a.now s.args.n s.args.ka s.pre.0.first
+    primary-inside s.args.a.now s.args.n s.args.ka s.requires.0.first
 
-sub-zip-into-2 : tie.Need-overflow-sub-zip-into-2
-sub-zip-into-2 c = search rules
+slice_bounds-zip_into-count-in-Map : tie.Need-slice_bounds-zip_into-count-in-Map
+slice_bounds-zip_into-count-in-Map c = search rules
 
-part-zip-into-start-2 : tie.Need-slice-bounds-zip-into-start-2
-part-zip-into-start-2 c = search rules
+slice_bounds-zip_into-start-in-Map : tie.Need-slice_bounds-zip_into-start-in-Map
+slice_bounds-zip_into-start-in-Map c = search rules
 
-part-zip-into-end-2 : tie.Need-slice-bounds-zip-into-end-2
-part-zip-into-end-2 c =
+slice_bounds-zip_into-end-in-Map : tie.Need-slice_bounds-zip_into-end-in-Map
+slice_bounds-zip_into-end-in-Map c =
     let s = entry c.before in
-    primary-inside s.args.b.now s.args.n s.args.kb s.pre.0.second
+    primary-inside s.args.b.now s.args.n s.args.kb s.requires.0.second
 
-zip-into-requires : tie.Need-zip-into-requires
-zip-into-requires c κs =
+zip_into-requires : tie.Need-zip_into-requires
+zip_into-requires c κs =
     let s = entry c.before.before.before in
     let a = s.args in
     rw (
       add-sub_cancel_left 40 a.n,
-      primary-length a.a.now a.n a.ka s.pre.0.first,
-      primary-length a.b.now a.n a.kb s.pre.0.second,
-    ) (refl, s.pre.1)
+      primary-length a.a.now a.n a.ka s.requires.0.first,
+      primary-length a.b.now a.n a.kb s.requires.0.second,
+    ) (refl, s.requires.1)
 
-enum-known-of : tie.Need-enum-known-of
-enum-known-of c = search rules
+enum_known-of : tie.Need-enum_known-of
+enum_known-of c = search rules
 
-sub-map-into : tie.Need-overflow-sub-map-into
-sub-map-into c = search rules
+slice_bounds-map_into-count : tie.Need-slice_bounds-map_into-count
+slice_bounds-map_into-count c = search rules
 
-part-map-into-start : tie.Need-slice-bounds-map-into-start
-part-map-into-start c = search rules
+slice_bounds-map_into-start : tie.Need-slice_bounds-map_into-start
+slice_bounds-map_into-start c = search rules
 
-part-map-into-end : tie.Need-slice-bounds-map-into-end
-part-map-into-end c =
-    let s = c.before.before.before.before.before.before in
-    primary-inside s.args.a.now s.args.n s.args.ka s.requires.0.first
+slice_bounds-map_into-end : tie.Need-slice_bounds-map_into-end
+slice_bounds-map_into-end c =
+    primary-inside c.args.a.now c.args.n c.args.ka c.requires.0.first
 
-primary-byte-requires : tie.Need-primary-byte-requires
-primary-byte-requires c κs = search rules
+primary_byte-requires : tie.Need-primary_byte-requires
+primary_byte-requires c κs = search rules
 
-map-into-requires : tie.Need-map-into-requires
-map-into-requires c κs =
-    let s = c.before.before.before.before.before.before.before.before.before in
-    let a = s.args in
-    rw (add-sub_cancel_left 40 a.n, primary-length a.a.now a.n a.ka s.requires.0.first) s.requires.1
+map_into-requires : tie.Need-map_into-requires
+map_into-requires c κs =
+    let a = c.args in
+    rw (add-sub_cancel_left 40 a.n, primary-length a.a.now a.n a.ka c.requires.0.first) c.requires.1
 
-same_length : tie.Need-same-length
-same_length c = search rules
+shape_of-out-in-Map : tie.Need-shape_of-out-in-Map
+shape_of-out-in-Map c = search rules
 
-returns : tie.Need-returns
-returns c =
-    let z = c.before.before in
-    let d = z.before.before.before.before in
-    let k = d.before.before in
-    let a = (entry d).args in
-    rw d.enum_told.given.1
-    ((rw (add-sub_cancel_left 40 a.n) at z.zip-into.ensures) ∙ ap (sets a.out.now 40) (primary-map (maps k)))
+returns-in-Map : tie.Need-returns-in-Map
+returns-in-Map c =
+    let a = (entry c.before.before.before.before.before.before).args in
+    rw c.in-Map.is
+    ((rw (add-sub_cancel_left 40 a.n) at c.zip_into.ensures) ∙ ap (sets a.out.now 40) (primary-map (maps c.before.before.before.before.before.before.before)))
 
-same-length-2 : tie.Need-same-length-2
-same-length-2 c = search rules
+shape_of-out-in-Number : tie.Need-shape_of-out-in-Number
+shape_of-out-in-Number c = search rules
 
-returns-2 : tie.Need-returns-2
-returns-2 c =
-    let z = c.before.before in
-    let y = z.before.before in
-    let d = y.before.before.before in
-    let k = d.before.before in
-    let a = k.before.before.before.args in
-    rw d.of.given.1
-    ((rw (add-sub_cancel_left 40 a.n, y.primary-byte.ensures) at z.map-into.ensures)
-    ∙ ap (sets a.out.now 40) (primary-number (maps k) d.of.given.0.0))
+returns-in-Number : tie.Need-returns-in-Number
+returns-in-Number c =
+    let a = c.args in
+    rw c.in-Number.is
+    ((rw (add-sub_cancel_left 40 a.n, c.primary_byte.ensures) at c.map_into.ensures)
+    ∙ ap (sets a.out.now 40) (primary-number (maps c.before.before.before.before.before.before.before) c.in-Number.d))
 
-pub put-primary-spec : {M : Type 1} → statement M
-put-primary-spec =
+pub put_primary_spec : {M : Type 1} → statement M
+put_primary_spec =
     tie.close
     (tie.spec
-    add-end
-    enum_told
-    sub-zip-into
-    part-zip-into-start
-    part-zip-into-end
-    sub-zip-into-2
-    part-zip-into-start-2
-    part-zip-into-end-2
-    zip-into-requires
-    enum-known-of
-    sub-map-into
-    part-map-into-start
-    part-map-into-end
-    primary-byte-requires
-    map-into-requires
-    same_length
-    returns
-    same-length-2
-    returns-2)
+    overflow_add-end
+    enum_told-1
+    slice_bounds-zip_into-count
+    slice_bounds-zip_into-start
+    slice_bounds-zip_into-end
+    slice_bounds-zip_into-count-in-Map
+    slice_bounds-zip_into-start-in-Map
+    slice_bounds-zip_into-end-in-Map
+    zip_into-requires
+    enum_known-of
+    slice_bounds-map_into-count
+    slice_bounds-map_into-start
+    slice_bounds-map_into-end
+    primary_byte-requires
+    map_into-requires
+    shape_of-out-in-Map
+    returns-in-Map
+    shape_of-out-in-Number
+    returns-in-Number)

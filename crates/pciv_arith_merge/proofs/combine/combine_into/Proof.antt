@@ -16,7 +16,7 @@ use Rattle.pciv_arith_merge.proofs.CombineLaws.{combined-fits}
 use Rattle.pciv_arith_merge.proofs.combine.combine_into.Statement.{statement}
 use Rattle.pciv_arith_merge.proofs.combine.combine_into.Tie as tie
 
-abbrev entry : tie.After-count-overflow → tie.Start
+abbrev entry : tie.After-count_overflow-k → tie.Start
 entry c = c.before.before.before.before
 
 -- the distances of the result
@@ -27,100 +27,85 @@ abbrev into : tie.Start → Outcome Summary
 into s = map_into s.args.n (v s) (length s.args.out.now)
 
 -- the two maps
-maps : (c : tie.After-shared-slice-known2)
-    → (let a = c.before.before.before.args in Maps a.a.now a.b.now a.n a.ka a.kb)
+maps : (c : tie.After-shared_slice_known-2-1)
+    → (let a = c.args in Maps a.a.now a.b.now a.n a.ka a.kb)
 maps c =
     record {
-      pair = c.before.before.before.requires;
-      bytes-a = λ i. (c.before.shared-slice-known.given i).fits;
-      bytes-b = λ i. (c.shared-slice-known2.given i).fits;
+      pair = c.requires;
+      bytes-a = λ i. (c.shared_slice_known-1.given i).fits;
+      bytes-b = λ i. (c.shared_slice_known-2-1.given i).fits;
     }
 
-opened : (b : tie.After-begin)
-    → (let e = b.before.before in
-    let s = entry e in
-    Opened s.args.n e.count-overflow.result (v s) (into s) s.args.out.now b.begin.result
-    b.begin.new.0)
+opened : (b : tie.After-begin-begun)
+    → (let s = entry b.before.before in
+    Opened s.args.n b.count_overflow-k.result (v s) (into s) s.args.out.now b.begin-begun.result
+    b.begin-begun.new.out)
 opened b =
-    let e = b.before.before in
-    let s = entry e in
-    let fits = combined-fits s.args.op (sound (maps e.before)) in
+    let s = entry b.before.before in
+    let fits = combined-fits s.args.op (sound (maps b.before.before.before)) in
     record {
-      few = s.pre.first.header.small;
+      few = s.requires.first.header.small;
       each = fits;
-      count = e.count-overflow.ensures;
+      count = b.count_overflow-k.ensures;
       into = map-fits s.args.n (v s) (length s.args.out.now) fits;
-      answer = b.begin.ensures.0;
-      buffer = b.begin.ensures.1;
+      answer = b.begin-begun.ensures.0;
+      buffer = b.begin-begun.ensures.1;
     }
 
-count-overflow-requires : tie.Need-count-overflow-requires
-count-overflow-requires c κs = search rules
+count_overflow-k-requires : tie.Need-count_overflow-k-requires
+count_overflow-k-requires c κs = search rules
 
-begin-requires : tie.Need-begin-requires
-begin-requires c κs =
-    let e = c.before in
-    let s = entry e in
-    begin-few s.args.n e.count-overflow.result (v s) s.pre.first.header.small e.count-overflow.ensures
+begin-begun-requires : tie.Need-begin-begun-requires
+begin-begun-requires c κs =
+    let s = entry c.before in
+    begin-few s.args.n c.count_overflow-k.result (v s) s.requires.first.header.small c.count_overflow-k.ensures
 
-enum-known-begun : tie.Need-enum-known-begun
-enum-known-begun c = search rules
+enum_known-begun : tie.Need-enum_known-begun
+enum_known-begun c = search rules
 
-enum-known-begun-2 : tie.Need-enum-known-begun-2
-enum-known-begun-2 c = search rules
+enum_known-begun-in-Counted-1 : tie.Need-enum_known-begun-in-Counted-1
+enum_known-begun-in-Counted-1 c = search rules
 
-put-parts-requires : tie.Need-put-parts-requires
-put-parts-requires c κs =
-    let k = c.before.before in
-    let b = k.before.before.before.before in
-    let e = b.before.before in
-    ((entry e).requires, omega (arith, opened-space (opened b) _ k.begun2.given.1, e.count-overflow.ensures))
+put_parts-requires : tie.Need-put_parts-requires
+put_parts-requires c κs =
+    ((entry c.before.before.before.before.before.before).requires, omega (arith, opened-space (opened c.before.before.before.before) _ c.in-Counted.is, c.count_overflow-k.ensures))
 
 finish-requires : tie.Need-finish-requires
 finish-requires c κs =
-    let p = c.before.before.before in
-    let k = p.before.before.before in
-    opened-finish (opened k.before.before.before.before) _ k.begun2.given.1 _ refl _ p.put-parts.ensures
+    opened-finish (opened c.before.before.before.before.before.before.before.before) _ c.in-Counted.is _ refl _ c.put_parts.ensures
 
-summary-of-requires : tie.Need-summary-of-requires
-summary-of-requires c κs =
-    let f = c.before.before.before in
-    let p = f.before.before.before.before in
-    let k = p.before.before.before in
-    opened_map (opened k.before.before.before.before) _ k.begun2.given.1 _ refl _ p.put-parts.ensures
-    _ f.finish.ensures
+summary_of-requires : tie.Need-summary_of-requires
+summary_of-requires c κs =
+    opened_map (opened c.before.before.before.before.before.before.before.before.before.before.before) _ c.in-Counted.is _ refl _ c.put_parts.ensures
+    _ c.finish.ensures
 
-same_length : tie.Need-same-length
-same_length c = search rules
+shape_of-out-in-Refused : tie.Need-shape_of-out-in-Refused
+shape_of-out-in-Refused c = search rules
 
-returns : tie.Need-returns
-returns c =
-    let k = c.before in
-    opened-refused (opened k.before.before.before.before) _ k.begun.given.1
+returns-in-Refused : tie.Need-returns-in-Refused
+returns-in-Refused c =
+    opened-refused (opened c.before.before.before) _ c.in-Refused.is
 
-same-length-2 : tie.Need-same-length-2
-same-length-2 c = search rules
+shape_of-out-in-Counted : tie.Need-shape_of-out-in-Counted
+shape_of-out-in-Counted c = search rules
 
-returns-2 : tie.Need-returns-2
-returns-2 c =
-    let f = c.before.before.before.before in
-    let p = f.before.before.before.before in
-    let k = p.before.before.before in
-    opened-done (opened k.before.before.before.before) _ k.begun2.given.1 _ refl _ p.put-parts.ensures
-    _ f.finish.ensures _ c.summary-of.ensures
+returns-in-Counted : tie.Need-returns-in-Counted
+returns-in-Counted c =
+    opened-done (opened c.before.before.before.before.before.before.before.before.before.before.before.before) _ c.in-Counted.is _ refl _ c.put_parts.ensures
+    _ c.finish.ensures _ c.summary_of.ensures
 
-pub combine-into-spec : {M : Type 1} → statement M
-combine-into-spec =
+pub combine_into_spec : {M : Type 1} → statement M
+combine_into_spec =
     tie.close
     (tie.spec
-    count-overflow-requires
-    begin-requires
-    enum-known-begun
-    enum-known-begun-2
-    put-parts-requires
+    count_overflow-k-requires
+    begin-begun-requires
+    enum_known-begun
+    enum_known-begun-in-Counted-1
+    put_parts-requires
     finish-requires
-    summary-of-requires
-    same_length
-    returns
-    same-length-2
-    returns-2)
+    summary_of-requires
+    shape_of-out-in-Refused
+    returns-in-Refused
+    shape_of-out-in-Counted
+    returns-in-Counted)

@@ -20,77 +20,74 @@ in-case : (a b : List ℕ) (n ka kb r : ℕ) {op case : MergeOp} → op ≡ case
 in-case a b n ka kb r e count = rw e count
 
 -- the two maps
-maps : (c : tie.After-shared-slice-known2)
-    → (let a = c.before.before.args in Maps a.a.now a.b.now a.n a.ka a.kb)
+maps : (c : tie.After-shared_slice_known-2-1)
+    → (let a = c.args in Maps a.a.now a.b.now a.n a.ka a.kb)
 maps c =
     record {
-      pair = c.before.before.requires;
-      bytes-a = λ i. (c.before.shared-slice-known.given i).fits;
-      bytes-b = λ i. (c.shared-slice-known2.given i).fits;
+      pair = c.requires;
+      bytes-a = λ i. (c.shared_slice_known-1.given i).fits;
+      bytes-b = λ i. (c.shared_slice_known-2-1.given i).fits;
     }
 
-enum_told : tie.Need-enum-told
-enum_told c = search rules
+enum_told-1 : tie.Need-enum_told-1
+enum_told-1 c = search rules
 
-count-both-requires : tie.Need-count-both-requires
-count-both-requires c κs = search rules
+count_both-requires : tie.Need-count_both-requires
+count_both-requires c κs = search rules
 
-enum-told-2 : tie.Need-enum-told-2
-enum-told-2 c = search rules
+enum_told-in-Maximum : tie.Need-enum_told-in-Maximum
+enum_told-in-Maximum c = search rules
 
-add-result : tie.Need-overflow-add-result
-add-result c =
-    let p = c.before.before.before.before.requires in
+overflow_add-result : tie.Need-overflow_add-result
+overflow_add-result c =
+    let p = c.requires in
     omega (arith, p.first.header.few, p.second.header.few, p.first.header.small)
 
-count-both-requires-2 : tie.Need-count-both-requires-2
-count-both-requires-2 c κs = search rules
+count_both-requires-in-Maximum : tie.Need-count_both-requires-in-Maximum
+count_both-requires-in-Maximum c κs = search rules
 
 -- minimum and maximum together
-both : (c : tie.After-count-both2) → (let a = c.before.before.before.before.before.args in
-    c.count-both2.result + overflow_count a.n (result_of Maximum a.a.now a.b.now a.n a.ka a.kb)
+both : (c : tie.After-count_both-in-Maximum) → (let a = c.args in
+    c.count_both-in-Maximum.result + overflow_count a.n (result_of Maximum a.a.now a.b.now a.n a.ka a.kb)
     ≡ a.ka + a.kb)
-both c = omega (arith, c.count-both2.ensures, extremes-count (sound (maps c.before.before.before)))
+both c = omega (arith, c.count_both-in-Maximum.ensures, extremes-count (sound (maps c.before.before)))
 
-sub-result : tie.Need-overflow-sub-result
-sub-result c = omega (arith, both c)
+overflow_sub-result : tie.Need-overflow_sub-result
+overflow_sub-result c = omega (arith, both c)
 
-enum-told-3 : tie.Need-enum-told-3
-enum-told-3 c = search rules
+enum_told-in-Difference : tie.Need-enum_told-in-Difference
+enum_told-in-Difference c = search rules
 
-count-led-requires : tie.Need-count-led-requires
-count-led-requires c κs = (c.before.before.before.before.requires, shrinks-difference)
+count_led-requires : tie.Need-count_led-requires
+count_led-requires c κs = (c.requires, shrinks-difference)
 
-returns : tie.Need-returns
-returns c =
-    let t = c.before in
-    let a = t.before.before.before.before.args in
-    in-case a.a.now a.b.now a.n a.ka a.kb _ t.enum_told.given.1 c.count-both.ensures
+returns-in-Minimum : tie.Need-returns-in-Minimum
+returns-in-Minimum c =
+    let a = c.args in
+    in-case a.a.now a.b.now a.n a.ka a.kb _ c.in-Minimum.is c.count_both.ensures
 
-returns-2 : tie.Need-returns-2
-returns-2 c =
-    let t = c.before in
-    let a = t.before.before.before.before.args in
-    in-case a.a.now a.b.now a.n a.ka a.kb _ t.enum-told2.given.1 (omega (arith, both c))
+returns-in-Maximum : tie.Need-returns-in-Maximum
+returns-in-Maximum c =
+    let a = c.args in
+    in-case a.a.now a.b.now a.n a.ka a.kb _ c.in-Maximum.is (omega (arith, both c))
 
-returns-3 : tie.Need-returns-3
-returns-3 c =
-    let t = c.before in
-    let a = t.before.before.before.before.args in
-    in-case a.a.now a.b.now a.n a.ka a.kb _ t.enum-told3.given.1 c.count-led.ensures
+returns-in-Difference : tie.Need-returns-in-Difference
+returns-in-Difference c =
+    let a = c.args in
+    in-case a.a.now a.b.now a.n a.ka a.kb _ c.in-Difference.is c.count_led.ensures
 
-pub count-overflow-spec : {M : Type 1} → statement M
-count-overflow-spec =
+pub count_overflow_spec : {M : Type 1} → statement M
+count_overflow_spec =
     tie.close
     (tie.spec
-    enum_told
-    count-both-requires
-    enum-told-2
-    add-result
-    count-both-requires-2
-    sub-result
-    enum-told-3
-    count-led-requires
-    returns
-    returns-2
-    returns-3)
+    enum_told-1
+    count_both-requires
+    enum_told-in-Maximum
+    overflow_add-result
+    count_both-requires-in-Maximum
+    overflow_sub-result
+    enum_told-in-Difference
+    count_led-requires
+    returns-in-Minimum
+    returns-in-Maximum
+    returns-in-Difference)

@@ -36,137 +36,110 @@ abbrev second : tie.Start → Parts
 second s = file_parts s.args.b.now s.args.n s.args.kb
 
 -- the two maps
-maps : (c : tie.After-shared-slice-known2)
-    → (let a = c.before.before.before.args in Maps a.a.now a.b.now a.n a.ka a.kb)
+maps : (c : tie.After-shared_slice_known-2-1)
+    → (let a = c.args in Maps a.a.now a.b.now a.n a.ka a.kb)
 maps c =
     record {
-      pair = c.before.before.before.requires.0;
-      bytes-a = λ i. (c.before.shared-slice-known.given i).fits;
-      bytes-b = λ i. (c.shared-slice-known2.given i).fits;
+      pair = c.requires.0;
+      bytes-a = λ i. (c.shared_slice_known-1.given i).fits;
+      bytes-b = λ i. (c.shared_slice_known-2-1.given i).fits;
     }
 
-add-from : tie.Need-overflow-add-from
-add-from c = omega (arith, c.before.before.before.requires.0.first.header.small)
+overflow_add-from : tie.Need-overflow_add-from
+overflow_add-from c = omega (arith, c.requires.0.first.header.small)
 
-enum_told : tie.Need-enum-told
-enum_told c = search rules
+enum_told-1 : tie.Need-enum_told-1
+enum_told-1 c = search rules
 
-put-primary-requires : tie.Need-put-primary-requires
-put-primary-requires c κs =
-    let s = c.before.before.before.before.before.before in
-    (s.requires.0, omega (arith, s.requires.1))
+put_primary-requires : tie.Need-put_primary-requires
+put_primary-requires c κs =
+    (c.requires.0, omega (arith, c.requires.1))
 
-put-led-requires : tie.Need-put-led-requires
-put-led-requires c κs =
-    let p = c.before.before.before in
-    let t = p.before.before in
-    let s = t.before.before.before.before.before in
-    let a = s.args in
-    let space = space-in-case a.a.now a.b.now a.n a.ka a.kb a.out.now t.enum_told.given.1
-    s.requires.1 in
-    (s.requires.0, (shrinks-minimum, omega (arith, space, p.put-primary.auto.0)))
+put_led-requires : tie.Need-put_led-requires
+put_led-requires c κs =
+    let a = c.args in
+    let space = space-in-case a.a.now a.b.now a.n a.ka a.kb a.out.now c.in-Minimum.is
+    c.requires.1 in
+    (c.requires.0, (shrinks-minimum, omega (arith, space, c.put_primary.auto.out)))
 
-enum-told-2 : tie.Need-enum-told-2
-enum-told-2 c = search rules
+enum_told-in-Maximum : tie.Need-enum_told-in-Maximum
+enum_told-in-Maximum c = search rules
 
-put-primary-requires-2 : tie.Need-put-primary-requires-2
-put-primary-requires-2 c κs =
-    let s = c.before.before.before.before.before.before in
-    (s.requires.0, omega (arith, s.requires.1))
+put_primary-requires-in-Maximum : tie.Need-put_primary-requires-in-Maximum
+put_primary-requires-in-Maximum c κs =
+    (c.requires.0, omega (arith, c.requires.1))
 
-put-joint-requires : tie.Need-put-joint-requires
-put-joint-requires c κs =
-    let p = c.before.before.before in
-    let t = p.before.before in
-    let s = t.before.before.before.before.before in
-    let a = s.args in
-    let space = space-in-case a.a.now a.b.now a.n a.ka a.kb a.out.now t.enum-told2.given.1
-    s.requires.1 in
-    (s.requires.0, omega (arith, space, p.put-primary2.auto.0))
+put_joint-requires : tie.Need-put_joint-requires
+put_joint-requires c κs =
+    let a = c.args in
+    let space = space-in-case a.a.now a.b.now a.n a.ka a.kb a.out.now c.in-Maximum.is
+    c.requires.1 in
+    (c.requires.0, omega (arith, space, c.put_primary-in-Maximum.auto.out))
 
-enum-told-3 : tie.Need-enum-told-3
-enum-told-3 c = search rules
+enum_told-in-Difference : tie.Need-enum_told-in-Difference
+enum_told-in-Difference c = search rules
 
-put-primary-requires-3 : tie.Need-put-primary-requires-3
-put-primary-requires-3 c κs =
-    let s = c.before.before.before.before.before.before in
-    (s.requires.0, omega (arith, s.requires.1))
+put_primary-requires-in-Difference : tie.Need-put_primary-requires-in-Difference
+put_primary-requires-in-Difference c κs =
+    (c.requires.0, omega (arith, c.requires.1))
 
-settle-led-requires : tie.Need-settle-led-requires
-settle-led-requires c κs =
-    let p = c.before.before.before in
-    let t = p.before.before in
-    let k = t.before.before in
-    let s = k.before.before.before in
-    let a = s.args in
-    let space = space-in-case a.a.now a.b.now a.n a.ka a.kb a.out.now t.enum-told3.given.1
-    s.requires.1 in
-    let right = inline-right Difference Sub same-difference (sound (maps k)) a.out.now _ (omega (arith, s.requires.1))
-    p.put-primary3.ensures in
-    (s.requires.0, (shrinks-difference, (right, omega (arith, space, p.put-primary3.auto.0))))
+settle_led-requires : tie.Need-settle_led-requires
+settle_led-requires c κs =
+    let a = c.args in
+    let space = space-in-case a.a.now a.b.now a.n a.ka a.kb a.out.now c.in-Difference.is
+    c.requires.1 in
+    let right = inline-right Difference Sub same-difference (sound (maps c.before.before.before.before.before.before)) a.out.now _ (omega (arith, c.requires.1))
+    c.put_primary-in-Difference.ensures in
+    (c.requires.0, (shrinks-difference, (right, omega (arith, space, c.put_primary-in-Difference.auto.out))))
 
-same_length : tie.Need-same-length
-same_length c = search rules
+shape_of-out-in-Minimum : tie.Need-shape_of-out-in-Minimum
+shape_of-out-in-Minimum c = search rules
 
-returns : tie.Need-returns
-returns c =
-    let l = c.before.before in
-    let p = l.before.before.before.before in
-    let t = p.before.before in
-    let k = t.before.before in
-    let s = k.before.before.before in
-    let a = s.args in
-    in-case a.a.now a.b.now a.n a.ka a.kb a.out.now t.enum_told.given.1 _
-    (combined-parts Minimum Min same-minimum (sound (maps k)) a.out.now _ _ p.put-primary.ensures
-    l.put-led.ensures)
+returns-in-Minimum : tie.Need-returns-in-Minimum
+returns-in-Minimum c =
+    let a = c.args in
+    in-case a.a.now a.b.now a.n a.ka a.kb a.out.now c.in-Minimum.is _
+    (combined-parts Minimum Min same-minimum (sound (maps c.before.before.before.before.before.before.before.before.before)) a.out.now _ _ c.put_primary.ensures
+    c.put_led.ensures)
 
-same-length-2 : tie.Need-same-length-2
-same-length-2 c = search rules
+shape_of-out-in-Maximum : tie.Need-shape_of-out-in-Maximum
+shape_of-out-in-Maximum c = search rules
 
-returns-2 : tie.Need-returns-2
-returns-2 c =
-    let l = c.before.before in
-    let p = l.before.before.before.before in
-    let t = p.before.before in
-    let k = t.before.before in
-    let s = k.before.before.before in
-    let a = s.args in
-    in-case a.a.now a.b.now a.n a.ka a.kb a.out.now t.enum-told2.given.1 _
-    (combined-parts Maximum Max same-maximum (sound (maps k)) a.out.now _ _ p.put-primary2.ensures
-    l.put-joint.ensures)
+returns-in-Maximum : tie.Need-returns-in-Maximum
+returns-in-Maximum c =
+    let a = c.args in
+    in-case a.a.now a.b.now a.n a.ka a.kb a.out.now c.in-Maximum.is _
+    (combined-parts Maximum Max same-maximum (sound (maps c.before.before.before.before.before.before.before.before.before)) a.out.now _ _ c.put_primary-in-Maximum.ensures
+    c.put_joint.ensures)
 
-same-length-3 : tie.Need-same-length-3
-same-length-3 c = search rules
+shape_of-out-in-Difference : tie.Need-shape_of-out-in-Difference
+shape_of-out-in-Difference c = search rules
 
-returns-3 : tie.Need-returns-3
-returns-3 c =
-    let l = c.before.before in
-    let p = l.before.before.before.before in
-    let t = p.before.before in
-    let s = t.before.before.before.before.before in
-    let a = s.args in
-    in-case a.a.now a.b.now a.n a.ka a.kb a.out.now t.enum-told3.given.1 _
-    (settled-over a.n (combined_bytes Sub (first s) (second s)) (combined_of Difference (first s) (second s))
+returns-in-Difference : tie.Need-returns-in-Difference
+returns-in-Difference c =
+    let a = c.args in
+    in-case a.a.now a.b.now a.n a.ka a.kb a.out.now c.in-Difference.is _
+    (settled-over a.n (combined_bytes Sub (first c.before.before.before.before.before.before.before.before.before.before.before.before) (second c.before.before.before.before.before.before.before.before.before.before.before.before)) (combined_of Difference (first c.before.before.before.before.before.before.before.before.before.before.before.before) (second c.before.before.before.before.before.before.before.before.before.before.before.before))
     a.out.now _ _
-    p.put-primary3.ensures l.settle-led.ensures)
+    c.put_primary-in-Difference.ensures c.settle_led.ensures)
 
-pub put-parts-spec : {M : Type 1} → statement M
-put-parts-spec =
+pub put_parts_spec : {M : Type 1} → statement M
+put_parts_spec =
     tie.close
     (tie.spec
-    add-from
-    enum_told
-    put-primary-requires
-    put-led-requires
-    enum-told-2
-    put-primary-requires-2
-    put-joint-requires
-    enum-told-3
-    put-primary-requires-3
-    settle-led-requires
-    same_length
-    returns
-    same-length-2
-    returns-2
-    same-length-3
-    returns-3)
+    overflow_add-from
+    enum_told-1
+    put_primary-requires
+    put_led-requires
+    enum_told-in-Maximum
+    put_primary-requires-in-Maximum
+    put_joint-requires
+    enum_told-in-Difference
+    put_primary-requires-in-Difference
+    settle_led-requires
+    shape_of-out-in-Minimum
+    returns-in-Minimum
+    shape_of-out-in-Maximum
+    returns-in-Maximum
+    shape_of-out-in-Difference
+    returns-in-Difference)

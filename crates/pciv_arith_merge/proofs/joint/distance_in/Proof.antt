@@ -3,11 +3,11 @@ use borrow.Author.Tests.{eq-eqb, ne_eqb}
 use Rattle.pciv_arith_merge.proofs.joint.distance_in.Statement.{statement}
 use Rattle.pciv_arith_merge.proofs.joint.distance_in.Tie as tie
 
-returns : tie.Need-returns
-returns c = rw (eq-eqb c.before.before.args.head.slot c.before.before.args.slot c.if1.true)
+returns-then-head-slot : tie.Need-returns-then-head-slot
+returns-then-head-slot c = rw (eq-eqb c.args.head.slot c.args.slot c.if-head-slot.true)
 
-returns-2 : tie.Need-returns-2
-returns-2 c = rw (ne_eqb c.before.before.args.head.slot c.before.before.args.slot c.if1.false)
+returns-else-head-slot : tie.Need-returns-else-head-slot
+returns-else-head-slot c = rw (ne_eqb c.args.head.slot c.args.slot c.if-head-slot.false)
 
-pub distance-in-spec : {M : Type 1} → statement M
-distance-in-spec = tie.close (tie.spec returns returns-2)
+pub distance_in_spec : {M : Type 1} → statement M
+distance_in_spec = tie.close (tie.spec returns-then-head-slot returns-else-head-slot)

@@ -10,65 +10,59 @@ use Rattle.pciv_arith_merge.proofs.LedLaws.{before-later}
 use Rattle.pciv_arith_merge.proofs.led.combine_entry.Statement.{statement}
 use Rattle.pciv_arith_merge.proofs.led.combine_entry.Tie as tie
 
-entry-slot-requires : tie.Need-entry-slot-requires
-entry-slot-requires c κs =
-    let g = c.before.before in
-    let a = g.args in
-    entry-inside a.a.now a.n a.ka g.requires.0.first a.j g.requires.1.1.0
+entry_slot-slot-requires : tie.Need-entry_slot-slot-requires
+entry_slot-slot-requires c κs =
+    let a = c.args in
+    entry-inside a.a.now a.n a.ka c.requires.0.first a.j c.requires.1.1.0
 
-find-from-requires : tie.Need-find-from-requires
-find-from-requires c κs =
-    let g = c.before.before.before in
-    let a = g.args in
+find_from-found-requires : tie.Need-find_from-found-requires
+find_from-found-requires c κs =
+    let a = c.args in
     let A : Parts = file_parts a.a.now a.n a.ka in
-    let good = entry-good A g.requires.0.first.parts a.j g.requires.1.1.0 in
-    let at = c.entry-slot.ensures in (
-      g.requires.0.second,
+    let good = entry-good A c.requires.0.first.parts a.j c.requires.1.1.0 in
+    let at = c.entry_slot-slot.ensures in (
+      c.requires.0.second,
       (
-        before-later (file_parts a.b.now a.n a.kb) (lowest_slot A a.j) c.entry-slot.result a.t
-            (omega (arith, at, good.above)) g.requires.1.1.1,
+        before-later (file_parts a.b.now a.n a.kb) (lowest_slot A a.j) c.entry_slot-slot.result a.t
+            (omega (arith, at, good.above)) c.requires.1.1.1,
         omega (arith, at, good.inside),
       ),
     )
 
-entry-distance-requires : tie.Need-entry-distance-requires
-entry-distance-requires c κs =
-    let g = c.before.before.before.before in
-    let a = g.args in
-    entry-inside a.a.now a.n a.ka g.requires.0.first a.j g.requires.1.1.0
+entry_distance-requires : tie.Need-entry_distance-requires
+entry_distance-requires c κs =
+    let a = c.args in
+    entry-inside a.a.now a.n a.ka c.requires.0.first a.j c.requires.1.1.0
 
-slot-op-requires : tie.Need-slot-op-requires
-slot-op-requires c κs =
-    let g = c.before.before.before.before.before in
+slot_op-requires : tie.Need-slot_op-requires
+slot_op-requires c κs =
     omega (
       arith,
-      g.requires.1.0 c.entry-distance.result c.before.find-from.result.distance,
-      c.entry-distance.type-inv,
+      c.requires.1.0 c.entry_distance.result c.find_from-found.result.distance,
+      c.entry_distance.type_inv,
     )
 
 returns : tie.Need-returns
 returns c =
-    let f = c.before.before in
-    let g = f.before.before.before.before in
-    let a = g.args in
+    let a = c.args in
     let A : Parts = file_parts a.a.now a.n a.ka in
     let B : Parts = file_parts a.b.now a.n a.kb in
-    let at = f.before.entry-slot.ensures in
-    let first = c.before.entry-distance.ensures
-    ∙ sym (value_of-slot A g.requires.0.first.parts a.j g.requires.1.1.0) in
-    let second = f.find-from.ensures.distance ∙ ap (value_of B) at in
+    let at = c.entry_slot-slot.ensures in
+    let first = c.entry_distance.ensures
+    ∙ sym (value_of-slot A c.requires.0.first.parts a.j c.requires.1.1.0) in
+    let second = c.find_from-found.ensures.distance ∙ ap (value_of B) at in
     record {
       slot = at;
-      distance = c.slot-op.ensures ∙ ap₂ (slot_op a.op) first second;
-      before = before-later B _ _ f.find-from.result.entry (omega (arith, at)) f.find-from.ensures.before;
+      distance = c.slot_op.ensures ∙ ap₂ (slot_op a.op) first second;
+      before = before-later B _ _ c.find_from-found.result.entry (omega (arith, at)) c.find_from-found.ensures.before;
     }
 
-pub combine-entry-spec : {M : Type 1} → statement M
-combine-entry-spec =
+pub combine_entry_spec : {M : Type 1} → statement M
+combine_entry_spec =
     tie.close
     (tie.spec
-    entry-slot-requires
-    find-from-requires
-    entry-distance-requires
-    slot-op-requires
+    entry_slot-slot-requires
+    find_from-found-requires
+    entry_distance-requires
+    slot_op-requires
     returns)

@@ -17,159 +17,140 @@ use Rattle.pciv_arith_merge.proofs.MendLaws.{settled-space, settled-more, settle
 use Rattle.pciv_arith_merge.proofs.led.settle_led.Statement.{statement}
 use Rattle.pciv_arith_merge.proofs.led.settle_led.Tie as tie
 
-abbrev invariant-loop : tie.invariant-loop
-invariant-loop out₀ op a b n ka kb at₀ t₀ j₀ out at t j =
+abbrev invariant-loop-j : tie.invariant-loop-j
+invariant-loop-j out₀ op a b n ka kb at₀ t₀ j₀ out at t j =
     let A : Parts = file_parts a n ka in
     let B : Parts = file_parts b n kb in
     LedAt A B j t × Settled A (combined_of op A B) out₀ j out at
 
-abbrev decreases-loop : tie.decreases-loop
-decreases-loop out₀ op a b n ka kb at₀ t₀ j₀ out at t j = ka - j
+abbrev decreases-loop-j : tie.decreases-loop-j
+decreases-loop-j out₀ op a b n ka kb at₀ t₀ j₀ out at t j = ka - j
 
 -- the parts of the two files, and the result
-abbrev first : tie.Start invariant-loop decreases-loop → Parts
+abbrev first : tie.Start invariant-loop-j decreases-loop-j → Parts
 first s = file_parts s.args.a.now s.args.n s.args.ka
 
-abbrev second : tie.Start invariant-loop decreases-loop → Parts
+abbrev second : tie.Start invariant-loop-j decreases-loop-j → Parts
 second s = file_parts s.args.b.now s.args.n s.args.kb
 
-abbrev result : tie.Start invariant-loop decreases-loop → ℕ → ℕ
+abbrev result : tie.Start invariant-loop-j decreases-loop-j → ℕ → ℕ
 result s = combined_of s.args.op (first s) (second s)
 
-abbrev start : tie.At-loop invariant-loop decreases-loop → tie.Start invariant-loop decreases-loop
+abbrev start : tie.At-loop-j invariant-loop-j decreases-loop-j → tie.Start invariant-loop-j decreases-loop-j
 start l = l.before.before.before.before
 
 -- the result is in overflow only where the first map is
-along : (l : tie.At-loop invariant-loop decreases-loop) → Along (first (start l)) (result (start l))
+along : (l : tie.At-loop-j invariant-loop-j decreases-loop-j) → Along (first (start l)) (result (start l))
 along l =
     let s = start l in
-    combined-along s.args.op s.pre.1.0 (first s) (second s) s.pre.0.first.parts
-    (λ i. (l.before.before.shared-slice-known.given (40 + i)).fits)
+    combined-along s.args.op s.requires.1.0 (first s) (second s) s.requires.0.first.parts
+    (λ i. (l.shared_slice_known-1.given (40 + i)).fits)
 
 -- both cursors are behind the entry
-next : (f : tie.After-combine-entry invariant-loop decreases-loop)
-    → (let l = f.before.before in LedAt (first (start l)) (second (start l)) (l.loop.j + 1)
-    f.combine-entry.result.next)
+next : (f : tie.After-combine_entry-found invariant-loop-j decreases-loop-j)
+    → (LedAt (first (start f.before.before)) (second (start f.before.before)) (f.loop-j.j + 1)
+    f.combine_entry-found.result.next)
 next f =
-    let l = f.before.before in
-    led-next (first (start l)) (second (start l)) l.loop.j f.combine-entry.result.next
-    f.before.loop-test.true
-    f.combine-entry.ensures.before
+    led-next (first (start f.before.before)) (second (start f.before.before)) f.loop-j.j f.combine_entry-found.result.next
+    f.loop-j-test.true
+    f.combine_entry-found.ensures.before
 
 -- the slot is one of the map's
-inside : (c : tie.After-combine-entry invariant-loop decreases-loop)
-    → c.combine-entry.result.slot < c.before.before.before.before.before.before.args.n
+inside : (c : tie.After-combine_entry-found invariant-loop-j decreases-loop-j)
+    → c.combine_entry-found.result.slot < c.args.n
 inside c =
-    let l = c.before.before in
-    let s = l.before.before.before.before in
     omega (
       arith,
-      c.combine-entry.ensures.slot,
-      (entry-good (first s) s.requires.0.first.parts l.loop.j c.before.loop-test.true).inside,
+      c.combine_entry-found.ensures.slot,
+      (entry-good (first c.before.before.before.before.before.before) c.requires.0.first.parts c.loop-j.j c.loop-j-test.true).inside,
     )
 
-add_at : tie.Need-overflow-add-at invariant-loop decreases-loop
-add_at c = omega (arith, c.before.before.before.requires.0.first.header.small)
+overflow_add-at : tie.Need-overflow_add-at invariant-loop-j decreases-loop-j
+overflow_add-at c = omega (arith, c.requires.0.first.header.small)
 
-loop-holds : tie.Need-loop-init invariant-loop decreases-loop
-loop-holds c =
-    let s = c.before.before.before in (
-      led-start (first s) (second s),
-      settled-start (first s) (result s) s.args.out.now s.requires.1.1.0 s.requires.1.1.1,
-    )
+loop-j-init : tie.Need-loop-j-init invariant-loop-j decreases-loop-j
+loop-j-init c = (
+  led-start (first c.before.before.before) (second c.before.before.before),
+  settled-start (first c.before.before.before) (result c.before.before.before) c.args.out.now c.requires.1.1.0 c.requires.1.1.1,
+)
 
-combine-entry-requires : tie.Need-combine-entry-requires invariant-loop decreases-loop
-combine-entry-requires c κs =
-    let s = c.before.before.before.before.before in
-    (s.requires.0, (s.requires.1.0, (c.loop-test.true, c.before.loop.invariant.0.before)))
+combine_entry-found-requires : tie.Need-combine_entry-found-requires invariant-loop-j decreases-loop-j
+combine_entry-found-requires c κs =
+    (c.requires.0, (c.requires.1.0, (c.loop-j-test.true, c.loop-j.invariant.0.before)))
 
-primary-byte-requires : tie.Need-primary-byte-requires invariant-loop decreases-loop
-primary-byte-requires c κs = search rules
+primary_byte-requires : tie.Need-primary_byte-requires invariant-loop-j decreases-loop-j
+primary_byte-requires c κs = search rules
 
-add-out : tie.Need-overflow-add-out invariant-loop decreases-loop
-add-out c =
-    let s = c.before.before.before.before.before.before.before in
-    omega (arith, inside c.before, s.requires.0.first.header.small)
+overflow_add-out : tie.Need-overflow_add-out invariant-loop-j decreases-loop-j
+overflow_add-out c =
+    omega (arith, inside c.before, c.requires.0.first.header.small)
 
-slice-write-out : tie.Need-slice-write-out invariant-loop decreases-loop
-slice-write-out c = settled-byte c.before.before.before.loop.invariant.1 _ (inside c.before)
+bounds-out-slot : tie.Need-bounds-out-slot invariant-loop-j decreases-loop-j
+bounds-out-slot c = settled-byte c.loop-j.invariant.1 _ (inside c.before)
 
-add-j : tie.Need-overflow-add-j invariant-loop decreases-loop
-add-j c =
-    let h = c.before.before.before.before.before.before.before.requires.0.first.header in
+overflow_add-j : tie.Need-overflow_add-j invariant-loop-j decreases-loop-j
+overflow_add-j c =
+    let h = c.requires.0.first.header in
     omega (arith, h.few, h.small)
 
 -- the byte that is put right
-byte : (c : tie.After-primary-byte invariant-loop decreases-loop)
-    → (let l = c.before.before.before in
-    c.primary-byte.result ≡ primary_byte (result (start l) ((first (start l)).slot l.loop.j)))
-byte c = c.primary-byte.ensures ∙ ap primary_byte c.before.combine-entry.ensures.distance
+byte : (c : tie.After-primary_byte invariant-loop-j decreases-loop-j)
+    → (c.primary_byte.result ≡ primary_byte (result (start c.before.before.before) ((first (start c.before.before.before)).slot c.loop-j.j)))
+byte c = c.primary_byte.ensures ∙ ap primary_byte c.combine_entry-found.ensures.distance
 
-put-entry-requires : tie.Need-put-entry-requires invariant-loop decreases-loop
-put-entry-requires c κs =
-    let b = c.before.before in
-    let f = b.before in
-    let l = f.before.before in
-    let at = f.combine-entry.ensures in
-    settled-space (along l) l.loop.invariant.1 f.before.loop-test.true _ _ at.slot (byte b)
-    (omega (arith, at.distance, c.before.if1.true))
+put_entry-at-requires : tie.Need-put_entry-at-requires invariant-loop-j decreases-loop-j
+put_entry-at-requires c κs =
+    let at = c.combine_entry-found.ensures in
+    settled-space (along c.before.before.before.before.before) c.loop-j.invariant.1 c.loop-j-test.true _ _ at.slot (byte c.before.before)
+    (omega (arith, at.distance, c.if-distance-ge255.true))
 
-loop-less : tie.Need-loop-smaller invariant-loop decreases-loop
-loop-less c = search rules
+loop-j-smaller-then-distance-ge255 : tie.Need-loop-j-smaller-then-distance-ge255 invariant-loop-j decreases-loop-j
+loop-j-smaller-then-distance-ge255 c = search rules
 
-loop-again : tie.Need-loop-preserved invariant-loop decreases-loop
-loop-again c =
-    let e = c.before.before in
-    let t = e.before.before in
-    let b = t.before in
-    let f = b.before in
-    let l = f.before.before in
-    let at = f.combine-entry.ensures in (
-      next f,
-      settled-more (along l) l.loop.invariant.1 f.before.loop-test.true _ _ at.slot (byte b)
-          (omega (arith, at.distance, t.if1.true)) _ _ _ at.distance e.put-entry.ensures.1
-          e.put-entry.ensures.0,
+loop-j-preserved-then-distance-ge255 : tie.Need-loop-j-preserved-then-distance-ge255 invariant-loop-j decreases-loop-j
+loop-j-preserved-then-distance-ge255 c =
+    let at = c.combine_entry-found.ensures in (
+      next c.before.before.before.before.before.before,
+      settled-more (along c.before.before.before.before.before.before.before.before) c.loop-j.invariant.1 c.loop-j-test.true _ _ at.slot (byte c.before.before.before.before.before)
+          (omega (arith, at.distance, c.if-distance-ge255.true)) _ _ _ at.distance c.put_entry-at.ensures.1
+          c.put_entry-at.ensures.0,
     )
 
-loop-less-2 : tie.Need-loop-smaller-2 invariant-loop decreases-loop
-loop-less-2 c = search rules
+loop-j-smaller : tie.Need-loop-j-smaller invariant-loop-j decreases-loop-j
+loop-j-smaller c = search rules
 
-loop-again-2 : tie.Need-loop-preserved-2 invariant-loop decreases-loop
-loop-again-2 c =
-    let b = c.before in
-    let f = b.before in
-    let l = f.before.before in
-    let at = f.combine-entry.ensures in (
-      next f,
-      settled-pass (along l) l.loop.invariant.1 f.before.loop-test.true _ _ at.slot (byte b)
+loop-j-preserved : tie.Need-loop-j-preserved invariant-loop-j decreases-loop-j
+loop-j-preserved c =
+    let at = c.combine_entry-found.ensures in (
+      next c.before.before,
+      settled-pass (along c.before.before.before.before) c.loop-j.invariant.1 c.loop-j-test.true _ _ at.slot (byte c.before)
           (omega (arith, at.distance)),
     )
 
-same_length : tie.Need-same-length invariant-loop decreases-loop
-same_length c = settled-size c.before.loop.invariant.1
+shape_of-out : tie.Need-shape_of-out invariant-loop-j decreases-loop-j
+shape_of-out c = settled-size c.loop-j.invariant.1
 
-returns : tie.Need-returns invariant-loop decreases-loop
+returns : tie.Need-returns invariant-loop-j decreases-loop-j
 returns c =
-    let l = c.before in
-    settled-end (along l) l.loop.invariant.1 l.loop.invariant.0.inside c.loop-test.false
+    settled-end (along c.before) c.loop-j.invariant.1 c.loop-j.invariant.0.inside c.loop-j-test.false
 
-pub settle-led-spec : {M : Type 1} → statement M
-settle-led-spec =
+pub settle_led_spec : {M : Type 1} → statement M
+settle_led_spec =
     tie.close
     (tie.spec
-    invariant-loop
-    decreases-loop
-    add_at
-    loop-holds
-    combine-entry-requires
-    primary-byte-requires
-    add-out
-    slice-write-out
-    add-j
-    put-entry-requires
-    loop-less
-    loop-again
-    loop-less-2
-    loop-again-2
-    same_length
+    invariant-loop-j
+    decreases-loop-j
+    overflow_add-at
+    loop-j-init
+    combine_entry-found-requires
+    primary_byte-requires
+    overflow_add-out
+    bounds-out-slot
+    overflow_add-j
+    put_entry-at-requires
+    loop-j-smaller-then-distance-ge255
+    loop-j-preserved-then-distance-ge255
+    loop-j-smaller
+    loop-j-preserved
+    shape_of-out
     returns)

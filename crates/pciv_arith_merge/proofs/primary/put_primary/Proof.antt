@@ -9,63 +9,57 @@ use Rattle.pciv_arith_merge.proofs.CombineLaws.{zipped-primary}
 use Rattle.pciv_arith_merge.proofs.primary.put_primary.Statement.{statement}
 use Rattle.pciv_arith_merge.proofs.primary.put_primary.Tie as tie
 
-add-end : tie.Need-overflow-add-end
-add-end c =
-    let g = c.before.before.before in
-    omega (arith, g.requires.0.first.header.small)
+overflow_add-end : tie.Need-overflow_add-end
+overflow_add-end c =
+    omega (arith, c.requires.0.first.header.small)
 
-sub-zip-into : tie.Need-overflow-sub-zip-into
-sub-zip-into c = search rules
+slice_bounds-zip_into-count : tie.Need-slice_bounds-zip_into-count
+slice_bounds-zip_into-count c = search rules
 
-part-zip-into-start : tie.Need-slice-bounds-zip-into-start
-part-zip-into-start c = search rules
+slice_bounds-zip_into-start : tie.Need-slice_bounds-zip_into-start
+slice_bounds-zip_into-start c = search rules
 
-part-zip-into-end : tie.Need-slice-bounds-zip-into-end
-part-zip-into-end c =
-    let g = c.before.before.before in
-    primary-inside g.args.a.now g.args.n g.args.ka g.requires.0.first
+slice_bounds-zip_into-end : tie.Need-slice_bounds-zip_into-end
+slice_bounds-zip_into-end c =
+    primary-inside c.args.a.now c.args.n c.args.ka c.requires.0.first
 
-sub-zip-into-2 : tie.Need-overflow-sub-zip-into-2
-sub-zip-into-2 c = search rules
+slice_bounds-zip_into-count-2 : tie.Need-slice_bounds-zip_into-count-2
+slice_bounds-zip_into-count-2 c = search rules
 
-part-zip-into-start-2 : tie.Need-slice-bounds-zip-into-start-2
-part-zip-into-start-2 c = search rules
+slice_bounds-zip_into-start-2 : tie.Need-slice_bounds-zip_into-start-2
+slice_bounds-zip_into-start-2 c = search rules
 
-part-zip-into-end-2 : tie.Need-slice-bounds-zip-into-end-2
-part-zip-into-end-2 c =
-    let g = c.before.before.before.before in
-    primary-inside g.args.b.now g.args.n g.args.kb g.requires.0.second
+slice_bounds-zip_into-end-2 : tie.Need-slice_bounds-zip_into-end-2
+slice_bounds-zip_into-end-2 c =
+    primary-inside c.args.b.now c.args.n c.args.kb c.requires.0.second
 
-zip-into-requires : tie.Need-zip-into-requires
-zip-into-requires c κs =
-    let g = c.before.before.before.before.before.before in
-    let a = g.args in
-    let first = primary-length a.a.now a.n a.ka g.requires.0.first in
-    let second = primary-length a.b.now a.n a.kb g.requires.0.second in
-    rw (add-sub_cancel_left 40 a.n) (first ∙ sym second, omega (arith, first, g.requires.1))
+zip_into-requires : tie.Need-zip_into-requires
+zip_into-requires c κs =
+    let a = c.args in
+    let first = primary-length a.a.now a.n a.ka c.requires.0.first in
+    let second = primary-length a.b.now a.n a.kb c.requires.0.second in
+    rw (add-sub_cancel_left 40 a.n) (first ∙ sym second, omega (arith, first, c.requires.1))
 
-same_length : tie.Need-same-length
-same_length c = search rules
+shape_of-out : tie.Need-shape_of-out
+shape_of-out c = search rules
 
 returns : tie.Need-returns
 returns c =
-    let z = c.before.before in
-    let g = z.before.before.before.before.before.before.before in
-    let a = g.args in
-    (rw (add-sub_cancel_left 40 a.n) at z.zip-into.ensures)
-    ∙ ap (sets a.out.now 40) (zipped-primary a.op a.a.now a.b.now a.n a.ka a.kb g.requires.0)
+    let a = c.args in
+    (rw (add-sub_cancel_left 40 a.n) at c.zip_into.ensures)
+    ∙ ap (sets a.out.now 40) (zipped-primary a.op a.a.now a.b.now a.n a.ka a.kb c.requires.0)
 
-pub put-primary-spec : {M : Type 1} → statement M
-put-primary-spec =
+pub put_primary_spec : {M : Type 1} → statement M
+put_primary_spec =
     tie.close
     (tie.spec
-    add-end
-    sub-zip-into
-    part-zip-into-start
-    part-zip-into-end
-    sub-zip-into-2
-    part-zip-into-start-2
-    part-zip-into-end-2
-    zip-into-requires
-    same_length
+    overflow_add-end
+    slice_bounds-zip_into-count
+    slice_bounds-zip_into-start
+    slice_bounds-zip_into-end
+    slice_bounds-zip_into-count-2
+    slice_bounds-zip_into-start-2
+    slice_bounds-zip_into-end-2
+    zip_into-requires
+    shape_of-out
     returns)

@@ -13,62 +13,62 @@ use Rattle.pciv_arith_merge.proofs.slots.slot_op.Tie as tie
 in-case : (r x y : ℕ) {op case : SlotOp} → op ≡ case → r ≡ slot_op case x y → r ≡ slot_op op x y
 in-case r x y e q = rw e q
 
-enum_told : tie.Need-enum-told
-enum_told c = search rules
+enum_told-1 : tie.Need-enum_told-1
+enum_told-1 c = search rules
 
-enum-told-2 : tie.Need-enum-told-2
-enum-told-2 c = search rules
+enum_told-in-Maximum : tie.Need-enum_told-in-Maximum
+enum_told-in-Maximum c = search rules
 
-enum-told-3 : tie.Need-enum-told-3
-enum-told-3 c = search rules
+enum_told-in-Sum : tie.Need-enum_told-in-Sum
+enum_told-in-Sum c = search rules
 
-add-result : tie.Need-overflow-add-result
-add-result c =
-    let a = c.before.before.args in
-    let fits : a.x + a.y ≤ max_distance = rw c.enum-told3.given.1 at c.before.before.requires in
+overflow_add-result : tie.Need-overflow_add-result
+overflow_add-result c =
+    let a = c.args in
+    let fits : a.x + a.y ≤ max_distance = rw c.in-Sum.is at c.requires in
     omega arith
 
-enum-told-4 : tie.Need-enum-told-4
-enum-told-4 c = search rules
+enum_told-in-Difference : tie.Need-enum_told-in-Difference
+enum_told-in-Difference c = search rules
 
-sub-result : tie.Need-overflow-sub-result
-sub-result c = search rules
+overflow_sub-result : tie.Need-overflow_sub-result
+overflow_sub-result c = search rules
 
-returns : tie.Need-returns
-returns c = in-case _ _ _ c.before.enum_told.given.1 (omega arith)
+returns-then-x-y : tie.Need-returns-then-x-y
+returns-then-x-y c = in-case _ _ _ c.in-Minimum.is (omega arith)
 
-returns-2 : tie.Need-returns-2
-returns-2 c = in-case _ _ _ c.before.enum_told.given.1 (omega arith)
+returns-else-x-y : tie.Need-returns-else-x-y
+returns-else-x-y c = in-case _ _ _ c.in-Minimum.is (omega arith)
 
-returns-3 : tie.Need-returns-3
-returns-3 c = in-case _ _ _ c.before.enum-told2.given.1 (omega arith)
+returns-then-x-y-2 : tie.Need-returns-then-x-y-2
+returns-then-x-y-2 c = in-case _ _ _ c.in-Maximum.is (omega arith)
 
-returns-4 : tie.Need-returns-4
-returns-4 c = in-case _ _ _ c.before.enum-told2.given.1 (omega arith)
+returns-else-x-y-2 : tie.Need-returns-else-x-y-2
+returns-else-x-y-2 c = in-case _ _ _ c.in-Maximum.is (omega arith)
 
-returns-5 : tie.Need-returns-5
-returns-5 c = in-case _ _ _ c.enum-told3.given.1 (omega arith)
+returns-in-Sum : tie.Need-returns-in-Sum
+returns-in-Sum c = in-case _ _ _ c.in-Sum.is (omega arith)
 
-returns-6 : tie.Need-returns-6
-returns-6 c = in-case _ _ _ c.before.enum-told4.given.1 (omega arith)
+returns-then-x-y-3 : tie.Need-returns-then-x-y-3
+returns-then-x-y-3 c = in-case _ _ _ c.in-Difference.is (omega arith)
 
-returns-7 : tie.Need-returns-7
-returns-7 c = in-case _ _ _ c.before.enum-told4.given.1 (omega arith)
+returns-else-x-y-3 : tie.Need-returns-else-x-y-3
+returns-else-x-y-3 c = in-case _ _ _ c.in-Difference.is (omega arith)
 
-pub slot-op-spec : {M : Type 1} → statement M
-slot-op-spec =
+pub slot_op_spec : {M : Type 1} → statement M
+slot_op_spec =
     tie.close
     (tie.spec
-    enum_told
-    enum-told-2
-    enum-told-3
-    add-result
-    enum-told-4
-    sub-result
-    returns
-    returns-2
-    returns-3
-    returns-4
-    returns-5
-    returns-6
-    returns-7)
+    enum_told-1
+    enum_told-in-Maximum
+    enum_told-in-Sum
+    overflow_add-result
+    enum_told-in-Difference
+    overflow_sub-result
+    returns-then-x-y
+    returns-else-x-y
+    returns-then-x-y-2
+    returns-else-x-y-2
+    returns-in-Sum
+    returns-then-x-y-3
+    returns-else-x-y-3)

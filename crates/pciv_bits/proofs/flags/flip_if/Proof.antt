@@ -3,14 +3,14 @@ use Rattle.std.proofs.Common.{rules}
 use Rattle.pciv_bits.proofs.flags.flip_if.Statement.{statement}
 use Rattle.pciv_bits.proofs.flags.flip_if.Tie as tie
 
-sub-result : tie.Need-overflow-sub-result
-sub-result c = search rules
+overflow_sub-result : tie.Need-overflow_sub-result
+overflow_sub-result c = search rules
+
+returns-then-negated : tie.Need-returns-then-negated
+returns-then-negated c = rw c.if-negated.true
 
 returns : tie.Need-returns
-returns c = rw c.if1.true
+returns c = rw c.if-negated.false
 
-returns-2 : tie.Need-returns-2
-returns-2 c = rw c.if1.false
-
-pub flip-if-spec : {M : Type 1} → statement M
-flip-if-spec = tie.close (tie.spec sub-result returns returns-2)
+pub flip_if_spec : {M : Type 1} → statement M
+flip_if_spec = tie.close (tie.spec overflow_sub-result returns-then-negated returns)

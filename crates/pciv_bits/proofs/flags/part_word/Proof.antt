@@ -9,101 +9,91 @@ use Rattle.pciv_bits.proofs.WordLaws.{word_end, word_more, word_fits, word-flip}
 use Rattle.pciv_bits.proofs.flags.part_word.Statement.{statement}
 use Rattle.pciv_bits.proofs.flags.part_word.Tie as tie
 
-abbrev invariant-loop : tie.invariant-loop
-invariant-loop a from to test negated x₀ j₀ x j = (from ≤ j) × (j ≤ to) × (x ≡ word (is_met a test) j (to - j))
+abbrev invariant-loop-j : tie.invariant-loop-j
+invariant-loop-j a from to test negated x₀ j₀ x j = (from ≤ j) × (j ≤ to) × (x ≡ word (is_met a test) j (to - j))
 
-abbrev decreases-loop : tie.decreases-loop
-decreases-loop a from to test negated x₀ j₀ x j = j
+abbrev decreases-loop-j : tie.decreases-loop-j
+decreases-loop-j a from to test negated x₀ j₀ x j = j
 
-abbrev flags : tie.Start invariant-loop decreases-loop → ℕ → Bool
+abbrev flags : tie.Start invariant-loop-j decreases-loop-j → ℕ → Bool
 flags s = is_met s.args.a.now s.args.test
 
 -- a further bit fits
-fits : (d : tie.At-loop invariant-loop decreases-loop) → d.before.before.args.from < d.loop.j → d.loop.x < 2 ^ 63
+fits : (d : tie.At-loop-j invariant-loop-j decreases-loop-j) → d.args.from < d.loop-j.j → d.loop-j.x < 2 ^ 63
 fits d more =
-    let s = d.before.before in
-    rw d.loop.invariant.2 (word_fits (flags s) d.loop.j (s.args.to - d.loop.j) (omega arith))
+    rw d.loop-j.invariant.2 (word_fits (flags d.before.before) d.loop-j.j (d.args.to - d.loop-j.j) (omega arith))
 
 -- the word at the loop's end
-made : (d : tie.At-loop invariant-loop decreases-loop) → d.loop.j ≤ d.before.before.args.from
-    → (let s = d.before.before in d.loop.x ≡ word (flags s) s.args.from (s.args.to - s.args.from))
-made d done = let e : d.loop.j ≡ d.before.before.args.from = omega arith in d.loop.invariant.2 ∙ rw e
+made : (d : tie.At-loop-j invariant-loop-j decreases-loop-j) → d.loop-j.j ≤ d.args.from
+    → (d.loop-j.x ≡ word (flags d.before.before) d.args.from (d.args.to - d.args.from))
+made d done = let e : d.loop-j.j ≡ d.args.from = omega arith in d.loop-j.invariant.2 ∙ rw e
 
-loop-holds : tie.Need-loop-init invariant-loop decreases-loop
-loop-holds c =
-    let s = c.before in
-    (search rules, search rules, sym (word_end (flags s) s.args.to s.args.to (omega arith)))
+loop-j-init : tie.Need-loop-j-init invariant-loop-j decreases-loop-j
+loop-j-init c =
+    (search rules, search rules, sym (word_end (flags c.before) c.args.to c.args.to (omega arith)))
 
-sub-j : tie.Need-overflow-sub-j invariant-loop decreases-loop
-sub-j c = search rules
+overflow_sub-j : tie.Need-overflow_sub-j invariant-loop-j decreases-loop-j
+overflow_sub-j c = search rules
 
-mul-x : tie.Need-overflow-mul-x invariant-loop decreases-loop
-mul-x c = omega (arith, fits c.before (omega arith))
+overflow_mul-x : tie.Need-overflow_mul-x invariant-loop-j decreases-loop-j
+overflow_mul-x c = omega (arith, fits c.before (omega arith))
 
-shared-slice-read-is-met : tie.Need-shared-slice-read-is-met invariant-loop decreases-loop
-shared-slice-read-is-met c = search rules
+bounds-a-j : tie.Need-bounds-a-j invariant-loop-j decreases-loop-j
+bounds-a-j c = search rules
 
-is-met-requires : tie.Need-is-met-requires invariant-loop decreases-loop
-is-met-requires c κs = search rules
+is_met-requires : tie.Need-is_met-requires invariant-loop-j decreases-loop-j
+is_met-requires c κs = search rules
 
-cast-x : tie.Need-overflow-cast-x invariant-loop decreases-loop
-cast-x c = search rules
+overflow_cast-x : tie.Need-overflow_cast-x invariant-loop-j decreases-loop-j
+overflow_cast-x c = search rules
 
-add-x : tie.Need-overflow-add-x invariant-loop decreases-loop
-add-x c =
-    let d = c.before.before in
-    let b = c.is-met.result in
-    omega (arith, fits d.before (omega arith), bool_byte-flag b, flag-le b)
+overflow_add-x : tie.Need-overflow_add-x invariant-loop-j decreases-loop-j
+overflow_add-x c =
+    let b = c.is_met.result in
+    omega (arith, fits c.before.before.before (omega arith), bool_byte-flag b, flag-le b)
 
-loop-less : tie.Need-loop-smaller invariant-loop decreases-loop
-loop-less c = search rules
+loop-j-smaller : tie.Need-loop-j-smaller invariant-loop-j decreases-loop-j
+loop-j-smaller c = search rules
 
-loop-again : tie.Need-loop-preserved invariant-loop decreases-loop
-loop-again c =
-    let d = c.before.before.before in
-    let s = d.before.before in
-    let more = word_more (flags s) d.loop.j s.args.to (omega arith) (omega arith) in
-    let bit = bool_byte-flag c.is-met.result ∙ ap flag c.is-met.ensures in
-    (search rules, search rules, omega (arith, bit, d.loop.invariant.2, more))
+loop-j-preserved : tie.Need-loop-j-preserved invariant-loop-j decreases-loop-j
+loop-j-preserved c =
+    let more = word_more (flags c.before.before.before.before.before) c.loop-j.j c.args.to (omega arith) (omega arith) in
+    let bit = bool_byte-flag c.is_met.result ∙ ap flag c.is_met.ensures in
+    (search rules, search rules, omega (arith, bit, c.loop-j.invariant.2, more))
 
-sub-ones : tie.Need-overflow-sub-ones invariant-loop decreases-loop
-sub-ones c = search rules
+overflow_sub-to : tie.Need-overflow_sub-to invariant-loop-j decreases-loop-j
+overflow_sub-to c = search rules
 
-ones-requires : tie.Need-ones-requires invariant-loop decreases-loop
+ones-requires : tie.Need-ones-requires invariant-loop-j decreases-loop-j
 ones-requires c κs = search rules
 
-flip-if-requires : tie.Need-flip-if-requires invariant-loop decreases-loop
-flip-if-requires c κs =
-    let d = c.before.before in
-    let s = d.before.before in
-    let a = s.args in
-    omega (arith, c.ones.ensures, made d (omega arith), word_lt (flags s) a.from (a.to - a.from))
+flip_if-requires : tie.Need-flip_if-requires invariant-loop-j decreases-loop-j
+flip_if-requires c κs =
+    let a = c.args in
+    omega (arith, c.ones.ensures, made c.before.before (omega arith), word_lt (flags c.before.before.before.before) a.from (a.to - a.from))
 
-returns : tie.Need-returns invariant-loop decreases-loop
+returns : tie.Need-returns invariant-loop-j decreases-loop-j
 returns c =
-    let o = c.before in
-    let d = o.before.before in
-    let s = d.before.before in
-    let a = s.args in
-    c.flip-if.ensures
-    ∙ rw (o.ones.ensures, made d (omega arith)) (word-flip a.negated (flags s) a.from (a.to - a.from))
+    let a = c.args in
+    c.flip_if.ensures
+    ∙ rw (c.ones.ensures, made c.before.before.before (omega arith)) (word-flip a.negated (flags c.before.before.before.before.before) a.from (a.to - a.from))
 
-pub part-word-spec : {M : Type 1} → statement M
-part-word-spec =
+pub part_word_spec : {M : Type 1} → statement M
+part_word_spec =
     tie.close
     (tie.spec
-    invariant-loop
-    decreases-loop
-    loop-holds
-    sub-j
-    mul-x
-    shared-slice-read-is-met
-    is-met-requires
-    cast-x
-    add-x
-    loop-less
-    loop-again
-    sub-ones
+    invariant-loop-j
+    decreases-loop-j
+    loop-j-init
+    overflow_sub-j
+    overflow_mul-x
+    bounds-a-j
+    is_met-requires
+    overflow_cast-x
+    overflow_add-x
+    loop-j-smaller
+    loop-j-preserved
+    overflow_sub-to
     ones-requires
-    flip-if-requires
+    flip_if-requires
     returns)

@@ -6,11 +6,11 @@ use Rattle.pciv_bits.proofs.flags.uniform.Tie as tie
 ones-requires : tie.Need-ones-requires
 ones-requires c κs = search rules
 
+returns-then-bit : tie.Need-returns-then-bit
+returns-then-bit c = rw c.if-bit.true c.ones.ensures
+
 returns : tie.Need-returns
-returns c = rw c.before.if1.true c.ones.ensures
+returns c = rw c.if-bit.false
 
-returns-2 : tie.Need-returns-2
-returns-2 c = rw c.if1.false
-
-pub uniform-spec : {M : Type 1} → statement M
-uniform-spec = tie.close (tie.spec ones-requires returns returns-2)
+pub uniform_spec : {M : Type 1} → statement M
+uniform_spec = tie.close (tie.spec ones-requires returns-then-bit returns)

@@ -3,20 +3,27 @@ use Rattle.std.proofs.Common.{rules}
 use Rattle.pciv_bits.proofs.gather.is_met.Statement.{statement}
 use Rattle.pciv_bits.proofs.gather.is_met.Tie as tie
 
-enum-known-test : tie.Need-enum-known-test
-enum-known-test c = search rules
+enum_known-test : tie.Need-enum_known-test
+enum_known-test c = search rules
 
-enum-known-test-2 : tie.Need-enum-known-test-2
-enum-known-test-2 c = search rules
+enum_known-test-in-Near-1 : tie.Need-enum_known-test-in-Near-1
+enum_known-test-in-Near-1 c = search rules
 
-is-near-requires : tie.Need-is-near-requires
-is-near-requires c κs = search rules
+is_near-requires : tie.Need-is_near-requires
+is_near-requires c κs = search rules
 
-returns : tie.Need-returns
-returns c = rw c.before.test.given.1
+returns-in-Below : tie.Need-returns-in-Below
+returns-in-Below c = rw c.in-Below.is
 
-returns-2 : tie.Need-returns-2
-returns-2 c = rw c.before.before.test2.given.1 c.is-near.ensures
+returns-in-Near : tie.Need-returns-in-Near
+returns-in-Near c = rw c.in-Near.is c.is_near.ensures
 
-pub is-met-spec : {M : Type 1} → statement M
-is-met-spec = tie.close (tie.spec enum-known-test enum-known-test-2 is-near-requires returns returns-2)
+pub is_met_spec : {M : Type 1} → statement M
+is_met_spec =
+    tie.close
+    (tie.spec
+    enum_known-test
+    enum_known-test-in-Near-1
+    is_near-requires
+    returns-in-Below
+    returns-in-Near)

@@ -18,13 +18,13 @@ one_less x t less small fits is =
       | no d ↦ rw (le-ltb less t (omega arith), lt-leb 1 x (omega arith))
     ]
 
-wrapping-sub-u8-requires : tie.Need-wrapping-sub-u8-requires
-wrapping-sub-u8-requires c κs = search rules
+wrapping_sub_u8-requires : tie.Need-wrapping_sub_u8-requires
+wrapping_sub_u8-requires c κs = search rules
 
 returns : tie.Need-returns
 returns c =
-    let a = c.before.args in
-    one_less a.x a.t c.wrapping-sub-u8.result (omega arith) (omega arith) c.wrapping-sub-u8.ensures
+    let a = c.args in
+    one_less a.x a.t c.wrapping_sub_u8.result (omega arith) (omega arith) c.wrapping_sub_u8.ensures
 
-pub is-near-spec : {M : Type 1} → statement M
-is-near-spec = tie.close (tie.spec wrapping-sub-u8-requires returns)
+pub is_near_spec : {M : Type 1} → statement M
+is_near_spec = tie.close (tie.spec wrapping_sub_u8-requires returns)

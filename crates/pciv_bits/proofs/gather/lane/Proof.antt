@@ -3,25 +3,31 @@ use Rattle.std.proofs.Common.{rules}
 use Rattle.pciv_bits.proofs.gather.lane.Statement.{statement}
 use Rattle.pciv_bits.proofs.gather.lane.Tie as tie
 
-enum-known-test : tie.Need-enum-known-test
-enum-known-test c = search rules
+enum_known-test : tie.Need-enum_known-test
+enum_known-test c = search rules
 
-lane-below-requires : tie.Need-lane-below-requires
-lane-below-requires c κs = search rules
+lane_below-requires : tie.Need-lane_below-requires
+lane_below-requires c κs = search rules
 
-enum-known-test-2 : tie.Need-enum-known-test-2
-enum-known-test-2 c = search rules
+enum_known-test-in-Near-1 : tie.Need-enum_known-test-in-Near-1
+enum_known-test-in-Near-1 c = search rules
 
-lane-near-requires : tie.Need-lane-near-requires
-lane-near-requires c κs = search rules
+lane_near-requires : tie.Need-lane_near-requires
+lane_near-requires c κs = search rules
 
-returns : tie.Need-returns
-returns c = rw c.before.before.test.given.1 c.lane_below.ensures
+returns-in-Below : tie.Need-returns-in-Below
+returns-in-Below c = rw c.in-Below.is c.lane_below.ensures
 
-returns-2 : tie.Need-returns-2
-returns-2 c = rw c.before.before.test2.given.1 c.lane-near.ensures
+returns-in-Near : tie.Need-returns-in-Near
+returns-in-Near c = rw c.in-Near.is c.lane_near.ensures
 
-pub lane-spec : {M : Type 1} → statement M
-lane-spec =
+pub lane_spec : {M : Type 1} → statement M
+lane_spec =
     tie.close
-    (tie.spec enum-known-test lane-below-requires enum-known-test-2 lane-near-requires returns returns-2)
+    (tie.spec
+    enum_known-test
+    lane_below-requires
+    enum_known-test-in-Near-1
+    lane_near-requires
+    returns-in-Below
+    returns-in-Near)

@@ -3,14 +3,14 @@ use Rattle.std.proofs.Common.{sym, rules}
 use Rattle.pciv_bits.proofs.gather.weigh_near.Statement.{statement}
 use Rattle.pciv_bits.proofs.gather.weigh_near.Tie as tie
 
-is-near-requires : tie.Need-is-near-requires
-is-near-requires c κs = search rules
+is_near-requires : tie.Need-is_near-requires
+is_near-requires c κs = search rules
 
 weigh-requires : tie.Need-weigh-requires
 weigh-requires c κs = search rules
 
 returns : tie.Need-returns
-returns c = rw (sym c.before.is-near.ensures) c.weigh.ensures
+returns c = rw (sym c.is_near.ensures) c.weigh.ensures
 
-pub weigh-near-spec : {M : Type 1} → statement M
-weigh-near-spec = tie.close (tie.spec is-near-requires weigh-requires returns)
+pub weigh_near_spec : {M : Type 1} → statement M
+weigh_near_spec = tie.close (tie.spec is_near-requires weigh-requires returns)

@@ -13,62 +13,60 @@ use Rattle.pciv_bits.proofs.masks.count_bits.Tie as tie
 abbrev bits : List ℕ → ℕ → ℕ
 bits ws i = flag (mask_has ws i)
 
-abbrev invariant-loop : tie.invariant-loop
-invariant-loop words sum₀ i₀ sum i =
+abbrev invariant-loop-i : tie.invariant-loop-i
+invariant-loop-i words sum₀ i₀ sum i =
     (sum ≤ 64 * i) × Added (bits words) (64 * length words) (sum_from (bits words) 0 (64 * length words)) (64 * i) sum
 
-abbrev decreases-loop : tie.decreases-loop
-decreases-loop words sum₀ i₀ sum i = length words - i
+abbrev decreases-loop-i : tie.decreases-loop-i
+decreases-loop-i words sum₀ i₀ sum i = length words - i
 
-loop-holds : tie.Need-loop-init invariant-loop decreases-loop
-loop-holds c =
-    let ws = c.before.args.words.now in
+loop-i-init : tie.Need-loop-i-init invariant-loop-i decreases-loop-i
+loop-i-init c =
+    let ws = c.args.words.now in
     (omega arith, rw (sub-zero (64 * length ws)) at (added_none (bits ws) 0 (64 * length ws) (omega arith)))
 
-mul-count-word : tie.Need-overflow-mul-count-word invariant-loop decreases-loop
-mul-count-word c = search rules
+offset_bounds-words-i : tie.Need-offset_bounds-words-i invariant-loop-i decreases-loop-i
+offset_bounds-words-i c = search rules
 
-shared-slice-read-count-word : tie.Need-shared-slice-read-count-word invariant-loop decreases-loop
-shared-slice-read-count-word c = search rules
+bounds-words-i : tie.Need-bounds-words-i invariant-loop-i decreases-loop-i
+bounds-words-i c = search rules
 
-count-word-requires : tie.Need-count-word-requires invariant-loop decreases-loop
-count-word-requires c κs = search rules
+count_word-sum-requires : tie.Need-count_word-sum-requires invariant-loop-i decreases-loop-i
+count_word-sum-requires c κs = search rules
 
-add-sum : tie.Need-overflow-add-sum invariant-loop decreases-loop
-add-sum c = search rules
+overflow_add-sum : tie.Need-overflow_add-sum invariant-loop-i decreases-loop-i
+overflow_add-sum c = search rules
 
-add-i : tie.Need-overflow-add-i invariant-loop decreases-loop
-add-i c = search rules
+overflow_add-i : tie.Need-overflow_add-i invariant-loop-i decreases-loop-i
+overflow_add-i c = search rules
 
-loop-less : tie.Need-loop-smaller invariant-loop decreases-loop
-loop-less c = search rules
+loop-i-smaller : tie.Need-loop-i-smaller invariant-loop-i decreases-loop-i
+loop-i-smaller c = search rules
 
-loop-again : tie.Need-loop-preserved invariant-loop decreases-loop
-loop-again c =
-    let d = c.before.before.before in
-    let l = d.loop in
-    let known = d.before in
-    let ws = known.before.args.words.now in
-    let word = c.count_word.ensures.0 ∙ ones-mask_has ws (λ w. (known.shared-slice-known.given w).fits) l.i in
+loop-i-preserved : tie.Need-loop-i-preserved invariant-loop-i decreases-loop-i
+loop-i-preserved c =
+    let l = c.loop-i in
+    let ws = c.args.words.now in
+    let word = c.count_word-sum.ensures.0 ∙ ones-mask_has ws (λ w. (c.shared_slice_known-1.given w).fits) l.i in
     let width : 64 * (l.i + 1) - 64 * l.i ≡ 64 = omega arith in
     let more = added-part l.invariant.1 (64 * (l.i + 1)) (omega arith) (omega arith) in
     (omega arith, rw (width, ← word) at more)
 
-returns : tie.Need-returns invariant-loop decreases-loop
-returns c = added-all c.before.loop.invariant.1 (omega arith)
+returns : tie.Need-returns invariant-loop-i decreases-loop-i
+returns c = added-all c.loop-i.invariant.1 (omega arith)
 
-pub count-bits-spec : {M : Type 1} → statement M
-count-bits-spec =
+pub count_bits_spec : {M : Type 1} → statement M
+count_bits_spec =
     tie.close
     (tie.spec
-    invariant-loop
-    decreases-loop
-    loop-holds
-    mul-count-word
-    shared-slice-read-count-word
-    count-word-requires
-    add-sum
-    add-i
-    loop-less
-    loop-again
+    invariant-loop-i
+    decreases-loop-i
+    loop-i-init
+    offset_bounds-words-i
+    bounds-words-i
+    count_word-sum-requires
+    overflow_add-sum
+    overflow_add-i
+    loop-i-smaller
+    loop-i-preserved
     returns)

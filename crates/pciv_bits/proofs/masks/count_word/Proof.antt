@@ -7,11 +7,11 @@ use Rattle.pciv_bits.proofs.masks.count_word.Tie as tie
 few : (c : tie.Start) → ones c.args.x ≤ 64
 few c = ones-le 64 c.args.x c.ranges.x.fits
 
-cast-result : tie.Need-overflow-cast-result
-cast-result c = omega (arith, few c)
+overflow_cast-result : tie.Need-overflow_cast-result
+overflow_cast-result c = omega (arith, few c)
 
 returns : tie.Need-returns
 returns c = (refl, few c)
 
-pub count-word-spec : {M : Type 1} → statement M
-count-word-spec = tie.close (tie.spec cast-result returns)
+pub count_word_spec : {M : Type 1} → statement M
+count_word_spec = tie.close (tie.spec overflow_cast-result returns)

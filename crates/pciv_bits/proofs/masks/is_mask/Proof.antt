@@ -4,32 +4,39 @@ use Rattle.pciv_format.proofs.MaskLaws.{bad_mask-whole, bad_mask-count, bad_mask
 use Rattle.pciv_bits.proofs.masks.is_mask.Statement.{statement}
 use Rattle.pciv_bits.proofs.masks.is_mask.Tie as tie
 
+returns-then-tail-eq0 : tie.Need-returns-then-tail-eq0
+returns-then-tail-eq0 c = let a = c.args in bad_mask-whole a.n a.words.now (omega arith)
+
+overflow_add-full : tie.Need-overflow_add-full
+overflow_add-full c = search rules
+
+returns-then-words-full : tie.Need-returns-then-words-full
+returns-then-words-full c =
+    let a = c.args in
+    sym (ap not (bad_mask-count a.n a.words.now (λ e. c.if-words-full.true (e ∙ omega arith))))
+
+offset_bounds-words-full : tie.Need-offset_bounds-words-full
+offset_bounds-words-full c = search rules
+
+bounds-words-full : tie.Need-bounds-words-full
+bounds-words-full c = search rules
+
+overflow_shr-result : tie.Need-overflow_shr-result
+overflow_shr-result c = search rules
+
 returns : tie.Need-returns
-returns c = let a = c.before.args in bad_mask-whole a.n a.words.now (omega arith)
+returns c =
+    let a = c.args in
+    bad_mask-last a.n a.words.now (omega arith) (omega arith) (λ w. (c.shared_slice_known-1.given w).fits)
 
-add-if2 : tie.Need-overflow-add-if2
-add-if2 c = search rules
-
-returns-2 : tie.Need-returns-2
-returns-2 c =
-    let a = c.before.before.args in
-    sym (ap not (bad_mask-count a.n a.words.now (λ e. c.if2.true (e ∙ omega arith))))
-
-mul-result : tie.Need-overflow-mul-result
-mul-result c = search rules
-
-shared-slice-read-result : tie.Need-shared-slice-read-result
-shared-slice-read-result c = search rules
-
-shr-result : tie.Need-overflow-shr-result
-shr-result c = search rules
-
-returns-3 : tie.Need-returns-3
-returns-3 c =
-    let a = c.before.before.before.args in
-    bad_mask-last a.n a.words.now (omega arith) (omega arith) (λ w. (c.shared-slice-known.given w).fits)
-
-pub is-mask-spec : {M : Type 1} → statement M
-is-mask-spec =
+pub is_mask_spec : {M : Type 1} → statement M
+is_mask_spec =
     tie.close
-    (tie.spec returns add-if2 returns-2 mul-result shared-slice-read-result shr-result returns-3)
+    (tie.spec
+    returns-then-tail-eq0
+    overflow_add-full
+    returns-then-words-full
+    offset_bounds-words-full
+    bounds-words-full
+    overflow_shr-result
+    returns)

@@ -6,5 +6,5 @@ use Rattle.pciv_bits.proofs.transpose.transpose.Tie as tie
 returns : tie.Need-returns
 returns c = transpose-bit c.args.x
 
-pub transpose-spec : {M : Type 1} → statement M
-transpose-spec = tie.close (tie.spec returns)
+pub transpose_spec : {M : Type 1} → statement M
+transpose_spec = tie.close (tie.spec returns)

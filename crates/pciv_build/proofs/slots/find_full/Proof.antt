@@ -5,46 +5,43 @@ use borrow.Author.Rules.{rules}
 use Rattle.pciv_build.proofs.slots.find_full.Statement.{statement}
 use Rattle.pciv_build.proofs.slots.find_full.Tie as tie
 
-add-flags-into : tie.Need-overflow-add-flags-into
-add-flags-into c = search rules
+overflow_add-from : tie.Need-overflow_add-from
+overflow_add-from c = search rules
 
-add-flags-into-2 : tie.Need-overflow-add-flags-into-2
-add-flags-into-2 c = search rules
+overflow_add-to : tie.Need-overflow_add-to
+overflow_add-to c = search rules
 
-sub-flags-into : tie.Need-overflow-sub-flags-into
-sub-flags-into c = search rules
+slice_bounds-flags_into-count : tie.Need-slice_bounds-flags_into-count
+slice_bounds-flags_into-count c = search rules
 
-part-flags-into-start : tie.Need-slice-bounds-flags-into-start
-part-flags-into-start c = search rules
+slice_bounds-flags_into-start : tie.Need-slice_bounds-flags_into-start
+slice_bounds-flags_into-start c = search rules
 
-part-flags-into-end : tie.Need-slice-bounds-flags-into-end
-part-flags-into-end c = search rules
+slice_bounds-flags_into-end : tie.Need-slice_bounds-flags_into-end
+slice_bounds-flags_into-end c = search rules
 
-flags-into-requires : tie.Need-flags-into-requires
-flags-into-requires c κs = search rules
+flags_into-requires : tie.Need-flags_into-requires
+flags_into-requires c κs = search rules
 
-same_length : tie.Need-same-length
-same_length c = search rules
+shape_of-words : tie.Need-shape_of-words
+shape_of-words c = search rules
 
 returns : tie.Need-returns
 returns c =
-    let f = c.before.before in
-    let known = f.before.before.before in
-    let s = known.before.before in
-    let a = s.args in
-    let bytes : Bytes a.file.now = λ i. (known.shared-slice-known.given i).fits in
-    rw f.flags-into.ensures
-    (tell-full a.file.now a.words.now a.from a.to bytes s.requires.0 s.requires.1 s.requires.2)
+    let a = c.args in
+    let bytes : Bytes a.file.now = λ i. (c.shared_slice_known-1.given i).fits in
+    rw c.flags_into.ensures
+    (tell-full a.file.now a.words.now a.from a.to bytes c.requires.0 c.requires.1 c.requires.2)
 
-pub find-full-spec : {M : Type 1} → statement M
-find-full-spec =
+pub find_full_spec : {M : Type 1} → statement M
+find_full_spec =
     tie.close
     (tie.spec
-    add-flags-into
-    add-flags-into-2
-    sub-flags-into
-    part-flags-into-start
-    part-flags-into-end
-    flags-into-requires
-    same_length
+    overflow_add-from
+    overflow_add-to
+    slice_bounds-flags_into-count
+    slice_bounds-flags_into-start
+    slice_bounds-flags_into-end
+    flags_into-requires
+    shape_of-words
     returns)

@@ -4,36 +4,34 @@ use borrow.Author.Rules.{rules}
 use Rattle.pciv_build.proofs.slots.put_block.Statement.{statement}
 use Rattle.pciv_build.proofs.slots.put_block.Tie as tie
 
-slice-aggregate-find-full : tie.Need-slice-aggregate-find-full
-slice-aggregate-find-full c = search rules
+slice_bounds-find_full-end : tie.Need-slice_bounds-find_full-end
+slice_bounds-find_full-end c = search rules
 
-find-full-requires : tie.Need-find-full-requires
-find-full-requires c κs = search rules
+find_full-requires : tie.Need-find_full-requires
+find_full-requires c κs = search rules
 
-slice-aggregate-put-words : tie.Need-slice-aggregate-put-words
-slice-aggregate-put-words c = search rules
+slice_bounds-put_words-end : tie.Need-slice_bounds-put_words-end
+slice_bounds-put_words-end c = search rules
 
-put-words-requires : tie.Need-put-words-requires
-put-words-requires c κs =
-    let f = c.before.before.before in
-    let s = f.before.before.before.before in (
-      f.find-full.ensures,
-      ((s.requires.0.0, s.requires.0.2, omega (arith, s.requires.0.1, slice-aggregate-put-words c)), s.requires.1),
-    )
+put_words-requires : tie.Need-put_words-requires
+put_words-requires c κs = (
+  c.find_full.ensures,
+  ((c.requires.0.0, c.requires.0.2, omega (arith, c.requires.0.1, slice_bounds-put_words-end c)), c.requires.1),
+)
 
-same_length : tie.Need-same-length
-same_length c = search rules
+shape_of-out : tie.Need-shape_of-out
+shape_of-out c = search rules
 
 returns : tie.Need-returns
 returns c = search rules
 
-pub put-block-spec : {M : Type 1} → statement M
-put-block-spec =
+pub put_block_spec : {M : Type 1} → statement M
+put_block_spec =
     tie.close
     (tie.spec
-    slice-aggregate-find-full
-    find-full-requires
-    slice-aggregate-put-words
-    put-words-requires
-    same_length
+    slice_bounds-find_full-end
+    find_full-requires
+    slice_bounds-put_words-end
+    put_words-requires
+    shape_of-out
     returns)

@@ -11,113 +11,107 @@ use Rattle.pciv_bundle_frames.proofs.LentLaws.{no_frame, used, used-length, used
 use Rattle.pciv_bundle.proofs.write.put_bundle.Statement.{statement}
 use Rattle.pciv_bundle.proofs.write.put_bundle.Tie as tie
 
-abbrev invariant-loop : tie.invariant-loop
-invariant-loop frames count n out₀ at₀ f₀ out at f = Putting (used frames count) out₀ out at f
+abbrev invariant-loop-f : tie.invariant-loop-f
+invariant-loop-f frames count n out₀ at₀ f₀ out at f = Putting (used frames count) out₀ out at f
 
-abbrev decreases-loop : tie.decreases-loop
-decreases-loop frames count n out₀ at₀ f₀ out at f = count - f
+abbrev decreases-loop-f : tie.decreases-loop-f
+decreases-loop-f frames count n out₀ at₀ f₀ out at f = count - f
 
-abbrev fs : tie.Start invariant-loop decreases-loop → List (List ℕ)
+abbrev fs : tie.Start invariant-loop-f decreases-loop-f → List (List ℕ)
 fs s = used s.args.frames.now s.args.count
 
-abbrev entry : tie.At-loop invariant-loop decreases-loop → tie.Start invariant-loop decreases-loop
+abbrev entry : tie.At-loop-f invariant-loop-f decreases-loop-f → tie.Start invariant-loop-f decreases-loop-f
 entry l = l.before.before.before.before.before.before
 
-put-header-requires : tie.Need-put-header-requires invariant-loop decreases-loop
-put-header-requires c κs =
-    let s = c.before.before in
-    (omega (arith, s.requires.1.1, length-bundle_of s.args.n (fs s)), s.requires.1.0)
+put_header-requires : tie.Need-put_header-requires invariant-loop-f decreases-loop-f
+put_header-requires c κs =
+    (omega (arith, c.requires.1.1, length-bundle_of c.args.n (fs c.before.before)), c.requires.1.0)
 
-loop-holds : tie.Need-loop-init invariant-loop decreases-loop
-loop-holds c = putting-start _ _
+loop-f-init : tie.Need-loop-f-init invariant-loop-f decreases-loop-f
+loop-f-init c = putting-start _ _
 
-mul-frame : tie.Need-overflow-mul-frame invariant-loop decreases-loop
-mul-frame c = omega arith
+offset_bounds-frames-f : tie.Need-offset_bounds-frames-f invariant-loop-f decreases-loop-f
+offset_bounds-frames-f c = omega arith
 
-shared-slice-copy-out-frame : tie.Need-shared-slice-copy-out-frame invariant-loop decreases-loop
-shared-slice-copy-out-frame c = omega arith
+bounds-frames-f : tie.Need-bounds-frames-f invariant-loop-f decreases-loop-f
+bounds-frames-f c = omega arith
 
 -- the buffer has its length
-same : (l : tie.At-loop invariant-loop decreases-loop) → length l.loop.out ≡ length (entry l).args.out.now
-same l = l.loop.invariant.same ∙ ap length l.before.before.before.put-header.ensures ∙ simp length-sets
+same : (l : tie.At-loop-f invariant-loop-f decreases-loop-f) → length l.loop-f.out ≡ length (entry l).args.out.now
+same l = l.loop-f.invariant.same ∙ ap length l.put_header.ensures ∙ simp length-sets
 
 -- all frames that are used are there
-all : (s : tie.Start invariant-loop decreases-loop) → length (fs s) ≡ s.args.count
+all : (s : tie.Start invariant-loop-f decreases-loop-f) → length (fs s) ≡ s.args.count
 all s = used-length s.args.frames.now s.args.count s.requires.0.1 s.requires.0.0
 
 -- frame f is one of them, and with it what is written stays small
-module _ (c : tie.In-loop invariant-loop decreases-loop) where
+module _ (c : tie.In-loop-f invariant-loop-f decreases-loop-f) where
   abbrev frame : List ℕ
-  frame = (get_or (entry c.before).args.frames.now c.before.loop.f no_frame).now
+  frame = (get_or (entry c.before).args.frames.now c.loop-f.f no_frame).now
 
-  more : c.before.loop.f < length (fs (entry c.before))
-  more = rw (all (entry c.before)) c.loop-test.true
+  more : c.loop-f.f < length (fs (entry c.before))
+  more = rw (all (entry c.before)) c.loop-f-test.true
 
-  here : frame ≡ get_or (fs (entry c.before)) c.before.loop.f []
-  here = let a = (entry c.before).args in used-at a.frames.now a.count _ c.loop-test.true
+  here : frame ≡ get_or (fs (entry c.before)) c.loop-f.f []
+  here = let a = (entry c.before).args in used-at a.frames.now a.count _ c.loop-f-test.true
 
-  small : c.before.loop.at + (6 + length frame) < 2 ^ 40
+  small : c.loop-f.at + (6 + length frame) < 2 ^ 40
   small =
       let s = entry c.before in
-      counted-small (fs s) _ _ c.before.loop.invariant.counted s.pre.0.2 more (rw (all s) s.pre.0.0) _ here
+      counted-small (fs s) _ _ c.loop-f.invariant.counted s.requires.0.2 more (rw (all s) s.requires.0.0) _ here
 
-put-frame-requires : tie.Need-put-frame-requires invariant-loop decreases-loop
-put-frame-requires c κs =
-    let x = c.before.before in
-    let s = entry x.before in
-    let fits : 12 + length (frames_bytes (fs s)) ≤ length x.before.loop.out =
-    omega (arith, s.pre.1.1, length-bundle_of s.args.n (fs s), same x.before) in (
-      putting-space _ _ _ _ _ x.before.loop.invariant (more x) _ (here x) fits,
-      omega (arith, s.pre.0.2 _ (more x), ap length (here x)),
+put_frame-requires : tie.Need-put_frame-requires invariant-loop-f decreases-loop-f
+put_frame-requires c κs =
+    let s = entry c.before.before.before in
+    let fits : 12 + length (frames_bytes (fs s)) ≤ length c.loop-f.out =
+    omega (arith, s.requires.1.1, length-bundle_of s.args.n (fs s), same c.before.before.before) in (
+      putting-space _ _ _ _ _ c.loop-f.invariant (more c.before.before) _ (here c.before.before) fits,
+      omega (arith, s.requires.0.2 _ (more c.before.before), ap length (here c.before.before)),
     )
 
-add_at : tie.Need-overflow-add-at invariant-loop decreases-loop
-add_at c =
-    let x = c.before.before.before.before.before in
-    omega (arith, small x)
+overflow_add-at : tie.Need-overflow_add-at invariant-loop-f decreases-loop-f
+overflow_add-at c =
+    omega (arith, small c.before.before.before.before.before)
 
-add-at-2 : tie.Need-overflow-add-at-2 invariant-loop decreases-loop
-add-at-2 c =
-    let x = c.before.before.before.before.before in
-    omega (arith, small x)
+overflow_add-at-in-loop-f : tie.Need-overflow_add-at-in-loop-f invariant-loop-f decreases-loop-f
+overflow_add-at-in-loop-f c =
+    omega (arith, small c.before.before.before.before.before)
 
-add-f : tie.Need-overflow-add-f invariant-loop decreases-loop
-add-f c = omega arith
+overflow_add-f : tie.Need-overflow_add-f invariant-loop-f decreases-loop-f
+overflow_add-f c = omega arith
 
-loop-less : tie.Need-loop-smaller invariant-loop decreases-loop
-loop-less c = omega arith
+loop-f-smaller : tie.Need-loop-f-smaller invariant-loop-f decreases-loop-f
+loop-f-smaller c = omega arith
 
-loop-again : tie.Need-loop-preserved invariant-loop decreases-loop
-loop-again c =
-    let x = c.before.before.before.before.before in
-    putting-more _ _ _ _ _ x.before.loop.invariant (more x) _ (here x) (entry x.before).pre.0.2 _
-    c.before.before.put-frame.ensures
+loop-f-preserved : tie.Need-loop-f-preserved invariant-loop-f decreases-loop-f
+loop-f-preserved c =
+    putting-more _ _ _ _ _ c.loop-f.invariant (more c.before.before.before.before.before) _ (here c.before.before.before.before.before) (entry c.before.before.before.before.before.before).requires.0.2 _
+    c.put_frame.ensures
 
-same_length : tie.Need-same-length invariant-loop decreases-loop
-same_length c = same c.before
+shape_of-out : tie.Need-shape_of-out invariant-loop-f decreases-loop-f
+shape_of-out c = same c.before
 
-returns : tie.Need-returns invariant-loop decreases-loop
+returns : tie.Need-returns invariant-loop-f decreases-loop-f
 returns c =
-    let l = c.before in
-    let s = entry l in
-    putting-end _ _ _ _ _ l.loop.invariant (rw (all s) c.loop-test.false)
-    ∙ sets-bundle s.args.n (fs s) s.args.out.now _ (rw (all s) l.before.before.before.put-header.ensures)
+    let s = entry c.before in
+    putting-end _ _ _ _ _ c.loop-f.invariant (rw (all s) c.loop-f-test.false)
+    ∙ sets-bundle s.args.n (fs s) s.args.out.now _ (rw (all s) c.put_header.ensures)
 
-pub put-bundle-spec : {M : Type 1} → statement M
-put-bundle-spec =
+pub put_bundle_spec : {M : Type 1} → statement M
+put_bundle_spec =
     tie.close
     (tie.spec
-    invariant-loop
-    decreases-loop
-    put-header-requires
-    loop-holds
-    mul-frame
-    shared-slice-copy-out-frame
-    put-frame-requires
-    add_at
-    add-at-2
-    add-f
-    loop-less
-    loop-again
-    same_length
+    invariant-loop-f
+    decreases-loop-f
+    put_header-requires
+    loop-f-init
+    offset_bounds-frames-f
+    bounds-frames-f
+    put_frame-requires
+    overflow_add-at
+    overflow_add-at-in-loop-f
+    overflow_add-f
+    loop-f-smaller
+    loop-f-preserved
+    shape_of-out
     returns)

@@ -12,174 +12,158 @@ use Rattle.pciv_bundle.specs.Bundle.{used_slots, bundle_write_buffer}
 use Rattle.pciv_bundle_frames.proofs.LentLaws.{used-length, used-at}
 use Rattle.pciv_bundle.proofs.BundleCaseLaws.{write-none, write-many, write-slots, write-refused}
 use Rattle.pciv_bundle.proofs.BundleCaseLaws.{write-n, write-frames, write-short, write_done, write-buffer}
+use Rattle.std.specs.Borrow.{Bor}
 use borrow.Author.Rules.{rules}
 use Rattle.pciv_bundle.proofs.write.write.Statement.{statement}
 use Rattle.pciv_bundle.proofs.write.write.Tie as tie
 
 -- the frames, as lists of bytes
 abbrev fs : tie.Start → List (List ℕ)
-fs s = map ((λ x. x.now) {X = List ℕ}) s.args.frames.now
+fs s = map (λ (x : Bor (List ℕ)). x.now) s.args.frames.now
 
-abbrev entry : tie.Else2 → tie.Start
+abbrev entry : tie.Else-count-gt-MAX_FRAMES → tie.Start
 entry c = c.before.before.before.before
 
-refuse-number-requires : tie.Need-refuse-number-requires
-refuse-number-requires c κs = search rules
+refuse_number-requires : tie.Need-refuse_number-requires
+refuse_number-requires c κs = search rules
 
-returns : tie.Need-returns
+returns-then-count-lt1 : tie.Need-returns-then-count-lt1
 unfolding bundle_write_buffer
-returns c =
-    let s = c.before.before.before.before in
-    let none = write-none (fs s) s.args.count (length s.args.out.now) c.before.if1.true in
-    (c.refuse-number.ensures ∙ ap number_answer (sym none), rw none)
+returns-then-count-lt1 c =
+    let none = write-none (fs c.before.before.before.before) c.args.count (length c.args.out.now) c.if-count-lt1.true in
+    (c.refuse_number.ensures ∙ ap number_answer (sym none), rw none)
 
-refuse-number-requires-2 : tie.Need-refuse-number-requires-2
-refuse-number-requires-2 c κs = search rules
+refuse_number-requires-then-count-gt-MAX_FRAMES : tie.Need-refuse_number-requires-then-count-gt-MAX_FRAMES
+refuse_number-requires-then-count-gt-MAX_FRAMES c κs = search rules
 
-returns-2 : tie.Need-returns-2
+returns-then-count-gt-MAX_FRAMES : tie.Need-returns-then-count-gt-MAX_FRAMES
 unfolding bundle_write_buffer
-returns-2 c =
-    let s = c.before.before.before.before.before in
-    let many = write-many (fs s) s.args.count (length s.args.out.now) c.before.if2.true in
-    (c.refuse-number2.ensures ∙ ap number_answer (sym many), rw many)
+returns-then-count-gt-MAX_FRAMES c =
+    let many = write-many (fs c.before.before.before.before.before) c.args.count (length c.args.out.now) c.if-count-gt-MAX_FRAMES.true in
+    (c.refuse_number-then-count-gt-MAX_FRAMES.ensures ∙ ap number_answer (sym many), rw many)
 
-shared-slice-copy-out-first : tie.Need-shared-slice-copy-out-first
-shared-slice-copy-out-first c = search rules
+bounds-lent-0 : tie.Need-bounds-lent-0
+bounds-lent-0 c = search rules
 
-slots-of-requires : tie.Need-slots-of-requires
-slots-of-requires c κs = search rules
+slots_of-requires : tie.Need-slots_of-requires
+slots_of-requires c κs = search rules
 
-check-lent-requires : tie.Need-check-lent-requires
-check-lent-requires c κs = search rules
+check_lent-checked-requires : tie.Need-check_lent-checked-requires
+check_lent-checked-requires c κs = search rules
 
-enum-known-checked : tie.Need-enum-known-checked
-enum-known-checked c = search rules
+enum_known-checked : tie.Need-enum_known-checked
+enum_known-checked c = search rules
 
-enum-known-checked-2 : tie.Need-enum-known-checked-2
-enum-known-checked-2 c = search rules
+enum_known-checked-in-Number-1 : tie.Need-enum_known-checked-in-Number-1
+enum_known-checked-in-Number-1 c = search rules
 
 -- from 1 to 8 frames are used, and eight are there
-some : (c : tie.Else2) → 1 ≤ (entry c).args.count
-some c = c.before.if1.false
+some : (c : tie.Else-count-gt-MAX_FRAMES) → 1 ≤ (entry c).args.count
+some c = c.if-count-lt1.false
 
-few : (c : tie.Else2) → (entry c).args.count ≤ 8
-few c = c.if2.false
+few : (c : tie.Else-count-gt-MAX_FRAMES) → (entry c).args.count ≤ 8
+few c = c.if-count-gt-MAX_FRAMES.false
 
-eight : (c : tie.Else2) → length (entry c).args.frames.now ≡ 8
-eight c = omega (arith, c.before.before.lent.given.0)
+eight : (c : tie.Else-count-gt-MAX_FRAMES) → length (entry c).args.frames.now ≡ 8
+eight c = omega (arith, c.lent-1.given)
 
-there : (c : tie.Else2) → length (take (entry c).args.count (fs (entry c))) ≡ (entry c).args.count
+there : (c : tie.Else-count-gt-MAX_FRAMES) → length (take (entry c).args.count (fs (entry c))) ≡ (entry c).args.count
 there c = used-length (entry c).args.frames.now _ (eight c) (few c)
 
 -- what their check has found, against the n that was read of the first, and so against its n
-checked-used : (c : tie.After-check-lent)
+checked-used : (c : tie.After-check_lent-checked)
     → (let e = entry c.before.before.before in
-    c.check-lent.result ≡ number_answer (frames_outcome c.before.slots-of.result (take e.args.count (fs e))))
-checked-used c = c.check-lent.ensures
+    c.check_lent-checked.result ≡ number_answer (frames_outcome c.slots_of.result (take e.args.count (fs e))))
+checked-used c = c.check_lent-checked.ensures
 
-checked-slots : (c : tie.After-check-lent)
+checked-slots : (c : tie.After-check_lent-checked)
     → (let e = entry c.before.before.before in
-    c.check-lent.result ≡ number_answer (frames_outcome (used_slots (fs e)) (take e.args.count (fs e))))
+    c.check_lent-checked.result ≡ number_answer (frames_outcome (used_slots (fs e)) (take e.args.count (fs e))))
 checked-slots c =
-    let x = c.before.before.before in
-    let e = entry x in
+    let e = entry c.before.before.before in
     checked-used c
     ∙ ap number_answer
-    (write-slots (fs e) e.args.count (some x) (few x) _ (there x)
-    (rw (used-at e.args.frames.now e.args.count 0 (some x)) at c.before.slots-of.ensures))
+    (write-slots (fs e) e.args.count (some c.before.before.before) (few c.before.before.before) _ (there c.before.before.before)
+    (rw (used-at e.args.frames.now e.args.count 0 (some c.before.before.before)) at c.slots_of.ensures))
 
-is-refused : (c : tie.After-checked)
-    → (let e = entry c.before.before.before.before.before in
-    frames_outcome (used_slots (fs e)) (take e.args.count (fs e)) ≡ refused c.checked.given.0.0)
-is-refused c = number_answer-refused _ _ (sym c.checked.given.1 ∙ checked-slots c.before.before)
+is-refused : (c : tie.In-Refused)
+    → (let e = entry c.before.before.before.before in
+    frames_outcome (used_slots (fs e)) (take e.args.count (fs e)) ≡ refused c.in-Refused.r)
+is-refused c = number_answer-refused _ _ (sym c.in-Refused.is ∙ checked-slots c.before)
 
-is-done : (c : tie.After-checked2)
-    → (let e = entry c.before.before.before.before.before in
-    frames_outcome (used_slots (fs e)) (take e.args.count (fs e)) ≡ done c.checked2.given.0.0)
-is-done c = number_answer-number _ _ (sym c.checked2.given.1 ∙ checked-slots c.before.before)
+is-done : (c : tie.In-Number)
+    → (let e = entry c.before.before.before.before in
+    frames_outcome (used_slots (fs e)) (take e.args.count (fs e)) ≡ done c.in-Number.n)
+is-done c = number_answer-number _ _ (sym c.in-Number.is ∙ checked-slots c.before)
 
-bundle-len-requires : tie.Need-bundle-len-requires
-bundle-len-requires c κs =
-    let k = c.before in
-    let x = k.before.before.before.before.before in
-    (few x, eight x, write-frames (fs (entry x)) _ (some x) (few x) _ (is-done k))
+bundle_len-len-requires : tie.Need-bundle_len-len-requires
+bundle_len-len-requires c κs =
+    (few c.before.before.before.before, eight c.before.before.before.before, write-frames (fs (entry c.before.before.before.before)) _ (some c.before.before.before.before) (few c.before.before.before.before) _ (is-done c))
 
-refuse-number-requires-3 : tie.Need-refuse-number-requires-3
-refuse-number-requires-3 c κs = search rules
+refuse_number-requires-then-out-len : tie.Need-refuse_number-requires-then-out-len
+refuse_number-requires-then-out-len c κs = search rules
 
-returns-3 : tie.Need-returns-3
+returns-then-out-len : tie.Need-returns-then-out-len
 unfolding bundle_write_buffer
-returns-3 c =
-    let l = c.before.before in
-    let k = l.before.before in
-    let x = k.before.before.before.before.before in
-    let s = entry x in
+returns-then-out-len c =
+    let s = entry c.before.before.before.before.before.before.before in
     let short =
-    write-short (fs s) s.args.count (some x) (few x) _ (is-done k) (length s.args.out.now)
-    (omega (arith, c.before.if3.true, l.bundle-len.ensures k.checked2.given.0.0)) in
-    (c.refuse-number3.ensures ∙ ap number_answer (sym short), rw short)
+    write-short (fs s) s.args.count (some c.before.before.before.before.before.before.before) (few c.before.before.before.before.before.before.before) _ (is-done c.before.before.before) (length s.args.out.now)
+    (omega (arith, c.if-out-len.true, c.bundle_len-len.ensures c.in-Number.n)) in
+    (c.refuse_number-then-out-len.ensures ∙ ap number_answer (sym short), rw short)
 
 -- the bundle fits
-fits : (c : tie.Else3)
-    → (let k = c.before.before.before in
-    let s = entry k.before.before.before.before.before in
-    length (bundle_of k.checked2.given.0.0 (take s.args.count (fs s))) ≤ length s.args.out.now)
-fits c = omega (arith, c.if3.false, c.before.bundle-len.ensures c.before.before.before.checked2.given.0.0)
+fits : (c : tie.Else-out-len)
+    → (let s = entry c.before.before.before.before.before.before in
+    length (bundle_of c.in-Number.n (take s.args.count (fs s))) ≤ length s.args.out.now)
+fits c = omega (arith, c.if-out-len.false, c.bundle_len-len.ensures c.in-Number.n)
 
-put-bundle-requires : tie.Need-put-bundle-requires
-put-bundle-requires c κs =
-    let k = c.before.before.before.before in
-    let x = k.before.before.before.before.before in
-    let e = is-done k in (
-      (few x, eight x, write-frames (fs (entry x)) _ (some x) (few x) _ e),
-      (write-n (fs (entry x)) _ (some x) (few x) _ e (there x), fits c.before),
+put_bundle-requires : tie.Need-put_bundle-requires
+put_bundle-requires c κs =
+    let e = is-done c.before.before.before in (
+      (few c.before.before.before.before.before.before.before, eight c.before.before.before.before.before.before.before, write-frames (fs (entry c.before.before.before.before.before.before.before)) _ (some c.before.before.before.before.before.before.before) (few c.before.before.before.before.before.before.before) _ e),
+      (write-n (fs (entry c.before.before.before.before.before.before.before)) _ (some c.before.before.before.before.before.before.before) (few c.before.before.before.before.before.before.before) _ e (there c.before.before.before.before.before.before.before), fits c.before),
     )
 
-returns-4 : tie.Need-returns-4
+returns-in-Refused : tie.Need-returns-in-Refused
 unfolding bundle_write_buffer
-returns-4 c =
-    let k = c.before in
-    let x = k.before.before.before.before.before in
-    let s = entry x in
+returns-in-Refused c =
+    let s = entry c.before.before.before.before in
     let no =
-    write-refused (fs s) s.args.count (some x) (few x) (length s.args.out.now) _ (is-refused k) in
+    write-refused (fs s) s.args.count (some c.before.before.before.before) (few c.before.before.before.before) (length s.args.out.now) _ (is-refused c) in
     (ap number_answer (sym no), rw no)
 
-same_length : tie.Need-same-length
-same_length c = search rules
+shape_of-out : tie.Need-shape_of-out
+shape_of-out c = search rules
 
-returns-5 : tie.Need-returns-5
-returns-5 c =
-    let p = c.before.before in
-    let l = p.before.before.before in
-    let k = l.before.before in
-    let x = k.before.before.before.before.before in
-    let s = entry x in
-    let n = k.checked2.given.0.0 in
-    let space = fits p.before.before in
-    let yes = write_done (fs s) s.args.count (some x) (few x) n (is-done k) (length s.args.out.now) space in (
-      ap number_answer (ap done (l.bundle-len.ensures n) ∙ sym yes),
-      p.put-bundle.ensures
-          ∙ write-buffer (fs s) s.args.count (some x) (few x) n (is-done k) s.args.out.now space,
+returns-else-out-len : tie.Need-returns-else-out-len
+returns-else-out-len c =
+    let s = entry c.before.before.before.before.before.before.before.before.before.before in
+    let n = c.in-Number.n in
+    let space = fits c.before.before.before.before in
+    let yes = write_done (fs s) s.args.count (some c.before.before.before.before.before.before.before.before.before.before) (few c.before.before.before.before.before.before.before.before.before.before) n (is-done c.before.before.before.before.before.before) (length s.args.out.now) space in (
+      ap number_answer (ap done (c.bundle_len-len.ensures n) ∙ sym yes),
+      c.put_bundle.ensures
+          ∙ write-buffer (fs s) s.args.count (some c.before.before.before.before.before.before.before.before.before.before) (few c.before.before.before.before.before.before.before.before.before.before) n (is-done c.before.before.before.before.before.before) s.args.out.now space,
     )
 
 pub write_spec : {M : Type 1} → statement M
 write_spec =
     tie.close
     (tie.spec
-    refuse-number-requires
-    returns
-    refuse-number-requires-2
-    returns-2
-    shared-slice-copy-out-first
-    slots-of-requires
-    check-lent-requires
-    enum-known-checked
-    enum-known-checked-2
-    bundle-len-requires
-    refuse-number-requires-3
-    returns-3
-    put-bundle-requires
-    returns-4
-    same_length
-    returns-5)
+    refuse_number-requires
+    returns-then-count-lt1
+    refuse_number-requires-then-count-gt-MAX_FRAMES
+    returns-then-count-gt-MAX_FRAMES
+    bounds-lent-0
+    slots_of-requires
+    check_lent-checked-requires
+    enum_known-checked
+    enum_known-checked-in-Number-1
+    bundle_len-len-requires
+    refuse_number-requires-then-out-len
+    returns-then-out-len
+    put_bundle-requires
+    returns-in-Refused
+    shape_of-out
+    returns-else-out-len)

@@ -6,54 +6,54 @@ use Rattle.pciv_bundle_nearest.proofs.ChangedLaws.{changed-start, changed-more, 
 use Rattle.pciv_bundle_nearest.proofs.blocks.lower_block.Statement.{statement}
 use Rattle.pciv_bundle_nearest.proofs.blocks.lower_block.Tie as tie
 
-abbrev invariant-loop : tie.invariant-loop
-invariant-loop least₀ bytes i₀ least i =
+abbrev invariant-loop-i : tie.invariant-loop-i
+invariant-loop-i least₀ bytes i₀ least i =
     (i ≤ length bytes) × Changed (λ (t m : ℕ). lowered_byte m (at bytes t)) i least₀ least
 
-abbrev decreases-loop : tie.decreases-loop
-decreases-loop least₀ bytes i₀ least i = length bytes - i
+abbrev decreases-loop-i : tie.decreases-loop-i
+decreases-loop-i least₀ bytes i₀ least i = length bytes - i
 
-loop-holds : tie.Need-loop-init invariant-loop decreases-loop
-loop-holds c = (search rules, changed-start _ _)
+loop-i-init : tie.Need-loop-i-init invariant-loop-i decreases-loop-i
+loop-i-init c = (search rules, changed-start _ _)
 
-element-copy-out-lowered : tie.Need-element-copy-out-lowered invariant-loop decreases-loop
-element-copy-out-lowered c = search rules
+bounds-least-i : tie.Need-bounds-least-i invariant-loop-i decreases-loop-i
+bounds-least-i c = search rules
 
-shared-slice-read-lowered : tie.Need-shared-slice-read-lowered invariant-loop decreases-loop
-shared-slice-read-lowered c = search rules
+bounds-bytes-i : tie.Need-bounds-bytes-i invariant-loop-i decreases-loop-i
+bounds-bytes-i c = search rules
 
-lowered-requires : tie.Need-lowered-requires invariant-loop decreases-loop
+lowered-requires : tie.Need-lowered-requires invariant-loop-i decreases-loop-i
 lowered-requires c κs = search rules
 
-element-write-least : tie.Need-element-write-least invariant-loop decreases-loop
-element-write-least c = search rules
+bounds-least-i-in-loop-i : tie.Need-bounds-least-i-in-loop-i invariant-loop-i decreases-loop-i
+bounds-least-i-in-loop-i c = search rules
 
-add-i : tie.Need-overflow-add-i invariant-loop decreases-loop
-add-i c = search rules
+overflow_add-i : tie.Need-overflow_add-i invariant-loop-i decreases-loop-i
+overflow_add-i c = search rules
 
-loop-less : tie.Need-loop-smaller invariant-loop decreases-loop
-loop-less c = search rules
+loop-i-smaller : tie.Need-loop-i-smaller invariant-loop-i decreases-loop-i
+loop-i-smaller c = search rules
 
-loop-again : tie.Need-loop-preserved invariant-loop decreases-loop
-loop-again c =
-    let l = c.before.before.before.before.loop in
+loop-i-preserved : tie.Need-loop-i-preserved invariant-loop-i decreases-loop-i
+loop-i-preserved c =
+    let l = c.loop-i in
     (search rules, changed-more l.invariant.1 c.lowered.result (omega arith) c.lowered.ensures)
 
-returns : tie.Need-returns invariant-loop decreases-loop
-returns c = changed-to c.before.loop.invariant.1 _ (omega arith) (λ i x h₁ h₂. absurd (omega arith))
+returns : tie.Need-returns invariant-loop-i decreases-loop-i
+returns c = changed-to c.loop-i.invariant.1 _ (omega arith) (λ i x h₁ h₂. absurd (omega arith))
 
-pub lower-block-spec : {M : Type 1} → statement M
-lower-block-spec =
+pub lower_block_spec : {M : Type 1} → statement M
+lower_block_spec =
     tie.close
     (tie.spec
-    invariant-loop
-    decreases-loop
-    loop-holds
-    element-copy-out-lowered
-    shared-slice-read-lowered
+    invariant-loop-i
+    decreases-loop-i
+    loop-i-init
+    bounds-least-i
+    bounds-bytes-i
     lowered-requires
-    element-write-least
-    add-i
-    loop-less
-    loop-again
+    bounds-least-i-in-loop-i
+    overflow_add-i
+    loop-i-smaller
+    loop-i-preserved
     returns)

@@ -14,109 +14,100 @@ use Rattle.pciv_bundle_nearest.proofs.BlockLaws.{part_length, bytes-turn, raised
 use Rattle.pciv_bundle_nearest.proofs.blocks.nearest_block.Statement.{statement}
 use Rattle.pciv_bundle_nearest.proofs.blocks.nearest_block.Tie as tie
 
-abbrev invariant-loop : tie.invariant-loop
-invariant-loop bundle places count n start len out least₀ f₀ least f =
+abbrev invariant-loop-f : tie.invariant-loop-f
+invariant-loop-f bundle places count n start len out least₀ f₀ least f =
     (f ≤ count) × (length least ≡ 4096) × Turns (λ (i : ℕ). byte_step (start + i)) (frames bundle) len least₀ least f
 
-abbrev decreases-loop : tie.decreases-loop
-decreases-loop bundle places count n start len out least₀ f₀ least f = count - f
+abbrev decreases-loop-f : tie.decreases-loop-f
+decreases-loop-f bundle places count n start len out least₀ f₀ least f = count - f
 
-loop-holds : tie.Need-loop-init invariant-loop decreases-loop
-loop-holds c = (search rules, length-replicate {A = ℕ} 4096 255, turns-start _ _ _ _)
+loop-f-init : tie.Need-loop-f-init invariant-loop-f decreases-loop-f
+loop-f-init c = (search rules, length-replicate {A = ℕ} 4096 255, turns-start _ _ _ _)
 
-frame-at-requires : tie.Need-frame-at-requires invariant-loop decreases-loop
-frame-at-requires c κs =
-    let s = c.before.before.before.before in
-    (omega arith, s.requires.1.0 c.before.loop.f (omega arith))
+frame_at-frame-requires : tie.Need-frame_at-frame-requires invariant-loop-f decreases-loop-f
+frame_at-frame-requires c κs =
+    (omega arith, c.requires.1.0 c.loop-f.f (omega arith))
 
 -- the frame is a checked map, and the block lies within it
-checked : (c : tie.After-frame-at invariant-loop decreases-loop) → (let b = c.frame_at.result.now in
-    CheckedMap b c.before.before.before.before.before.args.n (k_field b))
+checked : (c : tie.After-frame_at-frame invariant-loop-f decreases-loop-f) → (let b = c.frame_at-frame.result.now in
+    CheckedMap b c.args.n (k_field b))
 checked c =
-    let s = c.before.before.before.before.before in
-    frame-checked (frames s.args.bundle.now) s.args.n s.requires.1.1 c.before.before.loop.f (omega arith)
-    _ c.frame_at.ensures
+    frame-checked (frames c.args.bundle.now) c.args.n c.requires.1.1 c.loop-f.f (omega arith)
+    _ c.frame_at-frame.ensures
 
-inside : (c : tie.After-frame-at invariant-loop decreases-loop) → (let a = c.before.before.before.before.before.args in
-    40 + a.start + a.len ≤ length c.frame_at.result.now)
-inside c = omega (arith, primary-inside _ _ _ (checked c), c.before.before.before.before.before.requires.0)
+inside : (c : tie.After-frame_at-frame invariant-loop-f decreases-loop-f) → (let a = c.args in
+    40 + a.start + a.len ≤ length c.frame_at-frame.result.now)
+inside c = omega (arith, primary-inside _ _ _ (checked c), c.requires.0)
 
-add-from : tie.Need-overflow-add-from invariant-loop decreases-loop
-add-from c = omega (arith, (checked c).header.small, c.before.before.before.before.before.requires.0)
+overflow_add-from : tie.Need-overflow_add-from invariant-loop-f decreases-loop-f
+overflow_add-from c = omega (arith, (checked c).header.small, c.requires.0)
 
-add-to : tie.Need-overflow-add-to invariant-loop decreases-loop
-add-to c = omega (arith, (checked c).header.small, c.before.before.before.before.before.requires.0)
+overflow_add-to : tie.Need-overflow_add-to invariant-loop-f decreases-loop-f
+overflow_add-to c = omega (arith, (checked c).header.small, c.requires.0)
 
-sub-lower-block : tie.Need-overflow-sub-lower-block invariant-loop decreases-loop
-sub-lower-block c = search rules
+slice_bounds-lower_block-count : tie.Need-slice_bounds-lower_block-count invariant-loop-f decreases-loop-f
+slice_bounds-lower_block-count c = search rules
 
-part-lower-block-start : tie.Need-slice-bounds-lower-block-start invariant-loop decreases-loop
-part-lower-block-start c = search rules
+slice_bounds-lower_block-start : tie.Need-slice_bounds-lower_block-start invariant-loop-f decreases-loop-f
+slice_bounds-lower_block-start c = search rules
 
-part-lower-block-end : tie.Need-slice-bounds-lower-block-end invariant-loop decreases-loop
-part-lower-block-end c = inside c.before
+slice_bounds-lower_block-end : tie.Need-slice_bounds-lower_block-end invariant-loop-f decreases-loop-f
+slice_bounds-lower_block-end c = inside c.before
 
-lower-block-requires : tie.Need-lower-block-requires invariant-loop decreases-loop
-lower-block-requires c κs =
-    let d = c.before.before in
-    let s = d.before.before.before.before.before in
-    let a = s.args in (
-      rw (add-sub_cancel_left (40 + a.start) a.len, part_length _ a.start a.len (inside d))
-          (omega (arith, s.requires.0)),
-      d.before.before.loop.invariant.1,
+lower_block-requires : tie.Need-lower_block-requires invariant-loop-f decreases-loop-f
+lower_block-requires c κs =
+    let a = c.args in (
+      rw (add-sub_cancel_left (40 + a.start) a.len, part_length _ a.start a.len (inside c.before.before))
+          (omega (arith, c.requires.0)),
+      c.loop-f.invariant.1,
     )
 
-add-f : tie.Need-overflow-add-f invariant-loop decreases-loop
-add-f c = search rules
+overflow_add-f : tie.Need-overflow_add-f invariant-loop-f decreases-loop-f
+overflow_add-f c = search rules
 
-loop-less : tie.Need-loop-smaller invariant-loop decreases-loop
-loop-less c = search rules
+loop-f-smaller : tie.Need-loop-f-smaller invariant-loop-f decreases-loop-f
+loop-f-smaller c = search rules
 
-loop-again : tie.Need-loop-preserved invariant-loop decreases-loop
-loop-again c =
-    let d = c.before.before.before in
-    let l = d.before.before in
-    let a = l.before.before.before.args in
-    let turn = bytes-turn d.frame_at.result.now _ d.frame_at.ensures a.start a.len _ (inside d)
+loop-f-preserved : tie.Need-loop-f-preserved invariant-loop-f decreases-loop-f
+loop-f-preserved c =
+    let a = c.args in
+    let turn = bytes-turn c.frame_at-frame.result.now _ c.frame_at-frame.ensures a.start a.len _ (inside c.before.before.before)
     (add-sub_cancel_left (40 + a.start) a.len) c.lower_block.ensures in
-    (search rules, c.lower_block.ensures.same ∙ l.loop.invariant.1, turns_more l.loop.invariant.2 _ (omega arith) turn)
+    (search rules, c.lower_block.ensures.same ∙ c.loop-f.invariant.1, turns_more c.loop-f.invariant.2 _ (omega arith) turn)
 
-raise-block-requires : tie.Need-raise-block-requires invariant-loop decreases-loop
-raise-block-requires c κs =
-    let p = c.before.before.before.before.before.before.requires.0 in
+raise_block-requires : tie.Need-raise_block-requires invariant-loop-f decreases-loop-f
+raise_block-requires c κs =
+    let p = c.requires.0 in
     (p.2, omega (arith, p.3, p.4))
 
-same_length : tie.Need-same-length invariant-loop decreases-loop
-same_length c = c.before.before.raise-block.auto.1.0
+shape_of-out : tie.Need-shape_of-out invariant-loop-f decreases-loop-f
+shape_of-out c = c.raise_block.auto.out
 
-returns : tie.Need-returns invariant-loop decreases-loop
+returns : tie.Need-returns invariant-loop-f decreases-loop-f
 returns c =
-    let d = c.before.before in
-    let l = d.before.before.before.before in
-    let s = l.before.before.before in
-    let a = s.args in
-    d.raise-block.ensures
+    let a = c.args in
+    c.raise_block.ensures
     ∙ ap (sets a.out.now a.start)
-    (raised-block (frames a.bundle.now) a.start a.len (turns-end l.loop.invariant.2 (omega arith))
-    (λ i h. get_or-replicate 4096 i 255 0 (omega (arith, s.requires.0))))
+    (raised-block (frames a.bundle.now) a.start a.len (turns-end c.loop-f.invariant.2 (omega arith))
+    (λ i h. get_or-replicate 4096 i 255 0 (omega (arith, c.requires.0))))
 
-pub nearest-block-spec : {M : Type 1} → statement M
-nearest-block-spec =
+pub nearest_block_spec : {M : Type 1} → statement M
+nearest_block_spec =
     tie.close
     (tie.spec
-    invariant-loop
-    decreases-loop
-    loop-holds
-    frame-at-requires
-    add-from
-    add-to
-    sub-lower-block
-    part-lower-block-start
-    part-lower-block-end
-    lower-block-requires
-    add-f
-    loop-less
-    loop-again
-    raise-block-requires
-    same_length
+    invariant-loop-f
+    decreases-loop-f
+    loop-f-init
+    frame_at-frame-requires
+    overflow_add-from
+    overflow_add-to
+    slice_bounds-lower_block-count
+    slice_bounds-lower_block-start
+    slice_bounds-lower_block-end
+    lower_block-requires
+    overflow_add-f
+    loop-f-smaller
+    loop-f-preserved
+    raise_block-requires
+    shape_of-out
     returns)

@@ -7,67 +7,62 @@ use Rattle.pciv_bundle_nearest.specs.Passes.{nearest_byte}
 use Rattle.pciv_bundle_nearest.proofs.blocks.nearest_bytes.Statement.{statement}
 use Rattle.pciv_bundle_nearest.proofs.blocks.nearest_bytes.Tie as tie
 
-abbrev invariant-loop : tie.invariant-loop
-invariant-loop bundle places count n out₀ at₀ out at = (at ≤ n) × Left (nearest_byte (frames bundle)) n out₀ out at
+abbrev invariant-loop-at : tie.invariant-loop-at
+invariant-loop-at bundle places count n out₀ at₀ out at = (at ≤ n) × Left (nearest_byte (frames bundle)) n out₀ out at
 
-abbrev decreases-loop : tie.decreases-loop
-decreases-loop bundle places count n out₀ at₀ out at = n - at
+abbrev decreases-loop-at : tie.decreases-loop-at
+decreases-loop-at bundle places count n out₀ at₀ out at = n - at
 
-loop-holds : tie.Need-loop-init invariant-loop decreases-loop
-loop-holds c = (search rules, left-start _ _ _)
+loop-at-init : tie.Need-loop-at-init invariant-loop-at decreases-loop-at
+loop-at-init c = (search rules, left-start _ _ _)
 
-sub-smaller : tie.Need-overflow-sub-smaller invariant-loop decreases-loop
-sub-smaller c = search rules
+overflow_sub-n : tie.Need-overflow_sub-n invariant-loop-at decreases-loop-at
+overflow_sub-n c = search rules
 
-smaller-requires : tie.Need-smaller-requires invariant-loop decreases-loop
-smaller-requires c κs = search rules
+smaller-len-requires : tie.Need-smaller-len-requires invariant-loop-at decreases-loop-at
+smaller-len-requires c κs = search rules
 
-add_at : tie.Need-overflow-add-at invariant-loop decreases-loop
-add_at c = search rules
+overflow_add-at : tie.Need-overflow_add-at invariant-loop-at decreases-loop-at
+overflow_add-at c = search rules
 
-nearest-block-requires : tie.Need-nearest-block-requires invariant-loop decreases-loop
-nearest-block-requires c κs =
-    let l = c.before.before.before in
-    let s = l.before.before.before in
-    let len = c.before.smaller.ensures in (
+nearest_block-requires : tie.Need-nearest_block-requires invariant-loop-at decreases-loop-at
+nearest_block-requires c κs =
+    let len = c.smaller-len.ensures in (
       (
-        s.requires.0.0,
-        s.requires.0.1,
+        c.requires.0.0,
+        c.requires.0.1,
         omega (arith, len),
         omega (arith, len),
-        omega (arith, s.requires.0.2, l.loop.invariant.1.same),
+        omega (arith, c.requires.0.2, c.loop-at.invariant.1.same),
       ),
-      s.requires.1,
+      c.requires.1,
     )
 
-loop-less : tie.Need-loop-smaller invariant-loop decreases-loop
-loop-less c = search rules
+loop-at-smaller : tie.Need-loop-at-smaller invariant-loop-at decreases-loop-at
+loop-at-smaller c = search rules
 
-loop-again : tie.Need-loop-preserved invariant-loop decreases-loop
-loop-again c =
-    let b = c.before.before in
-    let m = b.before.before in
-    let l = m.before.before in
-    (search rules, left-part l.loop.invariant.1 _ _ (omega (arith, m.smaller.ensures)) b.nearest-block.ensures)
+loop-at-preserved : tie.Need-loop-at-preserved invariant-loop-at decreases-loop-at
+loop-at-preserved c =
+    (search rules, left-part c.loop-at.invariant.1 _ _ (omega (arith, c.smaller-len.ensures)) c.nearest_block.ensures)
 
-same_length : tie.Need-same-length invariant-loop decreases-loop
-same_length c = c.before.loop.invariant.1.same
+shape_of-out : tie.Need-shape_of-out invariant-loop-at decreases-loop-at
+shape_of-out c = c.loop-at.invariant.1.same
 
-returns : tie.Need-returns invariant-loop decreases-loop
-returns c = left_end c.before.loop.invariant.1 (omega arith)
+returns : tie.Need-returns invariant-loop-at decreases-loop-at
+returns c = left_end c.loop-at.invariant.1 (omega arith)
 
-pub nearest-bytes-spec : {M : Type 1} → statement M
-nearest-bytes-spec =
+pub nearest_bytes_spec : {M : Type 1} → statement M
+nearest_bytes_spec =
     tie.close
     (tie.spec
-    invariant-loop
-    decreases-loop
-    loop-holds
-    sub-smaller
-    smaller-requires
-    add_at
-    nearest-block-requires
-    loop-less
-    loop-again
-    same_length
+    invariant-loop-at
+    decreases-loop-at
+    loop-at-init
+    overflow_sub-n
+    smaller-len-requires
+    overflow_add-at
+    nearest_block-requires
+    loop-at-smaller
+    loop-at-preserved
+    shape_of-out
     returns)

@@ -4,19 +4,25 @@ use Rattle.pciv_bundle_nearest.proofs.BlockLaws.{raised_byte-full, raised_byte-m
 use Rattle.pciv_bundle_nearest.proofs.blocks.raised.Statement.{statement}
 use Rattle.pciv_bundle_nearest.proofs.blocks.raised.Tie as tie
 
+returns-then-least-eq-INLINE_MAX : tie.Need-returns-then-least-eq-INLINE_MAX
+returns-then-least-eq-INLINE_MAX c = sym (raised_byte-full c.args.least c.if-least-eq-INLINE_MAX.true)
+
+wrapping_add_u8-requires : tie.Need-wrapping_add_u8-requires
+wrapping_add_u8-requires c κs = search rules
+
+overflow_cast-result : tie.Need-overflow_cast-result
+overflow_cast-result c = search rules
+
 returns : tie.Need-returns
-returns c = sym (raised_byte-full c.before.args.least c.if1.true)
+returns c =
+    let a = c.args in
+    c.wrapping_add_u8.ensures ∙ sym (raised_byte-more a.least (omega arith) c.if-least-eq-INLINE_MAX.false)
 
-wrapping-add-u8-requires : tie.Need-wrapping-add-u8-requires
-wrapping-add-u8-requires c κs = search rules
-
-cast-result : tie.Need-overflow-cast-result
-cast-result c = search rules
-
-returns-2 : tie.Need-returns-2
-returns-2 c =
-    let a = c.before.before.args in
-    c.wrapping-add-u8.ensures ∙ sym (raised_byte-more a.least (omega arith) c.before.if1.false)
-
-pub raised-spec : {M : Type 1} → statement M
-raised-spec = tie.close (tie.spec returns wrapping-add-u8-requires cast-result returns-2)
+pub raised_spec : {M : Type 1} → statement M
+raised_spec =
+    tie.close
+    (tie.spec
+    returns-then-least-eq-INLINE_MAX
+    wrapping_add_u8-requires
+    overflow_cast-result
+    returns)

@@ -11,72 +11,65 @@ use Rattle.pciv_bundle_nearest.proofs.LoweredLaws.{entries-turn}
 use Rattle.pciv_bundle_nearest.proofs.entries.lower_all.Statement.{statement}
 use Rattle.pciv_bundle_nearest.proofs.entries.lower_all.Tie as tie
 
-abbrev invariant-loop : tie.invariant-loop
-invariant-loop bundle places count n out₀ f₀ out f = (f ≤ count) × Turns (entry_step n) (frames bundle) n out₀ out f
+abbrev invariant-loop-f : tie.invariant-loop-f
+invariant-loop-f bundle places count n out₀ f₀ out f = (f ≤ count) × Turns (entry_step n) (frames bundle) n out₀ out f
 
-abbrev decreases-loop : tie.decreases-loop
-decreases-loop bundle places count n out₀ f₀ out f = count - f
+abbrev decreases-loop-f : tie.decreases-loop-f
+decreases-loop-f bundle places count n out₀ f₀ out f = count - f
 
-loop-holds : tie.Need-loop-init invariant-loop decreases-loop
-loop-holds c = (search rules, turns-start _ _ _ _)
+loop-f-init : tie.Need-loop-f-init invariant-loop-f decreases-loop-f
+loop-f-init c = (search rules, turns-start _ _ _ _)
 
-frame-at-requires : tie.Need-frame-at-requires invariant-loop decreases-loop
-frame-at-requires c κs =
-    let s = c.before.before.before.before in
-    (omega arith, s.requires.1.0 c.before.loop.f (omega arith))
+frame_at-frame-requires : tie.Need-frame_at-frame-requires invariant-loop-f decreases-loop-f
+frame_at-frame-requires c κs =
+    (omega arith, c.requires.1.0 c.loop-f.f (omega arith))
 
 -- the frame is a checked map
-checked : (c : tie.After-frame-at invariant-loop decreases-loop) → (let b = c.frame_at.result.now in
-    CheckedMap b c.before.before.before.before.before.args.n (k_field b))
+checked : (c : tie.After-frame_at-frame invariant-loop-f decreases-loop-f) → (let b = c.frame_at-frame.result.now in
+    CheckedMap b c.args.n (k_field b))
 checked c =
-    let s = c.before.before.before.before.before in
-    frame-checked (frames s.args.bundle.now) s.args.n s.requires.1.1 c.before.before.loop.f (omega arith)
-    _ c.frame_at.ensures
+    frame-checked (frames c.args.bundle.now) c.args.n c.requires.1.1 c.loop-f.f (omega arith)
+    _ c.frame_at-frame.ensures
 
-get64-requires : tie.Need-get64-requires invariant-loop decreases-loop
-get64-requires c κs = omega (arith, primary-inside _ _ _ (checked c))
+get64-k-requires : tie.Need-get64-k-requires invariant-loop-f decreases-loop-f
+get64-k-requires c κs = omega (arith, primary-inside _ _ _ (checked c))
 
-lower-entries-requires : tie.Need-lower-entries-requires invariant-loop decreases-loop
-lower-entries-requires c κs =
-    let l = c.before.before.before.before in
-    let s = l.before.before.before in
-    let b = c.before.before.frame_at.result.now in (
-      subst (CheckedMap b s.args.n) (sym c.before.get64.ensures) (checked c.before.before),
-      omega (arith, l.loop.invariant.1.same, s.requires.0),
+lower_entries-requires : tie.Need-lower_entries-requires invariant-loop-f decreases-loop-f
+lower_entries-requires c κs =
+    let b = c.frame_at-frame.result.now in (
+      subst (CheckedMap b c.args.n) (sym c.get64-k.ensures) (checked c.before.before),
+      omega (arith, c.loop-f.invariant.1.same, c.requires.0),
     )
 
-add-f : tie.Need-overflow-add-f invariant-loop decreases-loop
-add-f c = search rules
+overflow_add-f : tie.Need-overflow_add-f invariant-loop-f decreases-loop-f
+overflow_add-f c = search rules
 
-loop-less : tie.Need-loop-smaller invariant-loop decreases-loop
-loop-less c = search rules
+loop-f-smaller : tie.Need-loop-f-smaller invariant-loop-f decreases-loop-f
+loop-f-smaller c = search rules
 
-loop-again : tie.Need-loop-preserved invariant-loop decreases-loop
-loop-again c =
-    let e = c.before.before in
-    let g = e.before.before in
-    let l = g.before.before.before in
-    let turn = entries-turn _ _ g.before.frame_at.ensures _ _ g.get64.ensures e.lower-entries.ensures in
-    (search rules, turns_more l.loop.invariant.1 _ (omega arith) turn)
+loop-f-preserved : tie.Need-loop-f-preserved invariant-loop-f decreases-loop-f
+loop-f-preserved c =
+    let turn = entries-turn _ _ c.frame_at-frame.ensures _ _ c.get64-k.ensures c.lower_entries.ensures in
+    (search rules, turns_more c.loop-f.invariant.1 _ (omega arith) turn)
 
-same_length : tie.Need-same-length invariant-loop decreases-loop
-same_length c = c.before.loop.invariant.1.same
+shape_of-out : tie.Need-shape_of-out invariant-loop-f decreases-loop-f
+shape_of-out c = c.loop-f.invariant.1.same
 
-returns : tie.Need-returns invariant-loop decreases-loop
-returns c = turns-end c.before.loop.invariant.1 (omega arith)
+returns : tie.Need-returns invariant-loop-f decreases-loop-f
+returns c = turns-end c.loop-f.invariant.1 (omega arith)
 
-pub lower-all-spec : {M : Type 1} → statement M
-lower-all-spec =
+pub lower_all_spec : {M : Type 1} → statement M
+lower_all_spec =
     tie.close
     (tie.spec
-    invariant-loop
-    decreases-loop
-    loop-holds
-    frame-at-requires
-    get64-requires
-    lower-entries-requires
-    add-f
-    loop-less
-    loop-again
-    same_length
+    invariant-loop-f
+    decreases-loop-f
+    loop-f-init
+    frame_at-frame-requires
+    get64-k-requires
+    lower_entries-requires
+    overflow_add-f
+    loop-f-smaller
+    loop-f-preserved
+    shape_of-out
     returns)

@@ -11,104 +11,99 @@ use Rattle.pciv_bundle_nearest.proofs.LoweredLaws.{lowered-entry, lowered-entrie
 use Rattle.pciv_bundle_nearest.proofs.entries.lower_entries.Statement.{statement}
 use Rattle.pciv_bundle_nearest.proofs.entries.lower_entries.Tie as tie
 
-abbrev invariant-loop : tie.invariant-loop
-invariant-loop file n k out₀ j₀ out j =
+abbrev invariant-loop-j : tie.invariant-loop-j
+invariant-loop-j file n k out₀ j₀ out j =
     (j ≤ k) × Changed (lowered_to (file_parts file n k)) (lowest_slot (file_parts file n k) j) out₀ out
 
-abbrev decreases-loop : tie.decreases-loop
-decreases-loop file n k out₀ j₀ out j = k - j
+abbrev decreases-loop-j : tie.decreases-loop-j
+decreases-loop-j file n k out₀ j₀ out j = k - j
 
-loop-holds : tie.Need-loop-init invariant-loop decreases-loop
-loop-holds c = (search rules, changed-start _ _)
+loop-j-init : tie.Need-loop-j-init invariant-loop-j decreases-loop-j
+loop-j-init c = (search rules, changed-start _ _)
 
-entry-slot-requires : tie.Need-entry-slot-requires invariant-loop decreases-loop
-entry-slot-requires c κs =
-    let s = c.before.before.before.before in
-    entry-inside s.args.file.now s.args.n s.args.k s.requires.0 c.before.loop.j (omega arith)
+entry_slot-slot-requires : tie.Need-entry_slot-slot-requires invariant-loop-j decreases-loop-j
+entry_slot-slot-requires c κs =
+    entry-inside c.args.file.now c.args.n c.args.k c.requires.0 c.loop-j.j (omega arith)
 
 -- the function's entry, the parts of the file, and that the file is bytes
-abbrev entry : tie.At-loop invariant-loop decreases-loop → tie.Start invariant-loop decreases-loop
+abbrev entry : tie.At-loop-j invariant-loop-j decreases-loop-j → tie.Start invariant-loop-j decreases-loop-j
 entry l = l.before.before.before
 
-abbrev parts : tie.At-loop invariant-loop decreases-loop → Parts
+abbrev parts : tie.At-loop-j invariant-loop-j decreases-loop-j → Parts
 parts l = file_parts (entry l).args.file.now (entry l).args.n (entry l).args.k
 
-bytes : (l : tie.At-loop invariant-loop decreases-loop) (i : ℕ) → (parts l).byte i < 256
-bytes l i = (l.before.before.shared-slice-known.given (40 + i)).fits
+bytes : (l : tie.At-loop-j invariant-loop-j decreases-loop-j) (i : ℕ) → (parts l).byte i < 256
+bytes l i = (l.shared_slice_known-1.given (40 + i)).fits
 
 -- the slot of entry j
-slot-inside : (c : tie.After-entry-slot invariant-loop decreases-loop) → c.entry-slot.result < length c.before.before.loop.out
+slot-inside : (c : tie.After-entry_slot-slot invariant-loop-j decreases-loop-j) → c.entry_slot-slot.result < length c.loop-j.out
 slot-inside c =
-    let l = c.before.before in
-    let s = entry l in
+    let s = entry c.before.before in
     omega (
       arith,
-      c.entry-slot.ensures,
-      (entry-good (parts l) s.pre.0.parts l.loop.j (omega arith)).inside,
-      s.pre.1,
-      l.loop.invariant.1.same,
+      c.entry_slot-slot.ensures,
+      (entry-good (parts c.before.before) s.requires.0.parts c.loop-j.j (omega arith)).inside,
+      s.requires.1,
+      c.loop-j.invariant.1.same,
     )
 
-mul-smaller-distance : tie.Need-overflow-mul-smaller-distance invariant-loop decreases-loop
-mul-smaller-distance c = omega (arith, slot-inside c)
+offset_bounds-out-slot : tie.Need-offset_bounds-out-slot invariant-loop-j decreases-loop-j
+offset_bounds-out-slot c = omega (arith, slot-inside c)
 
-slice-read-smaller-distance : tie.Need-slice-read-smaller-distance invariant-loop decreases-loop
-slice-read-smaller-distance c = slot-inside c.before
+bounds-out-slot : tie.Need-bounds-out-slot invariant-loop-j decreases-loop-j
+bounds-out-slot c = slot-inside c.before
 
-entry-distance-requires : tie.Need-entry-distance-requires invariant-loop decreases-loop
-entry-distance-requires c κs = entry-slot-requires c.before.before κs
+entry_distance-requires : tie.Need-entry_distance-requires invariant-loop-j decreases-loop-j
+entry_distance-requires c κs = entry_slot-slot-requires c.before.before κs
 
-smaller-distance-requires : tie.Need-smaller-distance-requires invariant-loop decreases-loop
-smaller-distance-requires c κs = search rules
+smaller_distance-requires : tie.Need-smaller_distance-requires invariant-loop-j decreases-loop-j
+smaller_distance-requires c κs = search rules
 
-mul-out : tie.Need-overflow-mul-out invariant-loop decreases-loop
-mul-out c = mul-smaller-distance c.before.before.before
+offset_bounds-out-slot-in-loop-j : tie.Need-offset_bounds-out-slot-in-loop-j invariant-loop-j decreases-loop-j
+offset_bounds-out-slot-in-loop-j c = offset_bounds-out-slot c.before.before.before
 
-slice-write-out : tie.Need-slice-write-out invariant-loop decreases-loop
-slice-write-out c = slot-inside c.before.before.before
+bounds-out-slot-in-loop-j : tie.Need-bounds-out-slot-in-loop-j invariant-loop-j decreases-loop-j
+bounds-out-slot-in-loop-j c = slot-inside c.before.before.before
 
-add-j : tie.Need-overflow-add-j invariant-loop decreases-loop
-add-j c = search rules
+overflow_add-j : tie.Need-overflow_add-j invariant-loop-j decreases-loop-j
+overflow_add-j c = search rules
 
-loop-less : tie.Need-loop-smaller invariant-loop decreases-loop
-loop-less c = search rules
+loop-j-smaller : tie.Need-loop-j-smaller invariant-loop-j decreases-loop-j
+loop-j-smaller c = search rules
 
-loop-again : tie.Need-loop-preserved invariant-loop decreases-loop
-loop-again c =
-    let e = c.before.before.before in
-    let l = e.before.before in
-    let s = entry l in (
+loop-j-preserved : tie.Need-loop-j-preserved invariant-loop-j decreases-loop-j
+loop-j-preserved c =
+    let s = entry c.before.before.before.before.before in (
       search rules,
-      rw e.entry-slot.ensures
-          (lowered-entry (parts l) s.pre.0.parts (bytes l) l.loop.j _ l.loop.invariant.1 (omega arith)
-          s.pre.1
-          (rw (e.entry-slot.ensures, c.before.entry-distance.ensures) at c.smaller-distance.ensures)),
+      rw c.entry_slot-slot.ensures
+          (lowered-entry (parts c.before.before.before.before.before) s.requires.0.parts (bytes c.before.before.before.before.before) c.loop-j.j _ c.loop-j.invariant.1 (omega arith)
+          s.requires.1
+          (rw (c.entry_slot-slot.ensures, c.entry_distance.ensures) at c.smaller_distance.ensures)),
     )
 
-same_length : tie.Need-same-length invariant-loop decreases-loop
-same_length c = c.before.loop.invariant.1.same
+shape_of-out : tie.Need-shape_of-out invariant-loop-j decreases-loop-j
+shape_of-out c = c.loop-j.invariant.1.same
 
-returns : tie.Need-returns invariant-loop decreases-loop
+returns : tie.Need-returns invariant-loop-j decreases-loop-j
 returns c =
-    let l = c.before in
-    lowered-entries (parts l) (entry l).requires.0.parts (bytes l) l.loop.j l.loop.invariant.1 (omega arith)
+    lowered-entries (parts c.before) (entry c.before).requires.0.parts (bytes c.before) c.loop-j.j c.loop-j.invariant.1 (omega arith)
 
-pub lower-entries-spec : {M : Type 1} → statement M
-lower-entries-spec =
+pub lower_entries_spec : {M : Type 1} → statement M
+lower_entries_spec =
     tie.close
     (tie.spec
-    invariant-loop
-    decreases-loop
-    loop-holds
-    entry-slot-requires
-    mul-smaller-distance
-    slice-read-smaller-distance
-    entry-distance-requires
-    smaller-distance-requires
-    mul-out
-    slice-write-out
-    add-j
-    loop-less
-    loop-again
-    same_length
+    invariant-loop-j
+    decreases-loop-j
+    loop-j-init
+    entry_slot-slot-requires
+    offset_bounds-out-slot
+    bounds-out-slot
+    entry_distance-requires
+    smaller_distance-requires
+    offset_bounds-out-slot-in-loop-j
+    bounds-out-slot-in-loop-j
+    overflow_add-j
+    loop-j-smaller
+    loop-j-preserved
+    shape_of-out
     returns)

@@ -10,51 +10,51 @@ use Rattle.pciv_bytes.proofs.WriteLaws.{sets-same-more, sets-same-end}
 use Rattle.pciv_bytes.proofs.copies.fill_zero.Statement.{statement}
 use Rattle.pciv_bytes.proofs.copies.fill_zero.Tie as tie
 
-abbrev invariant-loop : tie.invariant-loop
-invariant-loop out₀ from to i₀ out i =
+abbrev invariant-loop-i : tie.invariant-loop-i
+invariant-loop-i out₀ from to i₀ out i =
     (i ≤ to) × (length out ≡ length out₀)
     × (sets out₀ from (replicate (to - from) 0) ≡ sets out i (replicate (to - i) 0))
 
-abbrev decreases-loop : tie.decreases-loop
-decreases-loop out₀ from to i₀ out i = to - i
+abbrev decreases-loop-i : tie.decreases-loop-i
+decreases-loop-i out₀ from to i₀ out i = to - i
 
-loop-holds : tie.Need-loop-init invariant-loop decreases-loop
-loop-holds c = (search rules, refl, refl)
+loop-i-init : tie.Need-loop-i-init invariant-loop-i decreases-loop-i
+loop-i-init c = (search rules, refl, refl)
 
-slice-write-out : tie.Need-slice-write-out invariant-loop decreases-loop
-slice-write-out c = search rules
+bounds-out-i : tie.Need-bounds-out-i invariant-loop-i decreases-loop-i
+bounds-out-i c = search rules
 
-add-i : tie.Need-overflow-add-i invariant-loop decreases-loop
-add-i c = search rules
+overflow_add-i : tie.Need-overflow_add-i invariant-loop-i decreases-loop-i
+overflow_add-i c = search rules
 
-loop-less : tie.Need-loop-smaller invariant-loop decreases-loop
-loop-less c = search rules
+loop-i-smaller : tie.Need-loop-i-smaller invariant-loop-i decreases-loop-i
+loop-i-smaller c = search rules
 
-loop-again : tie.Need-loop-preserved invariant-loop decreases-loop
-loop-again c =
-    let l = c.before.loop in
+loop-i-preserved : tie.Need-loop-i-preserved invariant-loop-i decreases-loop-i
+loop-i-preserved c =
+    let l = c.before.loop-i in
     let a = c.before.before.args in
     (search rules, simp length-set l.invariant.1, l.invariant.2 ∙ sets-same-more 0 a.to l.i l.out (omega arith))
 
-same_length : tie.Need-same-length invariant-loop decreases-loop
-same_length c = search rules
+shape_of-out : tie.Need-shape_of-out invariant-loop-i decreases-loop-i
+shape_of-out c = search rules
 
-returns : tie.Need-returns invariant-loop decreases-loop
+returns : tie.Need-returns invariant-loop-i decreases-loop-i
 returns c =
-    let l = c.before.loop in
+    let l = c.before.loop-i in
     let a = c.before.before.args in
     sym (l.invariant.2 ∙ sets-same-end 0 a.to l.i l.out (omega arith))
 
-pub fill-zero-spec : {M : Type 1} → statement M
-fill-zero-spec =
+pub fill_zero_spec : {M : Type 1} → statement M
+fill_zero_spec =
     tie.close
     (tie.spec
-    invariant-loop
-    decreases-loop
-    loop-holds
-    slice-write-out
-    add-i
-    loop-less
-    loop-again
-    same_length
+    invariant-loop-i
+    decreases-loop-i
+    loop-i-init
+    bounds-out-i
+    overflow_add-i
+    loop-i-smaller
+    loop-i-preserved
+    shape_of-out
     returns)

@@ -10,46 +10,46 @@ use Rattle.pciv_bytes.proofs.WriteLaws.{sets-copy-more, sets-copy-end}
 use Rattle.pciv_bytes.proofs.copies.widen.Statement.{statement}
 use Rattle.pciv_bytes.proofs.copies.widen.Tie as tie
 
-abbrev invariant-loop : tie.invariant-loop
-invariant-loop a out₀ i₀ out i = (i ≤ length a) × (length out ≡ length out₀) × (sets out₀ 0 a ≡ sets out i (drop i a))
+abbrev invariant-loop-i : tie.invariant-loop-i
+invariant-loop-i a out₀ i₀ out i = (i ≤ length a) × (length out ≡ length out₀) × (sets out₀ 0 a ≡ sets out i (drop i a))
 
-abbrev decreases-loop : tie.decreases-loop
-decreases-loop a out₀ i₀ out i = length a - i
+abbrev decreases-loop-i : tie.decreases-loop-i
+decreases-loop-i a out₀ i₀ out i = length a - i
 
-loop-holds : tie.Need-loop-init invariant-loop decreases-loop
-loop-holds c = (search rules, refl, refl)
+loop-i-init : tie.Need-loop-i-init invariant-loop-i decreases-loop-i
+loop-i-init c = (search rules, refl, refl)
 
-shared-slice-read-out : tie.Need-shared-slice-read-out invariant-loop decreases-loop
-shared-slice-read-out c = search rules
+bounds-a-i : tie.Need-bounds-a-i invariant-loop-i decreases-loop-i
+bounds-a-i c = search rules
 
-cast-out : tie.Need-overflow-cast-out invariant-loop decreases-loop
-cast-out c = omega (arith, c.shared-slice-known.given c.before.before.loop.i)
+overflow_cast-out : tie.Need-overflow_cast-out invariant-loop-i decreases-loop-i
+overflow_cast-out c = omega (arith, c.shared_slice_known-1.given c.before.before.loop-i.i)
 
-mul-out : tie.Need-overflow-mul-out invariant-loop decreases-loop
-mul-out c = search rules
+offset_bounds-out-i : tie.Need-offset_bounds-out-i invariant-loop-i decreases-loop-i
+offset_bounds-out-i c = search rules
 
-slice-write-out : tie.Need-slice-write-out invariant-loop decreases-loop
-slice-write-out c = search rules
+bounds-out-i : tie.Need-bounds-out-i invariant-loop-i decreases-loop-i
+bounds-out-i c = search rules
 
-add-i : tie.Need-overflow-add-i invariant-loop decreases-loop
-add-i c = search rules
+overflow_add-i : tie.Need-overflow_add-i invariant-loop-i decreases-loop-i
+overflow_add-i c = search rules
 
-loop-less : tie.Need-loop-smaller invariant-loop decreases-loop
-loop-less c = search rules
+loop-i-smaller : tie.Need-loop-i-smaller invariant-loop-i decreases-loop-i
+loop-i-smaller c = search rules
 
-loop-again : tie.Need-loop-preserved invariant-loop decreases-loop
-loop-again c =
-    let l = c.before.before.loop in
+loop-i-preserved : tie.Need-loop-i-preserved invariant-loop-i decreases-loop-i
+loop-i-preserved c =
+    let l = c.before.before.loop-i in
     let a = c.before.before.before.args in
     let more = sets-copy-more a.a.now l.out 0 l.i l.i (l.i + 1) (omega arith) refl in
     (search rules, simp length-set l.invariant.1, l.invariant.2 ∙ more)
 
-same_length : tie.Need-same-length invariant-loop decreases-loop
-same_length c = search rules
+shape_of-out : tie.Need-shape_of-out invariant-loop-i decreases-loop-i
+shape_of-out c = search rules
 
-returns : tie.Need-returns invariant-loop decreases-loop
+returns : tie.Need-returns invariant-loop-i decreases-loop-i
 returns c =
-    let l = c.before.loop in
+    let l = c.before.loop-i in
     let a = c.before.before.args in
     sym (l.invariant.2 ∙ sets-copy-end a.a.now l.out l.i l.i (omega arith))
 
@@ -57,15 +57,15 @@ pub widen_spec : {M : Type 1} → statement M
 widen_spec =
     tie.close
     (tie.spec
-    invariant-loop
-    decreases-loop
-    loop-holds
-    shared-slice-read-out
-    cast-out
-    mul-out
-    slice-write-out
-    add-i
-    loop-less
-    loop-again
-    same_length
+    invariant-loop-i
+    decreases-loop-i
+    loop-i-init
+    bounds-a-i
+    overflow_cast-out
+    offset_bounds-out-i
+    bounds-out-i
+    overflow_add-i
+    loop-i-smaller
+    loop-i-preserved
+    shape_of-out
     returns)

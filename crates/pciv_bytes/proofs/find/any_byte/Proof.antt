@@ -16,46 +16,46 @@ use Rattle.pciv_bytes.proofs.find.any_byte.Tie as tie
 abbrev is : List ℕ → ℕ → ℕ → Bool
 is a x i = eqb (get_or a i 0) x
 
-abbrev invariant-loop : tie.invariant-loop
-invariant-loop a from to x found₀ i₀ found i =
+abbrev invariant-loop-i : tie.invariant-loop-i
+invariant-loop-i a from to x found₀ i₀ found i =
     (i ≤ to) × (found || any_from (is a x) i (to - i) ≡ any_from (is a x) from (to - from))
 
-abbrev decreases-loop : tie.decreases-loop
-decreases-loop a from to x found₀ i₀ found i = to - i
+abbrev decreases-loop-i : tie.decreases-loop-i
+decreases-loop-i a from to x found₀ i₀ found i = to - i
 
-loop-holds : tie.Need-loop-init invariant-loop decreases-loop
-loop-holds c = (c.requires.0, refl)
+loop-i-init : tie.Need-loop-i-init invariant-loop-i decreases-loop-i
+loop-i-init c = (c.requires.0, refl)
 
-shared-slice-read-found : tie.Need-shared-slice-read-found invariant-loop decreases-loop
-shared-slice-read-found c = search rules
+bounds-a-i : tie.Need-bounds-a-i invariant-loop-i decreases-loop-i
+bounds-a-i c = search rules
 
-add-i : tie.Need-overflow-add-i invariant-loop decreases-loop
-add-i c = search rules
+overflow_add-i : tie.Need-overflow_add-i invariant-loop-i decreases-loop-i
+overflow_add-i c = search rules
 
-loop-less : tie.Need-loop-smaller invariant-loop decreases-loop
-loop-less c = search rules
+loop-i-smaller : tie.Need-loop-i-smaller invariant-loop-i decreases-loop-i
+loop-i-smaller c = search rules
 
-loop-again : tie.Need-loop-preserved invariant-loop decreases-loop
-loop-again c =
-    let l = c.before.before.loop in
+loop-i-preserved : tie.Need-loop-i-preserved invariant-loop-i decreases-loop-i
+loop-i-preserved c =
+    let l = c.before.before.loop-i in
     let a = c.before.before.before.args in
     (omega arith, sym (any_from-more (is a.a.now a.x) l.found l.i a.to (omega arith)) ∙ l.invariant.1)
 
-returns : tie.Need-returns invariant-loop decreases-loop
+returns : tie.Need-returns invariant-loop-i decreases-loop-i
 returns c =
-    let l = c.before.loop in
+    let l = c.before.loop-i in
     let a = c.before.before.args in
     sym (any_from-end (is a.a.now a.x) l.found l.i a.to (omega arith)) ∙ l.invariant.1
 
-pub any-byte-spec : {M : Type 1} → statement M
-any-byte-spec =
+pub any_byte_spec : {M : Type 1} → statement M
+any_byte_spec =
     tie.close
     (tie.spec
-    invariant-loop
-    decreases-loop
-    loop-holds
-    shared-slice-read-found
-    add-i
-    loop-less
-    loop-again
+    invariant-loop-i
+    decreases-loop-i
+    loop-i-init
+    bounds-a-i
+    overflow_add-i
+    loop-i-smaller
+    loop-i-preserved
     returns)

@@ -16,62 +16,62 @@ use Rattle.pciv_bytes.proofs.find.find_byte.Tie as tie
 abbrev is : List ℕ → ℕ → ℕ → Bool
 is a x i = eqb (get_or a i 0) x
 
-abbrev invariant-loop : tie.invariant-loop
-invariant-loop a from to x i₀ i = (from ≤ i) × (i ≤ to) × ((t : ℕ) → from ≤ t → t < i → is a x t ≡ false)
+abbrev invariant-loop-i : tie.invariant-loop-i
+invariant-loop-i a from to x i₀ i = (from ≤ i) × (i ≤ to) × ((t : ℕ) → from ≤ t → t < i → is a x t ≡ false)
 
-abbrev decreases-loop : tie.decreases-loop
-decreases-loop a from to x i₀ i = to - i
+abbrev decreases-loop-i : tie.decreases-loop-i
+decreases-loop-i a from to x i₀ i = to - i
 
-loop-holds : tie.Need-loop-init invariant-loop decreases-loop
-loop-holds c = (omega arith, c.requires.0, λ t h₁ h₂. absurd (omega arith))
+loop-i-init : tie.Need-loop-i-init invariant-loop-i decreases-loop-i
+loop-i-init c = (omega arith, c.requires.0, λ t h₁ h₂. absurd (omega arith))
 
-shared-slice-read-if1 : tie.Need-shared-slice-read-if1 invariant-loop decreases-loop
-shared-slice-read-if1 c = search rules
+bounds-a-i : tie.Need-bounds-a-i invariant-loop-i decreases-loop-i
+bounds-a-i c = search rules
 
-returns : tie.Need-returns invariant-loop decreases-loop
-returns c =
+returns-then-a-i : tie.Need-returns-then-a-i invariant-loop-i decreases-loop-i
+returns-then-a-i c =
     let l = c.before.before.before in
     let a = l.before.args in
     sym
-    (first_from-at (is a.a.now a.x) (a.to - a.from) a.from l.loop.i l.loop.invariant.0 (omega arith)
-    l.loop.invariant.2 (eq-eqb _ _ c.if1.true))
+    (first_from-at (is a.a.now a.x) (a.to - a.from) a.from l.loop-i.i l.loop-i.invariant.0 (omega arith)
+    l.loop-i.invariant.2 (eq-eqb _ _ c.if-a-i.true))
 
-add-i : tie.Need-overflow-add-i invariant-loop decreases-loop
-add-i c = search rules
+overflow_add-i : tie.Need-overflow_add-i invariant-loop-i decreases-loop-i
+overflow_add-i c = search rules
 
-loop-less : tie.Need-loop-smaller invariant-loop decreases-loop
-loop-less c = search rules
+loop-i-smaller : tie.Need-loop-i-smaller invariant-loop-i decreases-loop-i
+loop-i-smaller c = search rules
 
-loop-again : tie.Need-loop-preserved invariant-loop decreases-loop
-loop-again c =
-    let l = c.before.before.before.loop in (
+loop-i-preserved : tie.Need-loop-i-preserved invariant-loop-i decreases-loop-i
+loop-i-preserved c =
+    let l = c.before.before.before.loop-i in (
       omega arith,
       omega arith,
       λ t h₁ h₂.
           elim (dec_le l.i t) [
-            | yes d ↦ (let q : t ≡ l.i = omega arith in rw q (ne_eqb _ _ c.if1.false))
+            | yes d ↦ (let q : t ≡ l.i = omega arith in rw q (ne_eqb _ _ c.if-a-i.false))
             | no d ↦ l.invariant.2 t h₁ (omega arith)
           ],
     )
 
-returns-2 : tie.Need-returns-2 invariant-loop decreases-loop
-returns-2 c =
+returns : tie.Need-returns invariant-loop-i decreases-loop-i
+returns c =
     let l = c.before in
     let a = l.before.args in
     sym
-    (first_from-none (is a.a.now a.x) (a.to - a.from) a.from (λ t h₁ h₂. l.loop.invariant.2 t h₁ (omega arith))
+    (first_from-none (is a.a.now a.x) (a.to - a.from) a.from (λ t h₁ h₂. l.loop-i.invariant.2 t h₁ (omega arith))
     ∙ omega arith)
 
-pub find-byte-spec : {M : Type 1} → statement M
-find-byte-spec =
+pub find_byte_spec : {M : Type 1} → statement M
+find_byte_spec =
     tie.close
     (tie.spec
-    invariant-loop
-    decreases-loop
-    loop-holds
-    shared-slice-read-if1
-    returns
-    add-i
-    loop-less
-    loop-again
-    returns-2)
+    invariant-loop-i
+    decreases-loop-i
+    loop-i-init
+    bounds-a-i
+    returns-then-a-i
+    overflow_add-i
+    loop-i-smaller
+    loop-i-preserved
+    returns)

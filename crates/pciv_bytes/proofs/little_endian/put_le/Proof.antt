@@ -11,59 +11,59 @@ use Rattle.pciv_bytes.proofs.WriteLaws.{sets-le-start, sets-le-more, sets-le-end
 use Rattle.pciv_bytes.proofs.little_endian.put_le.Statement.{statement}
 use Rattle.pciv_bytes.proofs.little_endian.put_le.Tie as tie
 
-abbrev invariant-loop : tie.invariant-loop
-invariant-loop out₀ at w x y₀ i₀ out y i =
+abbrev invariant-loop-i : tie.invariant-loop-i
+invariant-loop-i out₀ at w x y₀ i₀ out y i =
     (i ≤ w) × (length out ≡ length out₀) × (sets out₀ at (le w x) ≡ sets out (at + i) (le (w - i) y))
 
-abbrev decreases-loop : tie.decreases-loop
-decreases-loop out₀ at w x y₀ i₀ out y i = w - i
+abbrev decreases-loop-i : tie.decreases-loop-i
+decreases-loop-i out₀ at w x y₀ i₀ out y i = w - i
 
-loop-holds : tie.Need-loop-init invariant-loop decreases-loop
-loop-holds c = (search rules, refl, sets-le-start _ _ _ _)
+loop-i-init : tie.Need-loop-i-init invariant-loop-i decreases-loop-i
+loop-i-init c = (search rules, refl, sets-le-start _ _ _ _)
 
-cast-out : tie.Need-overflow-cast-out invariant-loop decreases-loop
-cast-out c = search rules
+overflow_cast-out : tie.Need-overflow_cast-out invariant-loop-i decreases-loop-i
+overflow_cast-out c = search rules
 
-add-out : tie.Need-overflow-add-out invariant-loop decreases-loop
-add-out c = search rules
+overflow_add-out : tie.Need-overflow_add-out invariant-loop-i decreases-loop-i
+overflow_add-out c = search rules
 
-slice-write-out : tie.Need-slice-write-out invariant-loop decreases-loop
-slice-write-out c = search rules
+bounds-out-at : tie.Need-bounds-out-at invariant-loop-i decreases-loop-i
+bounds-out-at c = search rules
 
-add-i : tie.Need-overflow-add-i invariant-loop decreases-loop
-add-i c = search rules
+overflow_add-i : tie.Need-overflow_add-i invariant-loop-i decreases-loop-i
+overflow_add-i c = search rules
 
-loop-less : tie.Need-loop-smaller invariant-loop decreases-loop
-loop-less c = search rules
+loop-i-smaller : tie.Need-loop-i-smaller invariant-loop-i decreases-loop-i
+loop-i-smaller c = search rules
 
-loop-again : tie.Need-loop-preserved invariant-loop decreases-loop
-loop-again c =
-    let l = c.before.loop in
+loop-i-preserved : tie.Need-loop-i-preserved invariant-loop-i decreases-loop-i
+loop-i-preserved c =
+    let l = c.before.loop-i in
     let a = c.before.before.args in
     let more = sets-le-more l.out a.at a.w l.y l.i (omega arith) in
     (search rules, simp length-set l.invariant.1, l.invariant.2 ∙ more)
 
-same_length : tie.Need-same-length invariant-loop decreases-loop
-same_length c = search rules
+shape_of-out : tie.Need-shape_of-out invariant-loop-i decreases-loop-i
+shape_of-out c = search rules
 
-returns : tie.Need-returns invariant-loop decreases-loop
+returns : tie.Need-returns invariant-loop-i decreases-loop-i
 returns c =
-    let l = c.before.loop in
+    let l = c.before.loop-i in
     let a = c.before.before.args in
     sym (l.invariant.2 ∙ sets-le-end l.out a.at a.w l.y l.i (omega arith))
 
-pub put-le-spec : {M : Type 1} → statement M
-put-le-spec =
+pub put_le_spec : {M : Type 1} → statement M
+put_le_spec =
     tie.close
     (tie.spec
-    invariant-loop
-    decreases-loop
-    loop-holds
-    cast-out
-    add-out
-    slice-write-out
-    add-i
-    loop-less
-    loop-again
-    same_length
+    invariant-loop-i
+    decreases-loop-i
+    loop-i-init
+    overflow_cast-out
+    overflow_add-out
+    bounds-out-at
+    overflow_add-i
+    loop-i-smaller
+    loop-i-preserved
+    shape_of-out
     returns)

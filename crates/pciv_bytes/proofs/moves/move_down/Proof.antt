@@ -7,51 +7,51 @@ use borrow.Author.Rules.{rules}
 use Rattle.pciv_bytes.proofs.moves.move_down.Statement.{statement}
 use Rattle.pciv_bytes.proofs.moves.move_down.Tie as tie
 
-abbrev invariant-loop : tie.invariant-loop
-invariant-loop out₀ from to i₀ out i = MovesDown from to out₀ i out
+abbrev invariant-loop-i : tie.invariant-loop-i
+invariant-loop-i out₀ from to i₀ out i = MovesDown from to out₀ i out
 
-abbrev decreases-loop : tie.decreases-loop
-decreases-loop out₀ from to i₀ out i = to - i
+abbrev decreases-loop-i : tie.decreases-loop-i
+decreases-loop-i out₀ from to i₀ out i = to - i
 
-loop-holds : tie.Need-loop-init invariant-loop decreases-loop
-loop-holds c = down-start _ _ _ (omega arith)
+loop-i-init : tie.Need-loop-i-init invariant-loop-i decreases-loop-i
+loop-i-init c = down-start _ _ _ (omega arith)
 
-add-out : tie.Need-overflow-add-out invariant-loop decreases-loop
-add-out c = search rules
+overflow_add-out : tie.Need-overflow_add-out invariant-loop-i decreases-loop-i
+overflow_add-out c = search rules
 
-slice-read-out : tie.Need-slice-read-out invariant-loop decreases-loop
-slice-read-out c = search rules
+bounds-out-i : tie.Need-bounds-out-i invariant-loop-i decreases-loop-i
+bounds-out-i c = search rules
 
-slice-write-out : tie.Need-slice-write-out invariant-loop decreases-loop
-slice-write-out c = search rules
+bounds-out-i-in-loop-i : tie.Need-bounds-out-i-in-loop-i invariant-loop-i decreases-loop-i
+bounds-out-i-in-loop-i c = search rules
 
-add-i : tie.Need-overflow-add-i invariant-loop decreases-loop
-add-i c = search rules
+overflow_add-i : tie.Need-overflow_add-i invariant-loop-i decreases-loop-i
+overflow_add-i c = search rules
 
-loop-less : tie.Need-loop-smaller invariant-loop decreases-loop
-loop-less c = search rules
+loop-i-smaller : tie.Need-loop-i-smaller invariant-loop-i decreases-loop-i
+loop-i-smaller c = search rules
 
-loop-again : tie.Need-loop-preserved invariant-loop decreases-loop
-loop-again c = down-more c.before.before.loop.invariant (omega arith) (omega arith)
+loop-i-preserved : tie.Need-loop-i-preserved invariant-loop-i decreases-loop-i
+loop-i-preserved c = down-more c.before.before.loop-i.invariant (omega arith) (omega arith)
 
-same_length : tie.Need-same-length invariant-loop decreases-loop
-same_length c = search rules
+shape_of-out : tie.Need-shape_of-out invariant-loop-i decreases-loop-i
+shape_of-out c = search rules
 
-returns : tie.Need-returns invariant-loop decreases-loop
-returns c = down-end c.before.loop.invariant (omega arith)
+returns : tie.Need-returns invariant-loop-i decreases-loop-i
+returns c = down-end c.before.loop-i.invariant (omega arith)
 
 pub move_down_spec : {M : Type 1} → statement M
 move_down_spec =
     tie.close
     (tie.spec
-    invariant-loop
-    decreases-loop
-    loop-holds
-    add-out
-    slice-read-out
-    slice-write-out
-    add-i
-    loop-less
-    loop-again
-    same_length
+    invariant-loop-i
+    decreases-loop-i
+    loop-i-init
+    overflow_add-out
+    bounds-out-i
+    bounds-out-i-in-loop-i
+    overflow_add-i
+    loop-i-smaller
+    loop-i-preserved
+    shape_of-out
     returns)

@@ -5,51 +5,51 @@ use borrow.Author.Rules.{rules}
 use Rattle.pciv_bytes.proofs.moves.move_up.Statement.{statement}
 use Rattle.pciv_bytes.proofs.moves.move_up.Tie as tie
 
-abbrev invariant-loop : tie.invariant-loop
-invariant-loop out₀ from to i₀ out i = MovedUp from to out₀ i out
+abbrev invariant-loop-i : tie.invariant-loop-i
+invariant-loop-i out₀ from to i₀ out i = MovedUp from to out₀ i out
 
-abbrev decreases-loop : tie.decreases-loop
-decreases-loop out₀ from to i₀ out i = i
+abbrev decreases-loop-i : tie.decreases-loop-i
+decreases-loop-i out₀ from to i₀ out i = i
 
-loop-holds : tie.Need-loop-init invariant-loop decreases-loop
-loop-holds c = up_start _ _ _ (omega arith)
+loop-i-init : tie.Need-loop-i-init invariant-loop-i decreases-loop-i
+loop-i-init c = up_start _ _ _ (omega arith)
 
-sub-i : tie.Need-overflow-sub-i invariant-loop decreases-loop
-sub-i c = search rules
+overflow_sub-i : tie.Need-overflow_sub-i invariant-loop-i decreases-loop-i
+overflow_sub-i c = search rules
 
-slice-read-out : tie.Need-slice-read-out invariant-loop decreases-loop
-slice-read-out c = search rules
+bounds-out-i : tie.Need-bounds-out-i invariant-loop-i decreases-loop-i
+bounds-out-i c = search rules
 
-add-out : tie.Need-overflow-add-out invariant-loop decreases-loop
-add-out c = search rules
+overflow_add-out : tie.Need-overflow_add-out invariant-loop-i decreases-loop-i
+overflow_add-out c = search rules
 
-slice-write-out : tie.Need-slice-write-out invariant-loop decreases-loop
-slice-write-out c = search rules
+bounds-out-i-in-loop-i : tie.Need-bounds-out-i-in-loop-i invariant-loop-i decreases-loop-i
+bounds-out-i-in-loop-i c = search rules
 
-loop-less : tie.Need-loop-smaller invariant-loop decreases-loop
-loop-less c = search rules
+loop-i-smaller : tie.Need-loop-i-smaller invariant-loop-i decreases-loop-i
+loop-i-smaller c = search rules
 
-loop-again : tie.Need-loop-preserved invariant-loop decreases-loop
-loop-again c = up_more c.before.before.loop.invariant (omega arith) (omega arith)
+loop-i-preserved : tie.Need-loop-i-preserved invariant-loop-i decreases-loop-i
+loop-i-preserved c = up_more c.before.before.loop-i.invariant (omega arith) (omega arith)
 
-same_length : tie.Need-same-length invariant-loop decreases-loop
-same_length c = search rules
+shape_of-out : tie.Need-shape_of-out invariant-loop-i decreases-loop-i
+shape_of-out c = search rules
 
-returns : tie.Need-returns invariant-loop decreases-loop
-returns c = up-end c.before.loop.invariant (omega arith)
+returns : tie.Need-returns invariant-loop-i decreases-loop-i
+returns c = up-end c.before.loop-i.invariant (omega arith)
 
 pub move_up_spec : {M : Type 1} → statement M
 move_up_spec =
     tie.close
     (tie.spec
-    invariant-loop
-    decreases-loop
-    loop-holds
-    sub-i
-    slice-read-out
-    add-out
-    slice-write-out
-    loop-less
-    loop-again
-    same_length
+    invariant-loop-i
+    decreases-loop-i
+    loop-i-init
+    overflow_sub-i
+    bounds-out-i
+    overflow_add-out
+    bounds-out-i-in-loop-i
+    loop-i-smaller
+    loop-i-preserved
+    shape_of-out
     returns)

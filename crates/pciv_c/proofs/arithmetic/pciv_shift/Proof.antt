@@ -9,18 +9,16 @@ use Rattle.pciv_c.proofs.arithmetic.pciv_shift.Tie as tie
 shift-requires : tie.Need-shift-requires
 shift-requires c κs = search rules
 
-tell-file-requires : tie.Need-tell-file-requires
-tell-file-requires c κs = search rules
+tell_file-requires : tie.Need-tell_file-requires
+tell_file-requires c κs = search rules
 
-same_length : tie.Need-same-length
-same_length c = search rules
+shape_of-out : tie.Need-shape_of-out
+shape_of-out c = search rules
 
 returns : tie.Need-returns
 returns c =
-    let d = c.before.before.before.before.before in
-    let s = d.before.before.before.before in
-    let e = rw (to_z-of_z {w = w32} {z = s.args.by} s.ranges.by) at d.shift.ensures in
-    (told-file e.0 c.tell-file.ensures, e.1)
+    let e = rw (to_z-of_z {w = w32} {z = c.args.by} c.ranges.by) at c.shift.ensures in
+    (told-file e.0 c.tell_file.ensures, e.1)
 
-pub pciv-shift-spec : {M : Type 1} → statement M
-pciv-shift-spec = tie.close (tie.spec shift-requires tell-file-requires same_length returns)
+pub pciv_shift_spec : {M : Type 1} → statement M
+pciv_shift_spec = tie.close (tie.spec shift-requires tell_file-requires shape_of-out returns)

@@ -4,20 +4,19 @@ use borrow.Author.Rules.{rules}
 use Rattle.pciv_c.proofs.arithmetic.pciv_signed_difference.Statement.{statement}
 use Rattle.pciv_c.proofs.arithmetic.pciv_signed_difference.Tie as tie
 
-signed-difference-requires : tie.Need-signed-difference-requires
-signed-difference-requires c κs = search rules
+signed_difference-requires : tie.Need-signed_difference-requires
+signed_difference-requires c κs = search rules
 
-tell-number-requires : tie.Need-tell-number-requires
-tell-number-requires c κs = search rules
+tell_number-requires : tie.Need-tell_number-requires
+tell_number-requires c κs = search rules
 
-same_length : tie.Need-same-length
-same_length c = search rules
+shape_of-out : tie.Need-shape_of-out
+shape_of-out c = search rules
 
 returns : tie.Need-returns
 returns c =
-    let e = c.before.before.before.before.signed-difference.ensures in
-    (told-number e.0 c.tell-number.ensures, e.1)
+    let e = c.signed_difference.ensures in
+    (told-number e.0 c.tell_number.ensures, e.1)
 
-pub pciv-signed-difference-spec : {M : Type 1} → statement M
-pciv-signed-difference-spec =
-    tie.close (tie.spec signed-difference-requires tell-number-requires same_length returns)
+pub pciv_signed_difference_spec : {M : Type 1} → statement M
+pciv_signed_difference_spec = tie.close (tie.spec signed_difference-requires tell_number-requires shape_of-out returns)

@@ -4,19 +4,19 @@ use borrow.Author.Rules.{rules}
 use Rattle.pciv_c.proofs.arithmetic.pciv_sum_maps.Statement.{statement}
 use Rattle.pciv_c.proofs.arithmetic.pciv_sum_maps.Tie as tie
 
-sum-maps-requires : tie.Need-sum-maps-requires
-sum-maps-requires c κs = search rules
+sum_maps-requires : tie.Need-sum_maps-requires
+sum_maps-requires c κs = search rules
 
-tell-file-requires : tie.Need-tell-file-requires
-tell-file-requires c κs = search rules
+tell_file-requires : tie.Need-tell_file-requires
+tell_file-requires c κs = search rules
 
-same_length : tie.Need-same-length
-same_length c = search rules
+shape_of-out : tie.Need-shape_of-out
+shape_of-out c = search rules
 
 returns : tie.Need-returns
 returns c =
-    let e = c.before.before.before.before.before.sum-maps.ensures in
-    (told-file e.0 c.tell-file.ensures, e.1)
+    let e = c.sum_maps.ensures in
+    (told-file e.0 c.tell_file.ensures, e.1)
 
-pub pciv-sum-maps-spec : {M : Type 1} → statement M
-pciv-sum-maps-spec = tie.close (tie.spec sum-maps-requires tell-file-requires same_length returns)
+pub pciv_sum_maps_spec : {M : Type 1} → statement M
+pciv_sum_maps_spec = tie.close (tie.spec sum_maps-requires tell_file-requires shape_of-out returns)

@@ -7,16 +7,16 @@ use Rattle.pciv_c.proofs.bundles.pciv_bundle_nearest.Tie as tie
 nearest-requires : tie.Need-nearest-requires
 nearest-requires c κs = search rules
 
-tell-number-requires : tie.Need-tell-number-requires
-tell-number-requires c κs = search rules
+tell_number-requires : tie.Need-tell_number-requires
+tell_number-requires c κs = search rules
 
-same_length : tie.Need-same-length
-same_length c = search rules
+shape_of-distances : tie.Need-shape_of-distances
+shape_of-distances c = search rules
 
 returns : tie.Need-returns
 returns c =
-    let e = c.before.before.before.before.before.nearest.ensures in
-    (told-number e.0 c.tell-number.ensures, e.1)
+    let e = c.nearest.ensures in
+    (told-number e.0 c.tell_number.ensures, e.1)
 
-pub pciv-bundle-nearest-spec : {M : Type 1} → statement M
-pciv-bundle-nearest-spec = tie.close (tie.spec nearest-requires tell-number-requires same_length returns)
+pub pciv_bundle_nearest_spec : {M : Type 1} → statement M
+pciv_bundle_nearest_spec = tie.close (tie.spec nearest-requires tell_number-requires shape_of-distances returns)

@@ -7,11 +7,11 @@ use Rattle.pciv_c.proofs.bundles.pciv_bundle_read.Tie as tie
 read-requires : tie.Need-read-requires
 read-requires c κs = search rules
 
-tell-counts-requires : tie.Need-tell-counts-requires
-tell-counts-requires c κs = search rules
+tell_counts-requires : tie.Need-tell_counts-requires
+tell_counts-requires c κs = search rules
 
 returns : tie.Need-returns
-returns c = told-counts c.before.before.before.before.read.ensures c.tell-counts.ensures
+returns c = told-counts c.read.ensures c.tell_counts.ensures
 
-pub pciv-bundle-read-spec : {M : Type 1} → statement M
-pciv-bundle-read-spec = tie.close (tie.spec read-requires tell-counts-requires returns)
+pub pciv_bundle_read_spec : {M : Type 1} → statement M
+pciv_bundle_read_spec = tie.close (tie.spec read-requires tell_counts-requires returns)

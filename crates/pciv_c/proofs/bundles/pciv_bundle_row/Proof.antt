@@ -7,11 +7,11 @@ use Rattle.pciv_c.proofs.bundles.pciv_bundle_row.Tie as tie
 row-requires : tie.Need-row-requires
 row-requires c κs = search rules
 
-tell-row-requires : tie.Need-tell-row-requires
-tell-row-requires c κs = search rules
+tell_row-requires : tie.Need-tell_row-requires
+tell_row-requires c κs = search rules
 
 returns : tie.Need-returns
-returns c = told-row c.before.before.before.row.ensures c.tell-row.ensures
+returns c = told-row c.row.ensures c.tell_row.ensures
 
-pub pciv-bundle-row-spec : {M : Type 1} → statement M
-pciv-bundle-row-spec = tie.close (tie.spec row-requires tell-row-requires returns)
+pub pciv_bundle_row_spec : {M : Type 1} → statement M
+pciv_bundle_row_spec = tie.close (tie.spec row-requires tell_row-requires returns)

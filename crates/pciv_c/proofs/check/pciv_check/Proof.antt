@@ -7,11 +7,11 @@ use Rattle.pciv_c.proofs.check.pciv_check.Tie as tie
 check-requires : tie.Need-check-requires
 check-requires c κs = search rules
 
-tell-file-requires : tie.Need-tell-file-requires
-tell-file-requires c κs = search rules
+tell_file-requires : tie.Need-tell_file-requires
+tell_file-requires c κs = search rules
 
 returns : tie.Need-returns
-returns c = told-file c.before.before.before.check.ensures c.tell-file.ensures
+returns c = told-file c.check.ensures c.tell_file.ensures
 
-pub pciv-check-spec : {M : Type 1} → statement M
-pciv-check-spec = tie.close (tie.spec check-requires tell-file-requires returns)
+pub pciv_check_spec : {M : Type 1} → statement M
+pciv_check_spec = tie.close (tie.spec check-requires tell_file-requires returns)

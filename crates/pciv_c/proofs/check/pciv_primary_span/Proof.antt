@@ -6,31 +6,33 @@ use borrow.Author.Rules.{rules}
 use Rattle.pciv_c.proofs.check.pciv_primary_span.Statement.{statement}
 use Rattle.pciv_c.proofs.check.pciv_primary_span.Tie as tie
 
-check-counts-requires : tie.Need-check-counts-requires
-check-counts-requires c κs = search rules
+check_counts-checked-requires : tie.Need-check_counts-checked-requires
+check_counts-checked-requires c κs = search rules
 
-enum-known-checked : tie.Need-enum-known-checked
-enum-known-checked c = search rules
+enum_known-checked : tie.Need-enum_known-checked
+enum_known-checked c = search rules
 
-enum_told : tie.Need-enum-told
-enum_told c = search rules
+enum_told-1 : tie.Need-enum_told-1
+enum_told-1 c = search rules
 
-returns : tie.Need-returns
-returns c =
-    let k = c.before.before in
-    let h = k.before.before in
-    let o = counts_file 1 h.before.before.args.file.now in
-    let e = counts_answer-counted o _ (sym k.checked.given.1 ∙ h.check-counts.ensures) in
+returns-in-Counted : tie.Need-returns-in-Counted
+returns-in-Counted c =
+    let o = counts_file 1 c.args.file.now in
+    let e = counts_answer-counted o _ (sym c.in-Counted.is ∙ c.check_counts-checked.ensures) in
     (rw e, rw e)
 
-returns-2 : tie.Need-returns-2
-returns-2 c =
-    let k = c.before in
-    let h = k.before.before in
-    let o = counts_file 1 h.before.before.args.file.now in
-    let e = counts_answer-refused o _ (sym k.enum_told.given.1 ∙ h.check-counts.ensures) in
+returns-in-Refused : tie.Need-returns-in-Refused
+returns-in-Refused c =
+    let o = counts_file 1 c.args.file.now in
+    let e = counts_answer-refused o _ (sym c.in-Refused.is ∙ c.check_counts-checked.ensures) in
     (rw e, rw e)
 
-pub pciv-primary-span-spec : {M : Type 1} → statement M
-pciv-primary-span-spec =
-    tie.close (tie.spec check-counts-requires enum-known-checked enum_told returns returns-2)
+pub pciv_primary_span_spec : {M : Type 1} → statement M
+pciv_primary_span_spec =
+    tie.close
+    (tie.spec
+    check_counts-checked-requires
+    enum_known-checked
+    enum_told-1
+    returns-in-Counted
+    returns-in-Refused)

@@ -8,18 +8,16 @@ use Rattle.pciv_c.proofs.distances.pciv_lookup.Tie as tie
 lookup-requires : tie.Need-lookup-requires
 lookup-requires c κs = search rules
 
-header-k-requires : tie.Need-header-k-requires
-header-k-requires c κs = search rules
+header_k-requires : tie.Need-header_k-requires
+header_k-requires c κs = search rules
 
-tell-located-requires : tie.Need-tell-located-requires
-tell-located-requires c κs = search rules
+tell_located-requires : tie.Need-tell_located-requires
+tell_located-requires c κs = search rules
 
 returns : tie.Need-returns
 returns c =
-    let counted = c.before.before.before.before in
-    told-located counted.before.lookup.ensures
-    (λ x e. counted.header-k.ensures (lookup-found _ _ x e).long) c.tell-located.ensures
+    told-located c.lookup.ensures
+    (λ x e. c.header_k.ensures (lookup-found _ _ x e).long) c.tell_located.ensures
 
-pub pciv-lookup-spec : {M : Type 1} → statement M
-pciv-lookup-spec =
-    tie.close (tie.spec lookup-requires header-k-requires tell-located-requires returns)
+pub pciv_lookup_spec : {M : Type 1} → statement M
+pciv_lookup_spec = tie.close (tie.spec lookup-requires header_k-requires tell_located-requires returns)

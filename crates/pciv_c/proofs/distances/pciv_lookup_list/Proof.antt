@@ -4,23 +4,29 @@ use borrow.Author.Rules.{rules}
 use Rattle.pciv_c.proofs.distances.pciv_lookup_list.Statement.{statement}
 use Rattle.pciv_c.proofs.distances.pciv_lookup_list.Tie as tie
 
-lookup-list-requires : tie.Need-lookup-list-requires
-lookup-list-requires c κs = search rules
+lookup_list-requires : tie.Need-lookup_list-requires
+lookup_list-requires c κs = search rules
 
-tell-number-requires : tie.Need-tell-number-requires
-tell-number-requires c κs = search rules
+tell_number-requires : tie.Need-tell_number-requires
+tell_number-requires c κs = search rules
 
-same_length : tie.Need-same-length
-same_length c = search rules
+shape_of-distances : tie.Need-shape_of-distances
+shape_of-distances c = search rules
 
-same-length-2 : tie.Need-same-length-2
-same-length-2 c = search rules
+shape_of-entries : tie.Need-shape_of-entries
+shape_of-entries c = search rules
 
 returns : tie.Need-returns
 returns c =
-    let e = c.before.before.before.before.before.before.before.lookup-list.ensures in
-    (told-number e.0 c.tell-number.ensures, e.1)
+    let e = c.lookup_list.ensures in
+    (told-number e.0 c.tell_number.ensures, e.1)
 
-pub pciv-lookup-list-spec : {M : Type 1} → statement M
-pciv-lookup-list-spec =
-    tie.close (tie.spec lookup-list-requires tell-number-requires same_length same-length-2 returns)
+pub pciv_lookup_list_spec : {M : Type 1} → statement M
+pciv_lookup_list_spec =
+    tie.close
+    (tie.spec
+    lookup_list-requires
+    tell_number-requires
+    shape_of-distances
+    shape_of-entries
+    returns)

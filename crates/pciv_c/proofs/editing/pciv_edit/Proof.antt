@@ -6,20 +6,20 @@ use borrow.Author.Rules.{rules}
 use Rattle.pciv_c.proofs.editing.pciv_edit.Statement.{statement}
 use Rattle.pciv_c.proofs.editing.pciv_edit.Tie as tie
 
-edit-requires : tie.Need-edit-requires
-edit-requires c κs = search rules
+edit-edited-requires : tie.Need-edit-edited-requires
+edit-edited-requires c κs = search rules
 
-tell-file-requires : tie.Need-tell-file-requires
-tell-file-requires c κs = search rules
+tell_file-requires : tie.Need-tell_file-requires
+tell_file-requires c κs = search rules
 
-same_length : tie.Need-same-length
-same_length c = search rules
+shape_of-buffer : tie.Need-shape_of-buffer
+shape_of-buffer c = search rules
 
 returns : tie.Need-returns
 returns c =
-    let e = c.before.before.before.before.before.edit.ensures in
+    let e = c.edit-edited.ensures in
     let moved = ap (λ (a : EditAnswer). a.moved) e.0 in
-    (told-file (ap (λ (a : EditAnswer). a.outcome) e.0) c.tell-file.ensures, (moved, e.1))
+    (told-file (ap (λ (a : EditAnswer). a.outcome) e.0) c.tell_file.ensures, (moved, e.1))
 
-pub pciv-edit-spec : {M : Type 1} → statement M
-pciv-edit-spec = tie.close (tie.spec edit-requires tell-file-requires same_length returns)
+pub pciv_edit_spec : {M : Type 1} → statement M
+pciv_edit_spec = tie.close (tie.spec edit-edited-requires tell_file-requires shape_of-buffer returns)

@@ -4,23 +4,29 @@ use borrow.Author.Rules.{rules}
 use Rattle.pciv_c.proofs.editing.pciv_edit_list.Statement.{statement}
 use Rattle.pciv_c.proofs.editing.pciv_edit_list.Tie as tie
 
-edit-list-requires : tie.Need-edit-list-requires
-edit-list-requires c κs = search rules
+edit_list-requires : tie.Need-edit_list-requires
+edit_list-requires c κs = search rules
 
-tell-number-requires : tie.Need-tell-number-requires
-tell-number-requires c κs = search rules
+tell_number-requires : tie.Need-tell_number-requires
+tell_number-requires c κs = search rules
 
-same_length : tie.Need-same-length
-same_length c = search rules
+shape_of-buffer : tie.Need-shape_of-buffer
+shape_of-buffer c = search rules
 
-same-length-2 : tie.Need-same-length-2
-same-length-2 c = search rules
+shape_of-answers : tie.Need-shape_of-answers
+shape_of-answers c = search rules
 
 returns : tie.Need-returns
 returns c =
-    let e = c.before.before.before.before.before.before.before.edit-list.ensures in
-    (told-number e.0 c.tell-number.ensures, e.1)
+    let e = c.edit_list.ensures in
+    (told-number e.0 c.tell_number.ensures, e.1)
 
-pub pciv-edit-list-spec : {M : Type 1} → statement M
-pciv-edit-list-spec =
-    tie.close (tie.spec edit-list-requires tell-number-requires same_length same-length-2 returns)
+pub pciv_edit_list_spec : {M : Type 1} → statement M
+pciv_edit_list_spec =
+    tie.close
+    (tie.spec
+    edit_list-requires
+    tell_number-requires
+    shape_of-buffer
+    shape_of-answers
+    returns)

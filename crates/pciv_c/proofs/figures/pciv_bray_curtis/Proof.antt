@@ -4,14 +4,14 @@ use borrow.Author.Rules.{rules}
 use Rattle.pciv_c.proofs.figures.pciv_bray_curtis.Statement.{statement}
 use Rattle.pciv_c.proofs.figures.pciv_bray_curtis.Tie as tie
 
-bray-curtis-requires : tie.Need-bray-curtis-requires
-bray-curtis-requires c κs = search rules
+bray_curtis-requires : tie.Need-bray_curtis-requires
+bray_curtis-requires c κs = search rules
 
-tell-figure-requires : tie.Need-tell-figure-requires
-tell-figure-requires c κs = search rules
+tell_figure-requires : tie.Need-tell_figure-requires
+tell_figure-requires c κs = search rules
 
 returns : tie.Need-returns
-returns c = told-figure c.before.before.before.bray-curtis.ensures c.tell-figure.ensures
+returns c = told-figure c.bray_curtis.ensures c.tell_figure.ensures
 
-pub pciv-bray-curtis-spec : {M : Type 1} → statement M
-pciv-bray-curtis-spec = tie.close (tie.spec bray-curtis-requires tell-figure-requires returns)
+pub pciv_bray_curtis_spec : {M : Type 1} → statement M
+pciv_bray_curtis_spec = tie.close (tie.spec bray_curtis-requires tell_figure-requires returns)

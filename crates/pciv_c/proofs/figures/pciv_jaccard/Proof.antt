@@ -7,11 +7,11 @@ use Rattle.pciv_c.proofs.figures.pciv_jaccard.Tie as tie
 jaccard-requires : tie.Need-jaccard-requires
 jaccard-requires c κs = search rules
 
-tell-figure-requires : tie.Need-tell-figure-requires
-tell-figure-requires c κs = search rules
+tell_figure-requires : tie.Need-tell_figure-requires
+tell_figure-requires c κs = search rules
 
 returns : tie.Need-returns
-returns c = told-figure c.before.before.before.jaccard.ensures c.tell-figure.ensures
+returns c = told-figure c.jaccard.ensures c.tell_figure.ensures
 
-pub pciv-jaccard-spec : {M : Type 1} → statement M
-pciv-jaccard-spec = tie.close (tie.spec jaccard-requires tell-figure-requires returns)
+pub pciv_jaccard_spec : {M : Type 1} → statement M
+pciv_jaccard_spec = tie.close (tie.spec jaccard-requires tell_figure-requires returns)

@@ -4,19 +4,19 @@ use borrow.Author.Rules.{rules}
 use Rattle.pciv_c.proofs.masks.pciv_keep_masked.Statement.{statement}
 use Rattle.pciv_c.proofs.masks.pciv_keep_masked.Tie as tie
 
-keep-masked-requires : tie.Need-keep-masked-requires
-keep-masked-requires c κs = search rules
+keep_masked-requires : tie.Need-keep_masked-requires
+keep_masked-requires c κs = search rules
 
-tell-file-requires : tie.Need-tell-file-requires
-tell-file-requires c κs = search rules
+tell_file-requires : tie.Need-tell_file-requires
+tell_file-requires c κs = search rules
 
-same_length : tie.Need-same-length
-same_length c = search rules
+shape_of-out : tie.Need-shape_of-out
+shape_of-out c = search rules
 
 returns : tie.Need-returns
 returns c =
-    let e = c.before.before.before.before.before.keep-masked.ensures in
-    (told-file e.0 c.tell-file.ensures, e.1)
+    let e = c.keep_masked.ensures in
+    (told-file e.0 c.tell_file.ensures, e.1)
 
-pub pciv-keep-masked-spec : {M : Type 1} → statement M
-pciv-keep-masked-spec = tie.close (tie.spec keep-masked-requires tell-file-requires same_length returns)
+pub pciv_keep_masked_spec : {M : Type 1} → statement M
+pciv_keep_masked_spec = tie.close (tie.spec keep_masked-requires tell_file-requires shape_of-out returns)

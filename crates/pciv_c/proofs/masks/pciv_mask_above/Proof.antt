@@ -7,16 +7,16 @@ use Rattle.pciv_c.proofs.masks.pciv_mask_above.Tie as tie
 threshold-requires : tie.Need-threshold-requires
 threshold-requires c κs = search rules
 
-tell-number-requires : tie.Need-tell-number-requires
-tell-number-requires c κs = search rules
+tell_number-requires : tie.Need-tell_number-requires
+tell_number-requires c κs = search rules
 
-same_length : tie.Need-same-length
-same_length c = search rules
+shape_of-out : tie.Need-shape_of-out
+shape_of-out c = search rules
 
 returns : tie.Need-returns
 returns c =
-    let e = c.before.before.before.before.before.threshold.ensures in
-    (told-number e.0 c.tell-number.ensures, e.1)
+    let e = c.threshold.ensures in
+    (told-number e.0 c.tell_number.ensures, e.1)
 
-pub pciv-mask-above-spec : {M : Type 1} → statement M
-pciv-mask-above-spec = tie.close (tie.spec threshold-requires tell-number-requires same_length returns)
+pub pciv_mask_above_spec : {M : Type 1} → statement M
+pciv_mask_above_spec = tie.close (tie.spec threshold-requires tell_number-requires shape_of-out returns)

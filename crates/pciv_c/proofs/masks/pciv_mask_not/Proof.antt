@@ -7,16 +7,16 @@ use Rattle.pciv_c.proofs.masks.pciv_mask_not.Tie as tie
 complement-requires : tie.Need-complement-requires
 complement-requires c κs = search rules
 
-tell-number-requires : tie.Need-tell-number-requires
-tell-number-requires c κs = search rules
+tell_number-requires : tie.Need-tell_number-requires
+tell_number-requires c κs = search rules
 
-same_length : tie.Need-same-length
-same_length c = search rules
+shape_of-out : tie.Need-shape_of-out
+shape_of-out c = search rules
 
 returns : tie.Need-returns
 returns c =
-    let e = c.before.before.before.before.before.complement.ensures in
-    (told-number e.0 c.tell-number.ensures, e.1)
+    let e = c.complement.ensures in
+    (told-number e.0 c.tell_number.ensures, e.1)
 
-pub pciv-mask-not-spec : {M : Type 1} → statement M
-pciv-mask-not-spec = tie.close (tie.spec complement-requires tell-number-requires same_length returns)
+pub pciv_mask_not_spec : {M : Type 1} → statement M
+pciv_mask_not_spec = tie.close (tie.spec complement-requires tell_number-requires shape_of-out returns)

@@ -7,20 +7,19 @@ use Rattle.pciv_c.proofs.repair.pciv_repair.Tie as tie
 repair-requires : tie.Need-repair-requires
 repair-requires c κs = search rules
 
-tell-repaired-requires : tie.Need-tell-repaired-requires
-tell-repaired-requires c κs = search rules
+tell_repaired-requires : tie.Need-tell_repaired-requires
+tell_repaired-requires c κs = search rules
 
-same_length : tie.Need-same-length
-same_length c = search rules
+shape_of-out : tie.Need-shape_of-out
+shape_of-out c = search rules
 
-same-length-2 : tie.Need-same-length-2
-same-length-2 c = search rules
+shape_of-corrections : tie.Need-shape_of-corrections
+shape_of-corrections c = search rules
 
 returns : tie.Need-returns
 returns c =
-    let e = c.before.before.before.before.before.before.before.before.repair.ensures in
-    (told-repaired e.0 c.tell-repaired.ensures, e.1)
+    let e = c.repair.ensures in
+    (told-repaired e.0 c.tell_repaired.ensures, e.1)
 
-pub pciv-repair-spec : {M : Type 1} → statement M
-pciv-repair-spec =
-    tie.close (tie.spec repair-requires tell-repaired-requires same_length same-length-2 returns)
+pub pciv_repair_spec : {M : Type 1} → statement M
+pciv_repair_spec = tie.close (tie.spec repair-requires tell_repaired-requires shape_of-out shape_of-corrections returns)

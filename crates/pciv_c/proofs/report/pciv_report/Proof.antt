@@ -7,16 +7,16 @@ use Rattle.pciv_c.proofs.report.pciv_report.Tie as tie
 report-requires : tie.Need-report-requires
 report-requires c κs = search rules
 
-tell-number-requires : tie.Need-tell-number-requires
-tell-number-requires c κs = search rules
+tell_number-requires : tie.Need-tell_number-requires
+tell_number-requires c κs = search rules
 
-same_length : tie.Need-same-length
-same_length c = search rules
+shape_of-text : tie.Need-shape_of-text
+shape_of-text c = search rules
 
 returns : tie.Need-returns
 returns c =
-    let e = c.before.before.before.before.before.report.ensures in
-    (told-number e.0 c.tell-number.ensures, e.1)
+    let e = c.report.ensures in
+    (told-number e.0 c.tell_number.ensures, e.1)
 
-pub pciv-report-spec : {M : Type 1} → statement M
-pciv-report-spec = tie.close (tie.spec report-requires tell-number-requires same_length returns)
+pub pciv_report_spec : {M : Type 1} → statement M
+pciv_report_spec = tie.close (tie.spec report-requires tell_number-requires shape_of-text returns)

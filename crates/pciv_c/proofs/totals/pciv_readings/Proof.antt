@@ -7,11 +7,11 @@ use Rattle.pciv_c.proofs.totals.pciv_readings.Tie as tie
 readings-requires : tie.Need-readings-requires
 readings-requires c κs = search rules
 
-tell-number-requires : tie.Need-tell-number-requires
-tell-number-requires c κs = search rules
+tell_number-requires : tie.Need-tell_number-requires
+tell_number-requires c κs = search rules
 
 returns : tie.Need-returns
-returns c = told-number c.before.before.before.readings.ensures c.tell-number.ensures
+returns c = told-number c.readings.ensures c.tell_number.ensures
 
-pub pciv-readings-spec : {M : Type 1} → statement M
-pciv-readings-spec = tie.close (tie.spec readings-requires tell-number-requires returns)
+pub pciv_readings_spec : {M : Type 1} → statement M
+pciv_readings_spec = tie.close (tie.spec readings-requires tell_number-requires returns)

@@ -7,11 +7,11 @@ use Rattle.pciv_c.proofs.totals.pciv_sum.Tie as tie
 sum-requires : tie.Need-sum-requires
 sum-requires c κs = search rules
 
-tell-number-requires : tie.Need-tell-number-requires
-tell-number-requires c κs = search rules
+tell_number-requires : tie.Need-tell_number-requires
+tell_number-requires c κs = search rules
 
 returns : tie.Need-returns
-returns c = told-number c.before.before.before.sum.ensures c.tell-number.ensures
+returns c = told-number c.sum.ensures c.tell_number.ensures
 
-pub pciv-sum-spec : {M : Type 1} → statement M
-pciv-sum-spec = tie.close (tie.spec sum-requires tell-number-requires returns)
+pub pciv_sum_spec : {M : Type 1} → statement M
+pciv_sum_spec = tie.close (tie.spec sum-requires tell_number-requires returns)

@@ -7,16 +7,16 @@ use Rattle.pciv_c.proofs.writing.pciv_write.Tie as tie
 write-requires : tie.Need-write-requires
 write-requires c κs = search rules
 
-tell-file-requires : tie.Need-tell-file-requires
-tell-file-requires c κs = search rules
+tell_file-requires : tie.Need-tell_file-requires
+tell_file-requires c κs = search rules
 
-same_length : tie.Need-same-length
-same_length c = search rules
+shape_of-out : tie.Need-shape_of-out
+shape_of-out c = search rules
 
 returns : tie.Need-returns
 returns c =
-    let e = c.before.before.before.before.before.write.ensures in
-    (told-file e.0 c.tell-file.ensures, e.1)
+    let e = c.write.ensures in
+    (told-file e.0 c.tell_file.ensures, e.1)
 
-pub pciv-write-spec : {M : Type 1} → statement M
-pciv-write-spec = tie.close (tie.spec write-requires tell-file-requires same_length returns)
+pub pciv_write_spec : {M : Type 1} → statement M
+pciv_write_spec = tie.close (tie.spec write-requires tell_file-requires shape_of-out returns)

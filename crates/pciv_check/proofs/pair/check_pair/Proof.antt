@@ -10,69 +10,61 @@ use Rattle.pciv_check.proofs.pair.check_pair.Statement.{statement}
 use Rattle.pciv_check.proofs.pair.check_pair.Tie as tie
 
 -- the counts of the first file, and of the second
-first_done : (c : tie.After-first2)
-    → counts_file 1 c.before.before.before.before.before.args.a.now ≡ done c.first2.given.0.0
-first_done c = counts_answer-counted _ _ (sym c.first2.given.1 ∙ c.before.before.check-counts.ensures)
+first_done : (c : tie.In-Counted)
+    → counts_file 1 c.args.a.now ≡ done c.in-Counted.s
+first_done c = counts_answer-counted _ _ (sym c.in-Counted.is ∙ c.check_counts-first.ensures)
 
-second-done : (c : tie.After-second2)
-    → (let f = c.before.before.before.before in
-    counts_file 2 f.before.before.before.before.before.args.b.now ≡ done c.second2.given.0.0)
-second-done c = counts_answer-counted _ _ (sym c.second2.given.1 ∙ c.before.before.check-counts2.ensures)
+second-done : (c : tie.In-Counted-second)
+    → (counts_file 2 c.args.b.now ≡ done c.in-Counted-second.t)
+second-done c = counts_answer-counted _ _ (sym c.in-Counted-second.is ∙ c.check_counts-second.ensures)
 
-check-counts-requires : tie.Need-check-counts-requires
-check-counts-requires c κs = search rules
+check_counts-first-requires : tie.Need-check_counts-first-requires
+check_counts-first-requires c κs = search rules
 
-enum-known-first : tie.Need-enum-known-first
-enum-known-first c = search rules
+enum_known-first : tie.Need-enum_known-first
+enum_known-first c = search rules
 
-enum-known-first-2 : tie.Need-enum-known-first-2
-enum-known-first-2 c = search rules
+enum_known-first-in-Counted-1 : tie.Need-enum_known-first-in-Counted-1
+enum_known-first-in-Counted-1 c = search rules
 
-check-counts-requires-2 : tie.Need-check-counts-requires-2
-check-counts-requires-2 c κs = search rules
+check_counts-second-requires : tie.Need-check_counts-second-requires
+check_counts-second-requires c κs = search rules
 
-enum-known-second : tie.Need-enum-known-second
-enum-known-second c = search rules
+enum_known-second : tie.Need-enum_known-second
+enum_known-second c = search rules
 
-enum-known-second-2 : tie.Need-enum-known-second-2
-enum-known-second-2 c = search rules
+enum_known-second-in-Counted-second : tie.Need-enum_known-second-in-Counted-second
+enum_known-second-in-Counted-second c = search rules
 
-returns : tie.Need-returns
-returns c =
-    let t = c.before.before.before.before in
-    let f = t.before.before.before.before in
-    ap pair_answer (sym (pair_counts-sizes _ _ _ (first_done f) _ (second-done t) c.if1.true))
+returns-then-s-t : tie.Need-returns-then-s-t
+returns-then-s-t c =
+    ap pair_answer (sym (pair_counts-sizes _ _ _ (first_done c.before.before.before.before.before) _ (second-done c.before.before.before) c.if-s-t.true))
 
-returns-2 : tie.Need-returns-2
-returns-2 c =
-    let f = c.before in
-    let no = counts_answer-refused _ _ (sym f.first.given.1 ∙ f.before.before.check-counts.ensures) in
+returns-in-Refused : tie.Need-returns-in-Refused
+returns-in-Refused c =
+    let no = counts_answer-refused _ _ (sym c.in-Refused.is ∙ c.check_counts-first.ensures) in
     ap pair_answer (sym (pair_counts-first _ _ _ no))
 
-returns-3 : tie.Need-returns-3
-returns-3 c =
-    let t = c.before in
-    let f = t.before.before.before.before in
-    let no = counts_answer-refused _ _ (sym t.second.given.1 ∙ t.before.before.check-counts2.ensures) in
-    ap pair_answer (sym (pair_counts-second _ _ _ (first_done f) _ no))
+returns-in-Refused-second : tie.Need-returns-in-Refused-second
+returns-in-Refused-second c =
+    let no = counts_answer-refused _ _ (sym c.in-Refused-second.is ∙ c.check_counts-second.ensures) in
+    ap pair_answer (sym (pair_counts-second _ _ _ (first_done c.before.before) _ no))
 
-returns-4 : tie.Need-returns-4
-returns-4 c =
-    let t = c.before.before.before.before in
-    let f = t.before.before.before.before in
-    ap pair_answer (sym (pair_counts-both _ _ _ (first_done f) _ (second-done t) c.if1.false))
+returns-else-s-t : tie.Need-returns-else-s-t
+returns-else-s-t c =
+    ap pair_answer (sym (pair_counts-both _ _ _ (first_done c.before.before.before.before.before) _ (second-done c.before.before.before) c.if-s-t.false))
 
-pub check-pair-spec : {M : Type 1} → statement M
-check-pair-spec =
+pub check_pair_spec : {M : Type 1} → statement M
+check_pair_spec =
     tie.close
     (tie.spec
-    check-counts-requires
-    enum-known-first
-    enum-known-first-2
-    check-counts-requires-2
-    enum-known-second
-    enum-known-second-2
-    returns
-    returns-2
-    returns-3
-    returns-4)
+    check_counts-first-requires
+    enum_known-first
+    enum_known-first-in-Counted-1
+    check_counts-second-requires
+    enum_known-second
+    enum_known-second-in-Counted-second
+    returns-then-s-t
+    returns-in-Refused
+    returns-in-Refused-second
+    returns-else-s-t)

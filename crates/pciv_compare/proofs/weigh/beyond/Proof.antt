@@ -14,41 +14,40 @@ use Rattle.pciv_compare.proofs.weigh.beyond.Tie as tie
 in-case : (r x : ℕ) {of case : Weight} → of ≡ case → r ≡ beyond_of case x → r ≡ beyond_of of x
 in-case r x e is = rw e is
 
-enum_told : tie.Need-enum-told
-enum_told c = search rules
+enum_told-1 : tie.Need-enum_told-1
+enum_told-1 c = search rules
 
-sub-result : tie.Need-overflow-sub-result
-sub-result c = search rules
+overflow_sub-result : tie.Need-overflow_sub-result
+overflow_sub-result c = search rules
 
-cast-result : tie.Need-overflow-cast-result
-cast-result c = search rules
+overflow_cast-result : tie.Need-overflow_cast-result
+overflow_cast-result c = search rules
 
-enum-known-of : tie.Need-enum-known-of
-enum-known-of c = search rules
+enum_known-of : tie.Need-enum_known-of
+enum_known-of c = search rules
 
-cast-result-2 : tie.Need-overflow-cast-result-2
-cast-result-2 c = search rules
+overflow_cast-result-in-From : tie.Need-overflow_cast-result-in-From
+overflow_cast-result-in-From c = search rules
 
-returns : tie.Need-returns
-returns c = in-case _ _ c.before.enum_told.given.1 (omega arith)
+returns-then-x-le255 : tie.Need-returns-then-x-le255
+returns-then-x-le255 c = in-case _ _ c.in-Distance.is (omega arith)
 
-returns-2 : tie.Need-returns-2
-returns-2 c = in-case _ _ c.before.enum_told.given.1 (omega arith)
+returns-else-x-le255 : tie.Need-returns-else-x-le255
+returns-else-x-le255 c = in-case _ _ c.in-Distance.is (omega arith)
 
-returns-3 : tie.Need-returns-3
-returns-3 c =
-    let d = c.before in
-    in-case _ _ d.of.given.1 (bool_byte-flag (leb d.of.given.0.0 d.before.before.args.x))
+returns-in-From : tie.Need-returns-in-From
+returns-in-From c =
+    in-case _ _ c.in-From.is (bool_byte-flag (leb c.in-From.t c.args.x))
 
-pub beyond-spec : {M : Type 1} → statement M
-beyond-spec =
+pub beyond_spec : {M : Type 1} → statement M
+beyond_spec =
     tie.close
     (tie.spec
-    enum_told
-    sub-result
-    cast-result
-    enum-known-of
-    cast-result-2
-    returns
-    returns-2
-    returns-3)
+    enum_told-1
+    overflow_sub-result
+    overflow_cast-result
+    enum_known-of
+    overflow_cast-result-in-From
+    returns-then-x-le255
+    returns-else-x-le255
+    returns-in-From)

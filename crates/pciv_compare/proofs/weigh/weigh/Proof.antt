@@ -15,11 +15,11 @@ use Rattle.pciv_compare.proofs.weigh.weigh.Statement.{statement}
 use Rattle.pciv_compare.proofs.weigh.weigh.Tie as tie
 
 -- the parts of the two files
-abbrev first : tie.After-shared-slice-known2 → Parts
-first c = let a = c.before.before.args in file_parts a.a.now a.n a.ka
+abbrev first : tie.After-shared_slice_known-2-1 → Parts
+first c = let a = c.args in file_parts a.a.now a.n a.ka
 
-abbrev second : tie.After-shared-slice-known2 → Parts
-second c = let a = c.before.before.args in file_parts a.b.now a.n a.kb
+abbrev second : tie.After-shared_slice_known-2-1 → Parts
+second c = let a = c.args in file_parts a.b.now a.n a.kb
 
 -- what the distances weigh in a case
 in-case : (u v : ℕ → ℕ) (n : ℕ) (r : Extremes) {of case : Weight} → of ≡ case → Weighed (weight_of case) u v n r
@@ -27,96 +27,87 @@ in-case : (u v : ℕ → ℕ) (n : ℕ) (r : Extremes) {of case : Weight} → of
 in-case u v n r e w = rw e w
 
 -- the distances themselves
-distance_is : (c : tie.After-weigh-overflow)
-    → (let k = c.before.before.before.before in
-    let r = c.before.weigh-bytes.result in
-    let s = c.weigh-overflow.result in
-    Weighed (weight_of Distance) (value_of (first k)) (value_of (second k)) k.before.before.args.n
+distance_is : (c : tie.After-weigh_overflow-overflow)
+    → (let r = c.weigh_bytes-bytes.result in
+    let s = c.weigh_overflow-overflow.result in
+    Weighed (weight_of Distance) (value_of (first c.before.before.before)) (value_of (second c.before.before.before)) c.args.n
     (record { least = r.least + s.least; most = r.most + s.most }))
 distance_is c =
-    let k = c.before.before.before.before in
-    let pre = k.before.before.requires in
-    weighed-distance (first k) (second k) refl pre.first.parts pre.second.parts
-    (λ i. (k.before.shared-slice-known.given (40 + i)).fits) (λ i. (k.shared-slice-known2.given (40 + i)).fits)
-    c.before.weigh-bytes.result c.weigh-overflow.result c.before.weigh-bytes.ensures
-    c.weigh-overflow.ensures
+    let pre = c.requires in
+    weighed-distance (first c.before.before.before) (second c.before.before.before) refl pre.first.parts pre.second.parts
+    (λ i. (c.shared_slice_known-1.given (40 + i)).fits) (λ i. (c.shared_slice_known-2-1.given (40 + i)).fits)
+    c.weigh_bytes-bytes.result c.weigh_overflow-overflow.result c.weigh_bytes-bytes.ensures
+    c.weigh_overflow-overflow.ensures
 
-distance-le : (c : tie.After-weigh-overflow)
-    → (let r = c.before.weigh-bytes.result in
-    let s = c.weigh-overflow.result in
+distance-le : (c : tie.After-weigh_overflow-overflow)
+    → (let r = c.weigh_bytes-bytes.result in
+    let s = c.weigh_overflow-overflow.result in
     (r.least + s.least) + (r.most + s.most) ≤ 2 ^ 53)
 distance-le c =
-    let k = c.before.before.before.before in
-    let s = k.before.before in
-    let a = s.args in
-    (parts-fit a.a.now a.b.now a.n a.ka a.kb s.requires _
-    (λ i. (k.before.shared-slice-known.given i).fits) (λ i. (k.shared-slice-known2.given i).fits) Distance
+    let a = c.args in
+    (parts-fit a.a.now a.b.now a.n a.ka a.kb c.requires _
+    (λ i. (c.shared_slice_known-1.given i).fits) (λ i. (c.shared_slice_known-2-1.given i).fits) Distance
     (distance_is c)).1
 
-enum_told : tie.Need-enum-told
-enum_told c = search rules
+enum_told-1 : tie.Need-enum_told-1
+enum_told-1 c = search rules
 
-weigh-bytes-requires : tie.Need-weigh-bytes-requires
-weigh-bytes-requires c κs = search rules
+weigh_bytes-bytes-requires : tie.Need-weigh_bytes-bytes-requires
+weigh_bytes-bytes-requires c κs = search rules
 
-weigh-overflow-requires : tie.Need-weigh-overflow-requires
-weigh-overflow-requires c κs = (c.before.before.before.before.before.requires, late-distance)
+weigh_overflow-overflow-requires : tie.Need-weigh_overflow-overflow-requires
+weigh_overflow-overflow-requires c κs = (c.requires, late-distance)
 
-add-t13 : tie.Need-overflow-add-t13
-add-t13 c = omega (arith, distance-le c.before.before)
+overflow_add-result : tie.Need-overflow_add-result
+overflow_add-result c = omega (arith, distance-le c.before.before)
 
-add-t14 : tie.Need-overflow-add-t14
-add-t14 c = omega (arith, distance-le c.before.before.before.before)
+overflow_add-result-in-Distance : tie.Need-overflow_add-result-in-Distance
+overflow_add-result-in-Distance c = omega (arith, distance-le c.before.before.before.before)
 
-enum-known-of : tie.Need-enum-known-of
-enum-known-of c = search rules
+enum_known-of : tie.Need-enum_known-of
+enum_known-of c = search rules
 
-cast-t16 : tie.Need-overflow-cast-t16
-cast-t16 c = search rules
+overflow_cast-t : tie.Need-overflow_cast-t
+overflow_cast-t c = search rules
 
-weigh-bytes-requires-2 : tie.Need-weigh-bytes-requires-2
-weigh-bytes-requires-2 c κs = search rules
+weigh_bytes-requires : tie.Need-weigh_bytes-requires
+weigh_bytes-requires c κs = search rules
 
 -- a threshold that bytes can meet
-returns : tie.Need-returns
-returns c =
-    let o = c.before.before.before in
-    let k = o.before.before in
-    let pre = k.before.before.requires in
-    in-case _ _ _ _ o.of.given.1
-    (weighed-from (first k) (second k) refl pre.first.parts pre.second.parts
-    (λ i. (k.before.shared-slice-known.given (40 + i)).fits) (λ i. (k.shared-slice-known2.given (40 + i)).fits)
-    o.of.given.0.0 c.before.if1.true c.weigh-bytes2.result c.weigh-bytes2.ensures)
+returns-then-t-le255 : tie.Need-returns-then-t-le255
+returns-then-t-le255 c =
+    let pre = c.requires in
+    in-case _ _ _ _ c.in-From.is
+    (weighed-from (first c.before.before.before) (second c.before.before.before) refl pre.first.parts pre.second.parts
+    (λ i. (c.shared_slice_known-1.given (40 + i)).fits) (λ i. (c.shared_slice_known-2-1.given (40 + i)).fits)
+    c.in-From.t c.if-t-le255.true c.weigh_bytes.result c.weigh_bytes.ensures)
 
-weigh-overflow-requires-2 : tie.Need-weigh-overflow-requires-2
-weigh-overflow-requires-2 c κs =
-    let o = c.before.before in
-    (o.before.before.before.before.requires, late-from o.of.given.0.0 c.if1.false)
+weigh_overflow-requires : tie.Need-weigh_overflow-requires
+weigh_overflow-requires c κs =
+    (c.requires, late-from c.in-From.t c.if-t-le255.false)
 
-returns-2 : tie.Need-returns-2
-returns-2 c =
-    let d = c.before.before.before.before in
-    in-case _ _ _ _ d.before.before.enum_told.given.1 (distance_is d)
+returns-in-Distance : tie.Need-returns-in-Distance
+returns-in-Distance c =
+    in-case _ _ _ _ c.in-Distance.is (distance_is c.before.before.before.before)
 
 -- a larger one
-returns-3 : tie.Need-returns-3
-returns-3 c =
-    let o = c.before.before.before in
-    in-case _ _ _ _ o.of.given.1 c.weigh-overflow2.ensures
+returns-else-t-le255 : tie.Need-returns-else-t-le255
+returns-else-t-le255 c =
+    in-case _ _ _ _ c.in-From.is c.weigh_overflow.ensures
 
-pub weigh-spec : {M : Type 1} → statement M
-weigh-spec =
+pub weigh_spec : {M : Type 1} → statement M
+weigh_spec =
     tie.close
     (tie.spec
-    enum_told
-    weigh-bytes-requires
-    weigh-overflow-requires
-    add-t13
-    add-t14
-    enum-known-of
-    cast-t16
-    weigh-bytes-requires-2
-    returns
-    weigh-overflow-requires-2
-    returns-2
-    returns-3)
+    enum_told-1
+    weigh_bytes-bytes-requires
+    weigh_overflow-overflow-requires
+    overflow_add-result
+    overflow_add-result-in-Distance
+    enum_known-of
+    overflow_cast-t
+    weigh_bytes-requires
+    returns-then-t-le255
+    weigh_overflow-requires
+    returns-in-Distance
+    returns-else-t-le255)

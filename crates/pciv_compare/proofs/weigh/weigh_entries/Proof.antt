@@ -19,65 +19,61 @@ use Rattle.pciv_compare.proofs.weigh.weigh_entries.Tie as tie
 abbrev term : Weight → List ℕ → ℕ → ℕ → ℕ → ℕ
 term of file n k j = beyond_of of ((file_parts file n k).distance j)
 
-abbrev invariant-loop : tie.invariant-loop
-invariant-loop of file n k sum₀ j₀ sum j = Added (term of file n k) k (sum_from (term of file n k) 0 k) j sum
+abbrev invariant-loop-j : tie.invariant-loop-j
+invariant-loop-j of file n k sum₀ j₀ sum j = Added (term of file n k) k (sum_from (term of file n k) 0 k) j sum
 
-abbrev decreases-loop : tie.decreases-loop
-decreases-loop of file n k sum₀ j₀ sum j = k - j
+abbrev decreases-loop-j : tie.decreases-loop-j
+decreases-loop-j of file n k sum₀ j₀ sum j = k - j
 
-loop-holds : tie.Need-loop-init invariant-loop decreases-loop
-loop-holds c =
-    let a = c.before.args in
+loop-j-init : tie.Need-loop-j-init invariant-loop-j decreases-loop-j
+loop-j-init c =
+    let a = c.args in
     rw sub-zero at (added_none (term a.of a.file.now a.n a.k) 0 a.k (omega arith))
 
-entry-distance-requires : tie.Need-entry-distance-requires invariant-loop decreases-loop
-entry-distance-requires c κs =
-    let s = c.before.before.before in
-    entry-inside s.args.file.now s.args.n s.args.k s.requires c.before.loop.j c.loop-test.true
+entry_distance-requires : tie.Need-entry_distance-requires invariant-loop-j decreases-loop-j
+entry_distance-requires c κs =
+    entry-inside c.args.file.now c.args.n c.args.k c.requires c.loop-j.j c.loop-j-test.true
 
-beyond-requires : tie.Need-beyond-requires invariant-loop decreases-loop
-beyond-requires c κs = search rules
+beyond-sum-requires : tie.Need-beyond-sum-requires invariant-loop-j decreases-loop-j
+beyond-sum-requires c κs = search rules
 
-loop-again : tie.Need-loop-preserved invariant-loop decreases-loop
-loop-again c =
-    let d = c.before.before in
-    let a = d.before.before.before.args in
-    rw (c.beyond.ensures ∙ ap (λ (x : ℕ). beyond_of a.of x) c.before.entry-distance.ensures)
-    (added-one d.before.loop.invariant d.loop-test.true)
+loop-j-preserved : tie.Need-loop-j-preserved invariant-loop-j decreases-loop-j
+loop-j-preserved c =
+    let a = c.args in
+    rw (c.beyond-sum.ensures ∙ ap (λ (x : ℕ). beyond_of a.of x) c.entry_distance.ensures)
+    (added-one c.loop-j.invariant c.loop-j-test.true)
 
-add-sum : tie.Need-overflow-add-sum invariant-loop decreases-loop
-add-sum c =
-    let known = c.before.before.before.before in
-    let s = known.before in
-    let a = s.args in
+overflow_add-sum : tie.Need-overflow_add-sum invariant-loop-j decreases-loop-j
+overflow_add-sum c =
+    let a = c.args in
     omega (
       arith,
-      (loop-again c).rest,
-      entries-le a.of a.file.now (λ i. (known.shared-slice-known.given i).fits) a.n a.k,
-      s.requires.header.few,
-      s.requires.header.small,
+      (loop-j-preserved c).rest,
+      entries-le a.of a.file.now (λ i. (c.shared_slice_known-1.given i).fits) a.n a.k,
+      c.requires.header.few,
+      c.requires.header.small,
     )
 
-add-j : tie.Need-overflow-add-j invariant-loop decreases-loop
-add-j c = search rules
+overflow_add-j : tie.Need-overflow_add-j invariant-loop-j decreases-loop-j
+overflow_add-j c = search rules
 
-loop-less : tie.Need-loop-smaller invariant-loop decreases-loop
-loop-less c = search rules
+loop-j-smaller : tie.Need-loop-j-smaller invariant-loop-j decreases-loop-j
+loop-j-smaller c = search rules
 
-returns : tie.Need-returns invariant-loop decreases-loop
-returns c = added-all c.before.loop.invariant c.loop-test.false
+returns : tie.Need-returns invariant-loop-j decreases-loop-j
+returns c = added-all c.loop-j.invariant c.loop-j-test.false
 
-pub weigh-entries-spec : {M : Type 1} → statement M
-weigh-entries-spec =
+pub weigh_entries_spec : {M : Type 1} → statement M
+weigh_entries_spec =
     tie.close
     (tie.spec
-    invariant-loop
-    decreases-loop
-    loop-holds
-    entry-distance-requires
-    beyond-requires
-    add-sum
-    add-j
-    loop-less
-    loop-again
+    invariant-loop-j
+    decreases-loop-j
+    loop-j-init
+    entry_distance-requires
+    beyond-sum-requires
+    overflow_add-sum
+    overflow_add-j
+    loop-j-smaller
+    loop-j-preserved
     returns)

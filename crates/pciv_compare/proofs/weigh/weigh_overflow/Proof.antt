@@ -10,60 +10,56 @@ use Rattle.pciv_compare.proofs.weigh.weigh_overflow.Statement.{statement}
 use Rattle.pciv_compare.proofs.weigh.weigh_overflow.Tie as tie
 
 -- what the three sums say
-told : (c : tie.After-weigh-entries2)
-    → (let a = c.before.before.before.before.before.args in
-    let shared = c.before.before.weigh-shared.result in
-    let all = c.before.weigh-entries.result + c.weigh-entries2.result in
+told : (c : tie.After-weigh_entries-second)
+    → (let a = c.args in
+    let shared = c.weigh_shared-shared.result in
+    let all = c.weigh_entries-first.result + c.weigh_entries-second.result in
     (shared ≤ all)
     × Weighed (beyond_of a.of) (value_of (file_parts a.a.now a.n a.ka))
     (value_of (file_parts a.b.now a.n a.kb)) a.n (record { least = shared; most = all - shared }))
 told c =
-    let known = c.before.before.before in
-    let s = known.before.before in
-    let a = s.args in
+    let a = c.args in
     weighed-overflow (file_parts a.a.now a.n a.ka) (file_parts a.b.now a.n a.kb) refl
-    s.requires.0.first.parts s.requires.0.second.parts (λ i. (known.before.shared-slice-known.given (40 + i)).fits)
-    (λ i. (known.shared-slice-known2.given (40 + i)).fits) a.of s.requires.1 _ _ _
-    c.before.before.weigh-shared.ensures c.before.weigh-entries.ensures c.weigh-entries2.ensures
+    c.requires.0.first.parts c.requires.0.second.parts (λ i. (c.shared_slice_known-1.given (40 + i)).fits)
+    (λ i. (c.shared_slice_known-2-1.given (40 + i)).fits) a.of c.requires.1 _ _ _
+    c.weigh_shared-shared.ensures c.weigh_entries-first.ensures c.weigh_entries-second.ensures
 
-weigh-shared-requires : tie.Need-weigh-shared-requires
-weigh-shared-requires c κs = c.before.before.requires.0
+weigh_shared-shared-requires : tie.Need-weigh_shared-shared-requires
+weigh_shared-shared-requires c κs = c.requires.0
 
-weigh-entries-requires : tie.Need-weigh-entries-requires
-weigh-entries-requires c κs = c.before.before.before.requires.0.first
+weigh_entries-first-requires : tie.Need-weigh_entries-first-requires
+weigh_entries-first-requires c κs = c.requires.0.first
 
-weigh-entries-requires-2 : tie.Need-weigh-entries-requires-2
-weigh-entries-requires-2 c κs = c.before.before.before.before.requires.0.second
+weigh_entries-second-requires : tie.Need-weigh_entries-second-requires
+weigh_entries-second-requires c κs = c.requires.0.second
 
-add-t10 : tie.Need-overflow-add-t10
-add-t10 c =
-    let known = c.before.before.before in
-    let s = known.before.before in
-    let a = s.args in
+overflow_add-result : tie.Need-overflow_add-result
+overflow_add-result c =
+    let a = c.args in
     omega (
       arith,
-      c.before.weigh-entries.ensures,
-      c.weigh-entries2.ensures,
-      entries-le a.of a.a.now (λ i. (known.before.shared-slice-known.given i).fits) a.n a.ka,
-      entries-le a.of a.b.now (λ i. (known.shared-slice-known2.given i).fits) a.n a.kb,
-      s.requires.0.first.header.few,
-      s.requires.0.second.header.few,
-      s.requires.0.first.header.small,
+      c.weigh_entries-first.ensures,
+      c.weigh_entries-second.ensures,
+      entries-le a.of a.a.now (λ i. (c.shared_slice_known-1.given i).fits) a.n a.ka,
+      entries-le a.of a.b.now (λ i. (c.shared_slice_known-2-1.given i).fits) a.n a.kb,
+      c.requires.0.first.header.few,
+      c.requires.0.second.header.few,
+      c.requires.0.first.header.small,
     )
 
-sub-t11 : tie.Need-overflow-sub-t11
-sub-t11 c = (told c).0
+overflow_sub-result : tie.Need-overflow_sub-result
+overflow_sub-result c = (told c).0
 
 returns : tie.Need-returns
 returns c = (told c).1
 
-pub weigh-overflow-spec : {M : Type 1} → statement M
-weigh-overflow-spec =
+pub weigh_overflow_spec : {M : Type 1} → statement M
+weigh_overflow_spec =
     tie.close
     (tie.spec
-    weigh-shared-requires
-    weigh-entries-requires
-    weigh-entries-requires-2
-    add-t10
-    sub-t11
+    weigh_shared-shared-requires
+    weigh_entries-first-requires
+    weigh_entries-second-requires
+    overflow_add-result
+    overflow_sub-result
     returns)

@@ -21,85 +21,77 @@ use Rattle.pciv_compare.proofs.weigh.weigh_shared.Tie as tie
 abbrev term : Weight → Parts → Parts → ℕ → ℕ
 term of A B j = beyond_of of (shared_at A B j)
 
-abbrev invariant-loop : tie.invariant-loop
-invariant-loop of a b n ka kb sum₀ t₀ j₀ sum t j =
+abbrev invariant-loop-j : tie.invariant-loop-j
+invariant-loop-j of a b n ka kb sum₀ t₀ j₀ sum t j =
     let A : Parts = file_parts a n ka in
     let B : Parts = file_parts b n kb in
     LedAt A B j t × Added (term of A B) ka (sum_from (term of A B) 0 ka) j sum
 
-abbrev decreases-loop : tie.decreases-loop
-decreases-loop of a b n ka kb sum₀ t₀ j₀ sum t j = ka - j
+abbrev decreases-loop-j : tie.decreases-loop-j
+decreases-loop-j of a b n ka kb sum₀ t₀ j₀ sum t j = ka - j
 
 -- the parts of the two files
-abbrev first : tie.Start invariant-loop decreases-loop → Parts
+abbrev first : tie.Start invariant-loop-j decreases-loop-j → Parts
 first s = file_parts s.args.a.now s.args.n s.args.ka
 
-abbrev second : tie.Start invariant-loop decreases-loop → Parts
+abbrev second : tie.Start invariant-loop-j decreases-loop-j → Parts
 second s = file_parts s.args.b.now s.args.n s.args.kb
 
-loop-holds : tie.Need-loop-init invariant-loop decreases-loop
-loop-holds c =
-    let s = c.before.before in
-    let none = added_none (term s.args.of (first s) (second s)) 0 s.args.ka (omega arith) in
-    (led-start (first s) (second s), rw sub-zero at none)
+loop-j-init : tie.Need-loop-j-init invariant-loop-j decreases-loop-j
+loop-j-init c =
+    let none = added_none (term c.args.of (first c.before.before) (second c.before.before)) 0 c.args.ka (omega arith) in
+    (led-start (first c.before.before) (second c.before.before), rw sub-zero at none)
 
-combine-entry-requires : tie.Need-combine-entry-requires invariant-loop decreases-loop
-combine-entry-requires c κs =
-    let s = c.before.before.before.before in
-    (s.requires, (shrinks-minimum, (c.loop-test.true, c.before.loop.invariant.0.before)))
+combine_entry-found-requires : tie.Need-combine_entry-found-requires invariant-loop-j decreases-loop-j
+combine_entry-found-requires c κs =
+    (c.requires, (shrinks-minimum, (c.loop-j-test.true, c.loop-j.invariant.0.before)))
 
-beyond-requires : tie.Need-beyond-requires invariant-loop decreases-loop
-beyond-requires c κs = search rules
+beyond-sum-requires : tie.Need-beyond-sum-requires invariant-loop-j decreases-loop-j
+beyond-sum-requires c κs = search rules
 
-loop-again : tie.Need-loop-preserved invariant-loop decreases-loop
-loop-again c =
-    let f = c.before in
-    let l = f.before.before in
-    let s = l.before.before.before in
-    let here = f.before.loop-test.true in
-    let r = f.combine-entry.result in
-    let found = f.combine-entry.ensures in
-    let is = combined-shared (first s) (second s) s.requires.first.parts l.loop.j here r found in (
-      led-next (first s) (second s) l.loop.j r.next here f.combine-entry.ensures.before,
-      rw (c.beyond.ensures ∙ ap (λ (x : ℕ). beyond_of s.args.of x) is) (added-one l.loop.invariant.1 here),
+loop-j-preserved : tie.Need-loop-j-preserved invariant-loop-j decreases-loop-j
+loop-j-preserved c =
+    let here = c.loop-j-test.true in
+    let r = c.combine_entry-found.result in
+    let found = c.combine_entry-found.ensures in
+    let is = combined-shared (first c.before.before.before.before.before.before) (second c.before.before.before.before.before.before) c.requires.first.parts c.loop-j.j here r found in (
+      led-next (first c.before.before.before.before.before.before) (second c.before.before.before.before.before.before) c.loop-j.j r.next here c.combine_entry-found.ensures.before,
+      rw (c.beyond-sum.ensures ∙ ap (λ (x : ℕ). beyond_of c.args.of x) is) (added-one c.loop-j.invariant.1 here),
     )
 
-add-sum : tie.Need-overflow-add-sum invariant-loop decreases-loop
-add-sum c =
-    let known = c.before.before.before.before.before in
-    let s = known.before in
-    let a = s.args in
+overflow_add-sum : tie.Need-overflow_add-sum invariant-loop-j decreases-loop-j
+overflow_add-sum c =
+    let a = c.args in
     omega (
       arith,
-      (loop-again c).1.rest,
-      shared-le a.of a.a.now (λ i. (known.shared-slice-known.given i).fits) a.n a.ka (second s),
-      s.requires.first.header.few,
-      s.requires.first.header.small,
+      (loop-j-preserved c).1.rest,
+      shared-le a.of a.a.now (λ i. (c.shared_slice_known-1.given i).fits) a.n a.ka (second c.before.before.before.before.before.before),
+      c.requires.first.header.few,
+      c.requires.first.header.small,
     )
 
-add-j : tie.Need-overflow-add-j invariant-loop decreases-loop
-add-j c =
-    let l = c.before.before.before in
-    let h = l.before.before.before.requires.first.header in
+overflow_add-j : tie.Need-overflow_add-j invariant-loop-j decreases-loop-j
+overflow_add-j c =
+    let h = c.requires.first.header in
     omega (arith, h.few, h.small)
 
-loop-less : tie.Need-loop-smaller invariant-loop decreases-loop
-loop-less c = search rules
+loop-j-smaller : tie.Need-loop-j-smaller invariant-loop-j decreases-loop-j
+loop-j-smaller c = search rules
 
-returns : tie.Need-returns invariant-loop decreases-loop
-returns c = added-all c.before.loop.invariant.1 c.loop-test.false
+returns : tie.Need-returns invariant-loop-j decreases-loop-j
+returns c = added-all c.loop-j.invariant.1 c.loop-j-test.false
 
-pub weigh-shared-spec : {M : Type 1} → statement M
-weigh-shared-spec =
+pub weigh_shared_spec : {M : Type 1} → statement M
+weigh_shared_spec =
     tie.close
     (tie.spec
-    invariant-loop
-    decreases-loop
-    loop-holds
-    combine-entry-requires
-    beyond-requires
-    add-sum
-    add-j
-    loop-less
-    loop-again
+    invariant-loop-j
+    decreases-loop-j
+    loop-j-init
+    combine_entry-found-requires
+    beyond-sum-requires
+    overflow_add-sum
+    overflow_add-j
+    loop-j-smaller
+    loop-j-preserved
     returns)

@@ -9,47 +9,44 @@ use borrow.Author.Rules.{rules}
 use Rattle.pciv_disparity.proofs.front.byte_pair.Statement.{statement}
 use Rattle.pciv_disparity.proofs.front.byte_pair.Tie as tie
 
-element-copy-out-result : tie.Need-element-copy-out-result
-element-copy-out-result c = search rules
+bounds-bytes-x : tie.Need-bounds-bytes-x
+bounds-bytes-x c = search rules
 
-cast-result : tie.Need-overflow-cast-result
-cast-result c = let s = c.before in omega (arith, s.requires.0 s.args.x, s.requires.0 s.args.y)
+overflow_cast-result-2 : tie.Need-overflow_cast-result-2
+overflow_cast-result-2 c = omega (arith, c.requires.0 c.args.x, c.requires.0 c.args.y)
 
-mul-result : tie.Need-overflow-mul-result
-mul-result c = search rules
+offset_bounds-high-y : tie.Need-offset_bounds-high-y
+offset_bounds-high-y c = search rules
 
-element-copy-out-result-2 : tie.Need-element-copy-out-result-2
-element-copy-out-result-2 c = search rules
+bounds-high-y : tie.Need-bounds-high-y
+bounds-high-y c = search rules
 
-high : (c : tie.After-result2)
-    → (let a = c.before.before.args in at a.high.now a.y ≡ 256 * at a.bytes.now a.y)
+high : (c : tie.After-result-2-1)
+    → (let a = c.args in at a.high.now a.y ≡ 256 * at a.bytes.now a.y)
 high c =
-    let s = c.before.before in
-    ap (λ (l : List ℕ). at l s.args.y) s.requires.1 ∙ high-at s.args.bytes.now s.args.y (search rules)
+    ap (λ (l : List ℕ). at l c.args.y) c.requires.1 ∙ high-at c.args.bytes.now c.args.y (search rules)
 
 returns : tie.Need-returns
 returns c =
-    let a = c.before.before.args in
+    let a = c.args in
     ap (λ (h : ℕ). at a.bytes.now a.x + h) (high c)
 
-add-result : tie.Need-overflow-add-result
-add-result c =
-    let s = c.before.before in
-    omega (arith, high c, s.requires.0 s.args.x, s.requires.0 s.args.y)
+overflow_add-result : tie.Need-overflow_add-result
+overflow_add-result c =
+    omega (arith, high c, c.requires.0 c.args.x, c.requires.0 c.args.y)
 
-cast-result-2 : tie.Need-overflow-cast-result-2
-cast-result-2 c =
-    let s = c.before.before in
-    omega (arith, high c, s.requires.0 s.args.x, s.requires.0 s.args.y)
+overflow_cast-result-4 : tie.Need-overflow_cast-result-4
+overflow_cast-result-4 c =
+    omega (arith, high c, c.requires.0 c.args.x, c.requires.0 c.args.y)
 
-pub byte-pair-spec : {M : Type 1} → statement M
-byte-pair-spec =
+pub byte_pair_spec : {M : Type 1} → statement M
+byte_pair_spec =
     tie.close
     (tie.spec
-    element-copy-out-result
-    cast-result
-    mul-result
-    element-copy-out-result-2
-    add-result
-    cast-result-2
+    bounds-bytes-x
+    overflow_cast-result-2
+    offset_bounds-high-y
+    bounds-high-y
+    overflow_add-result
+    overflow_cast-result-4
     returns)

@@ -6,20 +6,20 @@ use borrow.Author.Rules.{rules}
 use Rattle.pciv_disparity.proofs.front.count_at_least.Statement.{statement}
 use Rattle.pciv_disparity.proofs.front.count_at_least.Tie as tie
 
+returns-then-d-gt255 : tie.Need-returns-then-d-gt255
+returns-then-d-gt255 c =
+    let a = c.args in
+    sym (none_above a.frame.now (λ i. (c.shared_slice_known-1.given i).fits) a.d _
+    (omega (arith, c.if-d-gt255.true)))
+
+overflow_cast-d : tie.Need-overflow_cast-d
+overflow_cast-d c = search rules
+
+count_from-requires : tie.Need-count_from-requires
+count_from-requires c κs = search rules
+
 returns : tie.Need-returns
-returns c =
-    let a = c.before.before.args in
-    sym (none_above a.frame.now (λ i. (c.before.shared-slice-known.given i).fits) a.d _
-    (omega (arith, c.if1.true)))
+returns c = search rules
 
-cast-count-from : tie.Need-overflow-cast-count-from
-cast-count-from c = search rules
-
-count-from-requires : tie.Need-count-from-requires
-count-from-requires c κs = search rules
-
-returns-2 : tie.Need-returns-2
-returns-2 c = search rules
-
-pub count-at-least-spec : {M : Type 1} → statement M
-count-at-least-spec = tie.close (tie.spec returns cast-count-from count-from-requires returns-2)
+pub count_at_least_spec : {M : Type 1} → statement M
+count_at_least_spec = tie.close (tie.spec returns-then-d-gt255 overflow_cast-d count_from-requires returns)

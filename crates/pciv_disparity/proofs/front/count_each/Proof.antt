@@ -1,7 +1,7 @@
 -- Proves pciv_disparity::front::count_each. Invariant: count, with the slots of byte 255 from i on, is their number.
 -- Falls: length frame - i.
-use mathlib.Core.Path.{sym, ap, ◌∙◌}
-use Prim.Native.Nat.{ℕ, ◌+◌, ◌-◌, ◌≤◌}
+use mathlib.Core.Path.{sym, ◌∙◌}
+use Prim.Native.Nat.{ℕ, ◌-◌, ◌≤◌}
 use native.Mathlib.Nat.{sub-zero}
 use native.Mathlib.Omega.{arith}
 use lib.ListN.{length}
@@ -15,83 +15,78 @@ use borrow.Author.Rules.{rules}
 use Rattle.pciv_disparity.proofs.front.count_each.Statement.{statement}
 use Rattle.pciv_disparity.proofs.front.count_each.Tie as tie
 
-abbrev invariant-loop : tie.invariant-loop
-invariant-loop frame bytes count₀ i₀ count i =
+abbrev invariant-loop-i : tie.invariant-loop-i
+invariant-loop-i frame bytes count₀ i₀ count i =
     Added (full_at bytes frame) (length frame) (sum_from (full_at bytes frame) 0 (length frame - 0)) i count
 
-abbrev decreases-loop : tie.decreases-loop
-decreases-loop frame bytes count₀ i₀ count i = length frame - i
+abbrev decreases-loop-i : tie.decreases-loop-i
+decreases-loop-i frame bytes count₀ i₀ count i = length frame - i
 
 -- no more slots are counted than there are
-few : (l : tie.At-loop invariant-loop decreases-loop)
-    → (let a = l.before.args in
+few : (l : tie.At-loop-i invariant-loop-i decreases-loop-i)
+    → (let a = l.args in
     sum_from (full_at a.bytes.now a.frame.now) 0 (length a.frame.now - 0) ≤ 1048576)
 few l =
-    let s = l.before in
-    let a = s.args in
+    let a = l.args in
     omega (
       arith,
-      s.requires.0,
+      l.requires.0,
       sum_from-flag-le (λ (i : ℕ). eqb (byte_at a.bytes.now (byte_at a.frame.now i)) 255) 0
           (length a.frame.now - 0),
     )
 
-loop-holds : tie.Need-loop-init invariant-loop decreases-loop
-loop-holds c = added_none _ 0 _ (omega arith)
+loop-i-init : tie.Need-loop-i-init invariant-loop-i decreases-loop-i
+loop-i-init c = added_none _ 0 _ (omega arith)
 
-shared-slice-read-count : tie.Need-shared-slice-read-count invariant-loop decreases-loop
-shared-slice-read-count c = search rules
+bounds-frame-i : tie.Need-bounds-frame-i invariant-loop-i decreases-loop-i
+bounds-frame-i c = search rules
 
-cast-count : tie.Need-overflow-cast-count invariant-loop decreases-loop
-cast-count c = omega (arith, c.shared-slice-known.given c.before.before.loop.i)
+overflow_cast-count : tie.Need-overflow_cast-count invariant-loop-i decreases-loop-i
+overflow_cast-count c = omega (arith, c.shared_slice_known-1.given c.loop-i.i)
 
-element-copy-out-count : tie.Need-element-copy-out-count invariant-loop decreases-loop
-element-copy-out-count c = (c.shared-slice-known.given c.before.before.loop.i).fits
+bounds-bytes-frame : tie.Need-bounds-bytes-frame invariant-loop-i decreases-loop-i
+bounds-bytes-frame c = (c.shared_slice_known-1.given c.loop-i.i).fits
 
-cast-count-2 : tie.Need-overflow-cast-count-2 invariant-loop decreases-loop
-cast-count-2 c = search rules
+overflow_cast-count-in-loop-i : tie.Need-overflow_cast-count-in-loop-i invariant-loop-i decreases-loop-i
+overflow_cast-count-in-loop-i c = search rules
 
-loop-again : tie.Need-loop-preserved invariant-loop decreases-loop
-loop-again c = rw bool_byte-flag (added-one c.before.before.before.loop.invariant (omega arith))
+loop-i-preserved : tie.Need-loop-i-preserved invariant-loop-i decreases-loop-i
+loop-i-preserved c = rw bool_byte-flag (added-one c.loop-i.invariant (omega arith))
 
-add-count : tie.Need-overflow-add-count invariant-loop decreases-loop
-add-count c =
-    let l = c.before.before.before in
-    omega (arith, (loop-again c).rest, few l)
+overflow_add-count : tie.Need-overflow_add-count invariant-loop-i decreases-loop-i
+overflow_add-count c =
+    omega (arith, (loop-i-preserved c).rest, few c.before.before.before.before)
 
-add-i : tie.Need-overflow-add-i invariant-loop decreases-loop
-add-i c = search rules
+overflow_add-i : tie.Need-overflow_add-i invariant-loop-i decreases-loop-i
+overflow_add-i c = search rules
 
-loop-less : tie.Need-loop-smaller invariant-loop decreases-loop
-loop-less c = search rules
+loop-i-smaller : tie.Need-loop-i-smaller invariant-loop-i decreases-loop-i
+loop-i-smaller c = search rules
 
-cast-result : tie.Need-overflow-cast-result invariant-loop decreases-loop
-cast-result c =
-    let l = c.before in
-    omega (arith, l.loop.invariant.rest, few l)
+overflow_cast-result : tie.Need-overflow_cast-result invariant-loop-i decreases-loop-i
+overflow_cast-result c =
+    omega (arith, c.loop-i.invariant.rest, few c.before)
 
-returns : tie.Need-returns invariant-loop decreases-loop
+returns : tie.Need-returns invariant-loop-i decreases-loop-i
 returns c =
-    let l = c.before in
-    let s = l.before in
-    let a = s.args in
-    added-all l.loop.invariant (omega arith)
-    ∙ rw sub-zero (sym (each-count a.bytes.now a.frame.now s.requires.1 (length a.frame.now)))
+    let a = c.args in
+    added-all c.loop-i.invariant (omega arith)
+    ∙ rw sub-zero (sym (each-count a.bytes.now a.frame.now c.requires.1 (length a.frame.now)))
 
-pub count-each-spec : {M : Type 1} → statement M
-count-each-spec =
+pub count_each_spec : {M : Type 1} → statement M
+count_each_spec =
     tie.close
     (tie.spec
-    invariant-loop
-    decreases-loop
-    loop-holds
-    shared-slice-read-count
-    cast-count
-    element-copy-out-count
-    cast-count-2
-    add-count
-    add-i
-    loop-less
-    loop-again
-    cast-result
+    invariant-loop-i
+    decreases-loop-i
+    loop-i-init
+    bounds-frame-i
+    overflow_cast-count
+    bounds-bytes-frame
+    overflow_cast-count-in-loop-i
+    overflow_add-count
+    overflow_add-i
+    loop-i-smaller
+    loop-i-preserved
+    overflow_cast-result
     returns)

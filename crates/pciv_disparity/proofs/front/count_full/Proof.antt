@@ -12,97 +12,93 @@ use Rattle.pciv_disparity.proofs.front.count_full.Statement.{statement}
 use Rattle.pciv_disparity.proofs.front.count_full.Tie as tie
 
 -- from the count: the bytes of the table
-abbrev table : tie.After-count-byte → List ℕ
-table c = c.before.before.before.before.args.bytes.now
+abbrev table : tie.After-count_byte-count → List ℕ
+table c = c.args.bytes.now
 
 -- there are so many with byte 255
-all : (c : tie.After-count-byte) → c.count-byte.result ≡ sum_from (byte_is (table c) 255) 0 256
-all c = c.count-byte.ensures ∙ ap (sum_from (byte_is (table c) 255) 0) c.before.before.all.given.0
+all : (c : tie.After-count_byte-count) → c.count_byte-count.result ≡ sum_from (byte_is (table c) 255) 0 256
+all c = c.count_byte-count.ensures ∙ ap (sum_from (byte_is (table c) 255) 0) c.all-1.given
 
-inside : (c : tie.After-count-byte) → c.before.find-byte.result + c.count-byte.result ≤ 256
-inside c = run_inside (table c) _ _ (all c) c.before.find-byte.ensures
+inside : (c : tie.After-count_byte-count) → c.find_byte-first.result + c.count_byte-count.result ≤ 256
+inside c = run_inside (table c) _ _ (all c) c.find_byte-first.ensures
 
-find-byte-requires : tie.Need-find-byte-requires
-find-byte-requires c κs = search rules
+find_byte-first-requires : tie.Need-find_byte-first-requires
+find_byte-first-requires c κs = search rules
 
-count-byte-requires : tie.Need-count-byte-requires
-count-byte-requires c κs = search rules
+count_byte-count-requires : tie.Need-count_byte-count-requires
+count_byte-count-requires c κs = search rules
 
-add-end : tie.Need-overflow-add-end
-add-end c = omega (arith, inside c)
+overflow_add-end : tie.Need-overflow_add-end
+overflow_add-end c = omega (arith, inside c)
 
-sub-count-byte : tie.Need-overflow-sub-count-byte
-sub-count-byte c = search rules
+slice_bounds-count_byte-count : tie.Need-slice_bounds-count_byte-count
+slice_bounds-count_byte-count c = search rules
 
-part-count-byte-start : tie.Need-slice-bounds-count-byte-start
-part-count-byte-start c = search rules
+slice_bounds-count_byte-start : tie.Need-slice_bounds-count_byte-start
+slice_bounds-count_byte-start c = search rules
 
-part-count-byte-end : tie.Need-slice-bounds-count-byte-end
-part-count-byte-end c = omega (arith, inside c, c.before.before.all.given.0)
+slice_bounds-count_byte-end : tie.Need-slice_bounds-count_byte-end
+slice_bounds-count_byte-end c = omega (arith, inside c, c.all-1.given)
 
-count-byte-requires-2 : tie.Need-count-byte-requires-2
-count-byte-requires-2 c κs = search rules
+count_byte-requires : tie.Need-count_byte-requires
+count_byte-requires c κs = search rules
 
-count-at-least-requires : tie.Need-count-at-least-requires
-count-at-least-requires c κs = search rules
+count_at_least-requires : tie.Need-count_at_least-requires
+count_at_least-requires c κs = search rules
 
-count-at-least-requires-2 : tie.Need-count-at-least-requires-2
-count-at-least-requires-2 c κs = search rules
+count_at_least-requires-then-count_byte-count : tie.Need-count_at_least-requires-then-count_byte-count
+count_at_least-requires-then-count_byte-count c κs = search rules
 
 -- two counts of the frame's disparities, and the slots in overflow
-counted : (c : tie.After-count-at-least2)
-    → (let a = c.before.before.before.before.before.before.before.before.before.args in
-    sum_from (full_at a.bytes.now a.frame.now) 0 (length a.frame.now) + c.count-at-least2.result
-    ≡ c.before.count-at-least.result)
+counted : (c : tie.After-count_at_least-then-count_byte-count)
+    → (let a = c.args in
+    sum_from (full_at a.bytes.now a.frame.now) 0 (length a.frame.now) + c.count_at_least-then-count_byte-count.result
+    ≡ c.count_at_least.result)
 counted c =
-    let t = c.before.before in
-    let b = t.before.before.before in
-    let known = b.before.before.before in
-    let frame : List ℕ = known.before.args.frame.now in
-    let first : ℕ = b.before.find-byte.result in
-    let count : ℕ = b.count-byte.result in
-    let part = part_count (table b) 255 first (first + count) (omega arith)
-    (omega (arith, inside b, b.before.before.all.given.0)) in
+    let frame : List ℕ = c.args.frame.now in
+    let first : ℕ = c.find_byte-first.result in
+    let count : ℕ = c.count_byte-count.result in
+    let part = part_count (table c.before.before.before.before.before) 255 first (first + count) (omega arith)
+    (omega (arith, inside c.before.before.before.before.before, c.all-1.given)) in
     let width : first + count - first ≡ count = omega arith in
-    let run : sum_from (byte_is (table b) 255) first count ≡ count =
-    ap (sum_from (byte_is (table b) 255) first) (sym width)
-    ∙ sym part ∙ sym t.before.count-byte2.ensures ∙ t.if1.true in
-    ap (λ (x : ℕ). sum_from (full_at (table b) frame) 0 (length frame) + x) c.count-at-least2.ensures
-    ∙ run-count (table b) _ _ (all b) (inside b) run frame (λ i. (known.shared-slice-known.given i).fits) (length frame)
-    ∙ sym c.before.count-at-least.ensures
+    let run : sum_from (byte_is (table c.before.before.before.before.before) 255) first count ≡ count =
+    ap (sum_from (byte_is (table c.before.before.before.before.before) 255) first) (sym width)
+    ∙ sym part ∙ sym c.count_byte.ensures ∙ c.if-count_byte-count.true in
+    ap (λ (x : ℕ). sum_from (full_at (table c.before.before.before.before.before) frame) 0 (length frame) + x) c.count_at_least-then-count_byte-count.ensures
+    ∙ run-count (table c.before.before.before.before.before) _ _ (all c.before.before.before.before.before) (inside c.before.before.before.before.before) run frame (λ i. (c.shared_slice_known-1.given i).fits) (length frame)
+    ∙ sym c.count_at_least.ensures
 
-sub-result : tie.Need-overflow-sub-result
-sub-result c = omega (arith, counted c)
+overflow_sub-result : tie.Need-overflow_sub-result
+overflow_sub-result c = omega (arith, counted c)
 
-returns : tie.Need-returns
-returns c =
-    let s = c.before.before.before.before.before.before.before.before.before in
+returns-then-count_byte-count : tie.Need-returns-then-count_byte-count
+returns-then-count_byte-count c =
     omega (
       arith,
       counted c,
-      each-count s.args.bytes.now s.args.frame.now s.requires.1 (length s.args.frame.now),
+      each-count c.args.bytes.now c.args.frame.now c.requires.1 (length c.args.frame.now),
     )
 
-count-each-requires : tie.Need-count-each-requires
-count-each-requires c κs = search rules
+count_each-requires : tie.Need-count_each-requires
+count_each-requires c κs = search rules
 
-returns-2 : tie.Need-returns-2
-returns-2 c = search rules
+returns : tie.Need-returns
+returns c = search rules
 
-pub count-full-spec : {M : Type 1} → statement M
-count-full-spec =
+pub count_full_spec : {M : Type 1} → statement M
+count_full_spec =
     tie.close
     (tie.spec
-    find-byte-requires
-    count-byte-requires
-    add-end
-    sub-count-byte
-    part-count-byte-start
-    part-count-byte-end
-    count-byte-requires-2
-    count-at-least-requires
-    count-at-least-requires-2
-    sub-result
-    returns
-    count-each-requires
-    returns-2)
+    find_byte-first-requires
+    count_byte-count-requires
+    overflow_add-end
+    slice_bounds-count_byte-count
+    slice_bounds-count_byte-start
+    slice_bounds-count_byte-end
+    count_byte-requires
+    count_at_least-requires
+    count_at_least-requires-then-count_byte-count
+    overflow_sub-result
+    returns-then-count_byte-count
+    count_each-requires
+    returns)

@@ -10,58 +10,57 @@ use borrow.Author.Rules.{rules}
 use Rattle.pciv_disparity.proofs.front.high_bytes.Statement.{statement}
 use Rattle.pciv_disparity.proofs.front.high_bytes.Tie as tie
 
-abbrev invariant-loop : tie.invariant-loop
-invariant-loop bytes high₀ d₀ high d = (d ≤ 256) × Left (λ (j : ℕ). 256 * at bytes j) 256 high₀ high d
+abbrev invariant-loop-d : tie.invariant-loop-d
+invariant-loop-d bytes high₀ d₀ high d = (d ≤ 256) × Left (λ (j : ℕ). 256 * at bytes j) 256 high₀ high d
 
-abbrev decreases-loop : tie.decreases-loop
-decreases-loop bytes high₀ d₀ high d = 256 - d
+abbrev decreases-loop-d : tie.decreases-loop-d
+decreases-loop-d bytes high₀ d₀ high d = 256 - d
 
-loop-holds : tie.Need-loop-init invariant-loop decreases-loop
-loop-holds c = (omega arith, left-start _ 256 _)
+loop-d-init : tie.Need-loop-d-init invariant-loop-d decreases-loop-d
+loop-d-init c = (omega arith, left-start _ 256 _)
 
-element-copy-out-high : tie.Need-element-copy-out-high invariant-loop decreases-loop
-element-copy-out-high c = search rules
+bounds-bytes-d : tie.Need-bounds-bytes-d invariant-loop-d decreases-loop-d
+bounds-bytes-d c = search rules
 
-cast-high : tie.Need-overflow-cast-high invariant-loop decreases-loop
-cast-high c = omega (arith, c.before.before.before.requires c.before.before.loop.d)
+overflow_cast-high : tie.Need-overflow_cast-high invariant-loop-d decreases-loop-d
+overflow_cast-high c = omega (arith, c.requires c.loop-d.d)
 
-mul-high : tie.Need-overflow-mul-high invariant-loop decreases-loop
-mul-high c = omega (arith, c.before.before.before.requires c.before.before.loop.d)
+overflow_mul-high : tie.Need-overflow_mul-high invariant-loop-d decreases-loop-d
+overflow_mul-high c = omega (arith, c.requires c.loop-d.d)
 
-mul-high-2 : tie.Need-overflow-mul-high-2 invariant-loop decreases-loop
-mul-high-2 c = search rules
+offset_bounds-high-d : tie.Need-offset_bounds-high-d invariant-loop-d decreases-loop-d
+offset_bounds-high-d c = search rules
 
-array-write-high : tie.Need-array-write-high invariant-loop decreases-loop
-array-write-high c = search rules
+bounds-high-d : tie.Need-bounds-high-d invariant-loop-d decreases-loop-d
+bounds-high-d c = search rules
 
-add-d : tie.Need-overflow-add-d invariant-loop decreases-loop
-add-d c = search rules
+overflow_add-d : tie.Need-overflow_add-d invariant-loop-d decreases-loop-d
+overflow_add-d c = search rules
 
-loop-less : tie.Need-loop-smaller invariant-loop decreases-loop
-loop-less c = search rules
+loop-d-smaller : tie.Need-loop-d-smaller invariant-loop-d decreases-loop-d
+loop-d-smaller c = search rules
 
-loop-again : tie.Need-loop-preserved invariant-loop decreases-loop
-loop-again c = (omega arith, left-more c.before.before.loop.invariant.1 _ (omega arith) refl)
+loop-d-preserved : tie.Need-loop-d-preserved invariant-loop-d decreases-loop-d
+loop-d-preserved c = (omega arith, left-more c.loop-d.invariant.1 _ (omega arith) refl)
 
-returns : tie.Need-returns invariant-loop decreases-loop
+returns : tie.Need-returns invariant-loop-d decreases-loop-d
 returns c =
-    let l = c.before in
-    left-whole l.loop.invariant.1 (omega (arith, c.loop-test.false)) (length-replicate {A = ℕ} 256 0)
-    ∙ sym (high_of-is l.before.args.bytes.now)
+    left-whole c.loop-d.invariant.1 (omega (arith, c.loop-d-test.false)) (length-replicate {A = ℕ} 256 0)
+    ∙ sym (high_of-is c.args.bytes.now)
 
-pub high-bytes-spec : {M : Type 1} → statement M
-high-bytes-spec =
+pub high_bytes_spec : {M : Type 1} → statement M
+high_bytes_spec =
     tie.close
     (tie.spec
-    invariant-loop
-    decreases-loop
-    loop-holds
-    element-copy-out-high
-    cast-high
-    mul-high
-    mul-high-2
-    array-write-high
-    add-d
-    loop-less
-    loop-again
+    invariant-loop-d
+    decreases-loop-d
+    loop-d-init
+    bounds-bytes-d
+    overflow_cast-high
+    overflow_mul-high
+    offset_bounds-high-d
+    bounds-high-d
+    overflow_add-d
+    loop-d-smaller
+    loop-d-preserved
     returns)

@@ -11,54 +11,53 @@ use borrow.Author.Rules.{rules}
 use Rattle.pciv_disparity.proofs.front.primary_bytes.Statement.{statement}
 use Rattle.pciv_disparity.proofs.front.primary_bytes.Tie as tie
 
-abbrev invariant-loop : tie.invariant-loop
-invariant-loop table bytes₀ d₀ bytes d = (d ≤ 256) × Left (λ (j : ℕ). primary_byte (at table j)) 256 bytes₀ bytes d
+abbrev invariant-loop-d : tie.invariant-loop-d
+invariant-loop-d table bytes₀ d₀ bytes d = (d ≤ 256) × Left (λ (j : ℕ). primary_byte (at table j)) 256 bytes₀ bytes d
 
-abbrev decreases-loop : tie.decreases-loop
-decreases-loop table bytes₀ d₀ bytes d = 256 - d
+abbrev decreases-loop-d : tie.decreases-loop-d
+decreases-loop-d table bytes₀ d₀ bytes d = 256 - d
 
-loop-holds : tie.Need-loop-init invariant-loop decreases-loop
-loop-holds c = (omega arith, left-start _ 256 _)
+loop-d-init : tie.Need-loop-d-init invariant-loop-d decreases-loop-d
+loop-d-init c = (omega arith, left-start _ 256 _)
 
-mul-x : tie.Need-overflow-mul-x invariant-loop decreases-loop
-mul-x c = search rules
+offset_bounds-table-d : tie.Need-offset_bounds-table-d invariant-loop-d decreases-loop-d
+offset_bounds-table-d c = search rules
 
-element-copy-out-x : tie.Need-element-copy-out-x invariant-loop decreases-loop
-element-copy-out-x c = search rules
+bounds-table-d : tie.Need-bounds-table-d invariant-loop-d decreases-loop-d
+bounds-table-d c = search rules
 
-primary-byte-requires : tie.Need-primary-byte-requires invariant-loop decreases-loop
-primary-byte-requires c κs = search rules
+primary_byte-requires : tie.Need-primary_byte-requires invariant-loop-d decreases-loop-d
+primary_byte-requires c κs = search rules
 
-array-write-bytes : tie.Need-array-write-bytes invariant-loop decreases-loop
-array-write-bytes c = search rules
+bounds-bytes-d : tie.Need-bounds-bytes-d invariant-loop-d decreases-loop-d
+bounds-bytes-d c = search rules
 
-add-d : tie.Need-overflow-add-d invariant-loop decreases-loop
-add-d c = search rules
+overflow_add-d : tie.Need-overflow_add-d invariant-loop-d decreases-loop-d
+overflow_add-d c = search rules
 
-loop-less : tie.Need-loop-smaller invariant-loop decreases-loop
-loop-less c = search rules
+loop-d-smaller : tie.Need-loop-d-smaller invariant-loop-d decreases-loop-d
+loop-d-smaller c = search rules
 
-loop-again : tie.Need-loop-preserved invariant-loop decreases-loop
-loop-again c = (omega arith, left-more c.before.before.before.loop.invariant.1 _ (omega arith) c.primary-byte.ensures)
+loop-d-preserved : tie.Need-loop-d-preserved invariant-loop-d decreases-loop-d
+loop-d-preserved c = (omega arith, left-more c.loop-d.invariant.1 _ (omega arith) c.primary_byte.ensures)
 
-returns : tie.Need-returns invariant-loop decreases-loop
+returns : tie.Need-returns invariant-loop-d decreases-loop-d
 returns c =
-    let l = c.before in
-    left-whole l.loop.invariant.1 (omega (arith, c.loop-test.false)) (length-replicate {A = ℕ} 256 0)
-    ∙ sym (bytes_of-is l.before.args.table.now)
+    left-whole c.loop-d.invariant.1 (omega (arith, c.loop-d-test.false)) (length-replicate {A = ℕ} 256 0)
+    ∙ sym (bytes_of-is c.args.table.now)
 
-pub primary-bytes-spec : {M : Type 1} → statement M
-primary-bytes-spec =
+pub primary_bytes_spec : {M : Type 1} → statement M
+primary_bytes_spec =
     tie.close
     (tie.spec
-    invariant-loop
-    decreases-loop
-    loop-holds
-    mul-x
-    element-copy-out-x
-    primary-byte-requires
-    array-write-bytes
-    add-d
-    loop-less
-    loop-again
+    invariant-loop-d
+    decreases-loop-d
+    loop-d-init
+    offset_bounds-table-d
+    bounds-table-d
+    primary_byte-requires
+    bounds-bytes-d
+    overflow_add-d
+    loop-d-smaller
+    loop-d-preserved
     returns)

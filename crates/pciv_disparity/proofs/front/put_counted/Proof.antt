@@ -17,93 +17,85 @@ use borrow.Author.Rules.{rules}
 use Rattle.pciv_disparity.proofs.front.put_counted.Statement.{statement}
 use Rattle.pciv_disparity.proofs.front.put_counted.Tie as tie
 
-abbrev entry : tie.After-begin → tie.Start
+abbrev entry : tie.After-begin-begun → tie.Start
 entry b = b.before.before.before.before.before
 
-abbrev slots : tie.After-begin → ℕ
+abbrev slots : tie.After-begin-begun → ℕ
 slots b = length (entry b).args.frame.now
 
-abbrev distances : tie.After-begin → ℕ → ℕ
+abbrev distances : tie.After-begin-begun → ℕ → ℕ
 distances b = frame_distance (entry b).args.bytes.now (entry b).args.frame.now
 
-abbrev buffer : tie.After-begin → List ℕ
+abbrev buffer : tie.After-begin-begun → List ℕ
 buffer b = (entry b).args.out.now
 
 -- what `begin` has answered and left
-answered : (b : tie.After-begin)
-    → b.begin.result ≡ counts_answer (begin_outcome (slots b) (overflow_count (slots b) (distances b)) (length (buffer b)))
+answered : (b : tie.After-begin-begun)
+    → b.begin-begun.result ≡ counts_answer (begin_outcome (slots b) (overflow_count (slots b) (distances b)) (length (buffer b)))
 answered b =
-    b.begin.ensures.0
-    ∙ ap (λ (k : ℕ). counts_answer (begin_outcome (slots b) k (length (buffer b)))) b.before.count-full.ensures
+    b.begin-begun.ensures.0
+    ∙ ap (λ (k : ℕ). counts_answer (begin_outcome (slots b) k (length (buffer b)))) b.count_full.ensures
 
-left : (b : tie.After-begin)
-    → b.begin.new.0 ≡ begin_buffer (slots b) (overflow_count (slots b) (distances b)) (buffer b)
+left : (b : tie.After-begin-begun)
+    → b.begin-begun.new.out ≡ begin_buffer (slots b) (overflow_count (slots b) (distances b)) (buffer b)
 left b =
-    b.begin.ensures.1 ∙ ap (λ (k : ℕ). begin_buffer (slots b) k (buffer b)) b.before.count-full.ensures
+    b.begin-begun.ensures.1 ∙ ap (λ (k : ℕ). begin_buffer (slots b) k (buffer b)) b.count_full.ensures
 
 -- it was done
-is-done : (c : tie.After-enum-told2)
-    → (let b = c.before.before.before.before in
-    begin_outcome (slots b) (overflow_count (slots b) (distances b)) (length (buffer b)) ≡ done c.enum-told2.given.0.0)
+is-done : (c : tie.In-Counted)
+    → (begin_outcome (slots c.before.before.before) (overflow_count (slots c.before.before.before) (distances c.before.before.before)) (length (buffer c.before.before.before)) ≡ done c.in-Counted.field-0)
 is-done c =
-    counts_answer-counted _ _ (sym c.enum-told2.given.1 ∙ answered c.before.before.before.before)
+    counts_answer-counted _ _ (sym c.in-Counted.is ∙ answered c.before.before.before)
 
-count-full-requires : tie.Need-count-full-requires
-count-full-requires c κs = search rules
+count_full-requires : tie.Need-count_full-requires
+count_full-requires c κs = search rules
 
-begin-requires : tie.Need-begin-requires
-begin-requires c κs =
-    let s = c.before.before.before.before in
-    begin-few _ _ _ s.requires.0 c.count-full.ensures
+begin-begun-requires : tie.Need-begin-begun-requires
+begin-begun-requires c κs =
+    begin-few _ _ _ c.requires.0 c.count_full.ensures
 
-enum_told : tie.Need-enum-told
-enum_told c = search rules
+enum_told-1 : tie.Need-enum_told-1
+enum_told-1 c = search rules
 
-enum-told-2 : tie.Need-enum-told-2
-enum-told-2 c = search rules
+enum_told-in-Counted : tie.Need-enum_told-in-Counted
+enum_told-in-Counted c = search rules
 
-put-primary-requires : tie.Need-put-primary-requires
-put-primary-requires c κs =
-    let t = c.before in
-    let b = t.before.before.before.before in
-    let fits = begun (slots b) _ (buffer b) _ (is-done t) in
-    let size : length b.begin.new.0 ≡ length (buffer b) =
-    ap length (left b ∙ fits.buffer) ∙ length-sets (buffer b) 0 (header (slots b) (overflow_count (slots b) (distances b))) in
-    (omega (arith, fits.entries, size), (entry b).requires.1)
+put_primary-requires : tie.Need-put_primary-requires
+put_primary-requires c κs =
+    let fits = begun (slots c.before.before.before.before) _ (buffer c.before.before.before.before) _ (is-done c.before) in
+    let size : length c.begin-begun.new.out ≡ length (buffer c.before.before.before.before) =
+    ap length (left c.before.before.before.before ∙ fits.buffer) ∙ length-sets (buffer c.before.before.before.before) 0 (header (slots c.before.before.before.before) (overflow_count (slots c.before.before.before.before) (distances c.before.before.before.before))) in
+    (omega (arith, fits.entries, size), (entry c.before.before.before.before).requires.1)
 
-same_length : tie.Need-same-length
-same_length c = search rules
+shape_of-out-in-Refused : tie.Need-shape_of-out-in-Refused
+shape_of-out-in-Refused c = search rules
 
-returns : tie.Need-returns
-returns c =
-    let b = c.before.before.before.before in
-    let no = counts_answer-refused _ _ (sym c.enum_told.given.1 ∙ answered b) in
-    (answered b, left b ∙ sym (begun-refused (slots b) _ (distances b) (buffer b) _ no))
+returns-in-Refused : tie.Need-returns-in-Refused
+returns-in-Refused c =
+    let no = counts_answer-refused _ _ (sym c.in-Refused.is ∙ answered c.before.before.before) in
+    (answered c.before.before.before, left c.before.before.before ∙ sym (begun-refused (slots c.before.before.before) _ (distances c.before.before.before) (buffer c.before.before.before) _ no))
 
-same-length-2 : tie.Need-same-length-2
-same-length-2 c = search rules
+shape_of-out-in-Counted : tie.Need-shape_of-out-in-Counted
+shape_of-out-in-Counted c = search rules
 
-returns-2 : tie.Need-returns-2
-returns-2 c =
-    let p = c.before.before in
-    let t = p.before.before in
-    let b = t.before.before.before.before in (
-      answered b,
-      p.put-primary.ensures
-          ∙ ap (λ (l : List ℕ). sets l 40 (primary (slots b) (distances b))) (left b)
-          ∙ sym (begun-done (slots b) _ (distances b) (buffer b) _ (is-done t)),
-    )
+returns-in-Counted : tie.Need-returns-in-Counted
+returns-in-Counted c = (
+  answered c.before.before.before.before.before.before.before,
+  c.put_primary.ensures
+      ∙ ap (λ (l : List ℕ). sets l 40 (primary (slots c.before.before.before.before.before.before.before) (distances c.before.before.before.before.before.before.before))) (left c.before.before.before.before.before.before.before)
+      ∙ sym (begun-done (slots c.before.before.before.before.before.before.before) _ (distances c.before.before.before.before.before.before.before) (buffer c.before.before.before.before.before.before.before) _ (is-done c.before.before.before.before)),
+)
 
-pub put-counted-spec : {M : Type 1} → statement M
-put-counted-spec =
+pub put_counted_spec : {M : Type 1} → statement M
+put_counted_spec =
     tie.close
     (tie.spec
-    count-full-requires
-    begin-requires
-    enum_told
-    enum-told-2
-    put-primary-requires
-    same_length
-    returns
-    same-length-2
-    returns-2)
+    count_full-requires
+    begin-begun-requires
+    enum_told-1
+    enum_told-in-Counted
+    put_primary-requires
+    shape_of-out-in-Refused
+    returns-in-Refused
+    shape_of-out-in-Counted
+    returns-in-Counted)

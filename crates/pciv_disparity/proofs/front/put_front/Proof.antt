@@ -4,50 +4,48 @@ use borrow.Author.Rules.{rules}
 use Rattle.pciv_disparity.proofs.front.put_front.Statement.{statement}
 use Rattle.pciv_disparity.proofs.front.put_front.Tie as tie
 
-mul-if1 : tie.Need-overflow-mul-if1
-mul-if1 c = search rules
+overflow_mul-frame : tie.Need-overflow_mul-frame
+overflow_mul-frame c = search rules
 
-add-if1 : tie.Need-overflow-add-if1
-add-if1 c = search rules
+overflow_add-frame : tie.Need-overflow_add-frame
+overflow_add-frame c = search rules
 
-mul-if1-2 : tie.Need-overflow-mul-if1-2
-mul-if1-2 c = search rules
+overflow_mul-t-7 : tie.Need-overflow_mul-t-7
+overflow_mul-t-7 c = search rules
 
-add-if1-2 : tie.Need-overflow-add-if1-2
-add-if1-2 c = search rules
+overflow_add-frame-2 : tie.Need-overflow_add-frame-2
+overflow_add-frame-2 c = search rules
 
-put-unrefused-requires : tie.Need-put-unrefused-requires
-put-unrefused-requires c κs =
-    let t = c.before in
-    let s = t.before.before.before in
-    (s.requires.0, (s.requires.1, omega (arith, t.if1.true)))
+put_unrefused-requires : tie.Need-put_unrefused-requires
+put_unrefused-requires c κs =
+    (c.requires.0, (c.requires.1, omega (arith, c.if-frame-out.true)))
 
-same_length : tie.Need-same-length
-same_length c = search rules
+shape_of-out-then-frame-out : tie.Need-shape_of-out-then-frame-out
+shape_of-out-then-frame-out c = search rules
+
+returns-then-frame-out : tie.Need-returns-then-frame-out
+returns-then-frame-out c = search rules
+
+put_counted-requires : tie.Need-put_counted-requires
+put_counted-requires c κs = search rules
+
+shape_of-out : tie.Need-shape_of-out
+shape_of-out c = search rules
 
 returns : tie.Need-returns
 returns c = search rules
 
-put-counted-requires : tie.Need-put-counted-requires
-put-counted-requires c κs = search rules
-
-same-length-2 : tie.Need-same-length-2
-same-length-2 c = search rules
-
-returns-2 : tie.Need-returns-2
-returns-2 c = search rules
-
-pub put-front-spec : {M : Type 1} → statement M
-put-front-spec =
+pub put_front_spec : {M : Type 1} → statement M
+put_front_spec =
     tie.close
     (tie.spec
-    mul-if1
-    add-if1
-    mul-if1-2
-    add-if1-2
-    put-unrefused-requires
-    same_length
-    returns
-    put-counted-requires
-    same-length-2
-    returns-2)
+    overflow_mul-frame
+    overflow_add-frame
+    overflow_mul-t-7
+    overflow_add-frame-2
+    put_unrefused-requires
+    shape_of-out-then-frame-out
+    returns-then-frame-out
+    put_counted-requires
+    shape_of-out
+    returns)

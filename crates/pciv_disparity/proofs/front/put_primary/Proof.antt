@@ -13,120 +13,113 @@ use borrow.Author.Rules.{rules}
 use Rattle.pciv_disparity.proofs.front.put_primary.Statement.{statement}
 use Rattle.pciv_disparity.proofs.front.put_primary.Tie as tie
 
-abbrev invariant-loop : tie.invariant-loop
-invariant-loop out₀ frame bytes n high i₀ out i = PrimaryLeft (length frame) (frame_distance bytes frame) out₀ i out
+abbrev invariant-loop-i : tie.invariant-loop-i
+invariant-loop-i out₀ frame bytes n high i₀ out i = PrimaryLeft (length frame) (frame_distance bytes frame) out₀ i out
 
-abbrev decreases-loop : tie.decreases-loop
-decreases-loop out₀ frame bytes n high i₀ out i = length frame - i
+abbrev decreases-loop-i : tie.decreases-loop-i
+decreases-loop-i out₀ frame bytes n high i₀ out i = length frame - i
 
-abbrev entry : tie.At-loop invariant-loop decreases-loop → tie.Start invariant-loop decreases-loop
+abbrev entry : tie.At-loop-i invariant-loop-i decreases-loop-i → tie.Start invariant-loop-i decreases-loop-i
 entry l = l.before.before.before.before
 
 -- what is written is a byte
-byte : (l : tie.At-loop invariant-loop decreases-loop) (i : ℕ)
+byte : (l : tie.At-loop-i invariant-loop-i decreases-loop-i) (i : ℕ)
     → (let a = (entry l).args in frame_distance a.bytes.now a.frame.now i < 256)
 byte l i = (entry l).requires.1 _
 
-high-bytes-requires : tie.Need-high-bytes-requires invariant-loop decreases-loop
-high-bytes-requires c κs = c.before.before.requires.1
+high_bytes-high-requires : tie.Need-high_bytes-high-requires invariant-loop-i decreases-loop-i
+high_bytes-high-requires c κs = c.requires.1
 
-loop-holds : tie.Need-loop-init invariant-loop decreases-loop
-loop-holds c = primary-start _ _ _
+loop-i-init : tie.Need-loop-i-init invariant-loop-i decreases-loop-i
+loop-i-init c = primary-start _ _ _
 
-sub-loop : tie.Need-overflow-sub-loop invariant-loop decreases-loop
-sub-loop c = search rules
+overflow_sub-n : tie.Need-overflow_sub-n invariant-loop-i decreases-loop-i
+overflow_sub-n c = search rules
 
-add-put16 : tie.Need-overflow-add-put16 invariant-loop decreases-loop
-add-put16 c = search rules
+overflow_add-i : tie.Need-overflow_add-i invariant-loop-i decreases-loop-i
+overflow_add-i c = search rules
 
-shared-slice-read-byte-pair : tie.Need-shared-slice-read-byte-pair invariant-loop decreases-loop
-shared-slice-read-byte-pair c = search rules
+bounds-frame-i : tie.Need-bounds-frame-i invariant-loop-i decreases-loop-i
+bounds-frame-i c = search rules
 
-add-byte-pair : tie.Need-overflow-add-byte-pair invariant-loop decreases-loop
-add-byte-pair c = search rules
+overflow_add-i-in-loop-i : tie.Need-overflow_add-i-in-loop-i invariant-loop-i decreases-loop-i
+overflow_add-i-in-loop-i c = search rules
 
-shared-slice-read-byte-pair-2 : tie.Need-shared-slice-read-byte-pair-2 invariant-loop decreases-loop
-shared-slice-read-byte-pair-2 c = search rules
+bounds-frame-i-in-loop-i : tie.Need-bounds-frame-i-in-loop-i invariant-loop-i decreases-loop-i
+bounds-frame-i-in-loop-i c = search rules
 
-byte-pair-requires : tie.Need-byte-pair-requires invariant-loop decreases-loop
-byte-pair-requires c κs =
-    let l = c.before.before.before.before.before in
-    ((entry l).requires.1, l.before.high-bytes.ensures)
+byte_pair-requires : tie.Need-byte_pair-requires invariant-loop-i decreases-loop-i
+byte_pair-requires c κs =
+    ((entry c.before.before.before.before.before).requires.1, c.high_bytes-high.ensures)
 
-put16-requires : tie.Need-put16-requires invariant-loop decreases-loop
+put16-requires : tie.Need-put16-requires invariant-loop-i decreases-loop-i
 put16-requires c κs =
-    let d = c.before.before.before.before.before in
-    omega (arith, d.loop-test.true, d.before.loop.invariant.size, (entry d.before).pre.0)
+    omega (arith, c.loop-i-test.true, c.loop-i.invariant.size, (entry c.before.before.before.before.before.before).requires.0)
 
-add-i : tie.Need-overflow-add-i invariant-loop decreases-loop
-add-i c = search rules
+overflow_add-i-in-loop-i-2 : tie.Need-overflow_add-i-in-loop-i-2 invariant-loop-i decreases-loop-i
+overflow_add-i-in-loop-i-2 c = search rules
 
-loop-less : tie.Need-loop-smaller invariant-loop decreases-loop
-loop-less c = search rules
+loop-i-smaller : tie.Need-loop-i-smaller invariant-loop-i decreases-loop-i
+loop-i-smaller c = search rules
 
-loop-again : tie.Need-loop-preserved invariant-loop decreases-loop
-loop-again c =
-    let p = c.before.before in
-    let d = p.before.before.before.before.before.before in
-    let l = d.before in
-    primary-pair l.loop.invariant (omega (arith, d.loop-test.true)) (byte l _) (byte l _) _
-    (p.put16.ensures ∙ ap (λ (x : ℕ). sets l.loop.out (40 + l.loop.i) (le 2 x)) p.before.byte_pair.ensures)
+loop-i-preserved : tie.Need-loop-i-preserved invariant-loop-i decreases-loop-i
+loop-i-preserved c =
+    primary-pair c.loop-i.invariant (omega (arith, c.loop-i-test.true)) (byte c.before.before.before.before.before.before.before.before.before _) (byte c.before.before.before.before.before.before.before.before.before _) _
+    (c.put16.ensures ∙ ap (λ (x : ℕ). sets c.loop-i.out (40 + c.loop-i.i) (le 2 x)) c.byte_pair.ensures)
 
-shared-slice-read-out : tie.Need-shared-slice-read-out invariant-loop decreases-loop
-shared-slice-read-out c = search rules
+bounds-frame-i-then-i-n : tie.Need-bounds-frame-i-then-i-n invariant-loop-i decreases-loop-i
+bounds-frame-i-then-i-n c = search rules
 
-cast-out : tie.Need-overflow-cast-out invariant-loop decreases-loop
-cast-out c = omega (arith, c.shared-slice-known4.given c.before.before.before.loop.i)
+overflow_cast-out : tie.Need-overflow_cast-out invariant-loop-i decreases-loop-i
+overflow_cast-out c = omega (arith, c.shared_slice_known-then-i-n-1.given c.loop-i.i)
 
-element-copy-out-out : tie.Need-element-copy-out-out invariant-loop decreases-loop
-element-copy-out-out c = (c.shared-slice-known4.given c.before.before.before.loop.i).fits
+bounds-bytes-frame : tie.Need-bounds-bytes-frame invariant-loop-i decreases-loop-i
+bounds-bytes-frame c = (c.shared_slice_known-then-i-n-1.given c.loop-i.i).fits
 
-add-out : tie.Need-overflow-add-out invariant-loop decreases-loop
-add-out c = search rules
+overflow_add-out : tie.Need-overflow_add-out invariant-loop-i decreases-loop-i
+overflow_add-out c = search rules
 
-slice-write-out : tie.Need-slice-write-out invariant-loop decreases-loop
-slice-write-out c = search rules
+bounds-out-i : tie.Need-bounds-out-i invariant-loop-i decreases-loop-i
+bounds-out-i c = search rules
 
-same_length : tie.Need-same-length invariant-loop decreases-loop
-same_length c = search rules
+shape_of-out-then-i-n : tie.Need-shape_of-out-then-i-n invariant-loop-i decreases-loop-i
+shape_of-out-then-i-n c = search rules
 
-returns : tie.Need-returns invariant-loop decreases-loop
-returns c =
-    let t = c.before.before in
-    let l = t.before.before in
-    primary-end (primary-more l.loop.invariant t.if1.true _ (byte-is _ (byte l _)))
-    (omega (arith, t.before.loop-test.false))
+returns-then-i-n : tie.Need-returns-then-i-n invariant-loop-i decreases-loop-i
+returns-then-i-n c =
+    primary-end (primary-more c.loop-i.invariant c.if-i-n.true _ (byte-is _ (byte c.before.before.before.before.before _)))
+    (omega (arith, c.loop-i-test.false))
 
-same-length-2 : tie.Need-same-length-2 invariant-loop decreases-loop
-same-length-2 c = search rules
+shape_of-out-else-i-n : tie.Need-shape_of-out-else-i-n invariant-loop-i decreases-loop-i
+shape_of-out-else-i-n c = search rules
 
-returns-2 : tie.Need-returns-2 invariant-loop decreases-loop
-returns-2 c = primary-end c.before.before.loop.invariant (omega (arith, c.if1.false))
+returns-else-i-n : tie.Need-returns-else-i-n invariant-loop-i decreases-loop-i
+returns-else-i-n c = primary-end c.loop-i.invariant (omega (arith, c.if-i-n.false))
 
-pub put-primary-spec : {M : Type 1} → statement M
-put-primary-spec =
+pub put_primary_spec : {M : Type 1} → statement M
+put_primary_spec =
     tie.close
     (tie.spec
-    invariant-loop
-    decreases-loop
-    high-bytes-requires
-    loop-holds
-    sub-loop
-    add-put16
-    shared-slice-read-byte-pair
-    add-byte-pair
-    shared-slice-read-byte-pair-2
-    byte-pair-requires
+    invariant-loop-i
+    decreases-loop-i
+    high_bytes-high-requires
+    loop-i-init
+    overflow_sub-n
+    overflow_add-i
+    bounds-frame-i
+    overflow_add-i-in-loop-i
+    bounds-frame-i-in-loop-i
+    byte_pair-requires
     put16-requires
-    add-i
-    loop-less
-    loop-again
-    shared-slice-read-out
-    cast-out
-    element-copy-out-out
-    add-out
-    slice-write-out
-    same_length
-    returns
-    same-length-2
-    returns-2)
+    overflow_add-i-in-loop-i-2
+    loop-i-smaller
+    loop-i-preserved
+    bounds-frame-i-then-i-n
+    overflow_cast-out
+    bounds-bytes-frame
+    overflow_add-out
+    bounds-out-i
+    shape_of-out-then-i-n
+    returns-then-i-n
+    shape_of-out-else-i-n
+    returns-else-i-n)

@@ -16,156 +16,144 @@ use Rattle.pciv_edit.proofs.run.edit_list.Statement.{statement}
 use Rattle.pciv_edit.proofs.run.edit_list.Tie as tie
 
 -- the start, from the places after the check
-abbrev from-check : tie.After-check-buffer → tie.Start
-from-check c = c.before.before.before.before.before.before
+abbrev from-check : tie.After-check_buffer-checked → tie.Start
+from-check c = c.before.before.before.before.before
 
-is-refused : (c : tie.After-checked)
-    → counts_buffer 1 (from-check c.before.before).args.buffer.now ≡ refused c.checked.given.0.0
+is-refused : (c : tie.In-Refused)
+    → counts_buffer 1 (from-check c.before).args.buffer.now ≡ refused c.in-Refused.r
 is-refused c =
     ((buffer-refuse-alike 1 _).0 _).0
-    (file_answer-refused _ _ (sym c.checked.given.1 ∙ c.before.before.check-buffer.ensures))
+    (file_answer-refused _ _ (sym c.in-Refused.is ∙ c.check_buffer-checked.ensures))
 
-is-done : (c : tie.After-checked2)
-    → check_buffer 1 (from-check c.before.before).args.buffer.now ≡ done c.checked2.given.0.0
-is-done c = file_answer-done _ _ (sym c.checked2.given.1 ∙ c.before.before.check-buffer.ensures)
+is-done : (c : tie.In-Done)
+    → check_buffer 1 (from-check c.before).args.buffer.now ≡ done c.in-Done.s
+is-done c = file_answer-done _ _ (sym c.in-Done.is ∙ c.check_buffer-checked.ensures)
 
-is-map : (c : tie.After-checked2)
-    → counts_buffer 1 (from-check c.before.before).args.buffer.now ≡ done (counts_in c.checked2.given.0.0)
+is-map : (c : tie.In-Done)
+    → counts_buffer 1 (from-check c.before).args.buffer.now ≡ done (counts_in c.in-Done.s)
 is-map c = (((buffer-refuse-alike 1 _).1 _).0 (is-done c)).0
 
 -- as many distances as slots
-as_many : (c : tie.Else2)
-    → (let a = (from-check c.before.before.before.before.before).args in
+as_many : (c : tie.Else-distances-slots)
+    → (let a = (from-check c.before.before.before).args in
     length a.slots.now ≡ length a.distances.now)
-as_many c = omega (arith, c.if2.false, c.before.if1.false)
+as_many c = omega (arith, c.if-distances-slots.false, c.if-slots-distances.false)
 
 -- the answers fit
-fits : (c : tie.Else3)
-    → (let a = (from-check c.before.before.before.before.before.before).args in
+fits : (c : tie.Else-answers-slots)
+    → (let a = (from-check c.before.before.before.before).args in
     answer_len * length a.slots.now ≤ length a.answers.now)
-fits c = omega (arith, c.if3.false)
+fits c = omega (arith, c.if-answers-slots.false)
 
-check-buffer-requires : tie.Need-check-buffer-requires
-check-buffer-requires c κs = search rules
+check_buffer-checked-requires : tie.Need-check_buffer-checked-requires
+check_buffer-checked-requires c κs = search rules
 
-enum-known-checked : tie.Need-enum-known-checked
-enum-known-checked c = search rules
+enum_known-checked : tie.Need-enum_known-checked
+enum_known-checked c = search rules
 
-enum-known-checked-2 : tie.Need-enum-known-checked-2
-enum-known-checked-2 c = search rules
+enum_known-checked-in-Done-1 : tie.Need-enum_known-checked-in-Done-1
+enum_known-checked-in-Done-1 c = search rules
 
-refuse-number-requires : tie.Need-refuse-number-requires
-refuse-number-requires c κs = search rules
+refuse_number-requires : tie.Need-refuse_number-requires
+refuse_number-requires c κs = search rules
 
-same_length : tie.Need-same-length
-same_length c = search rules
+shape_of-buffer-then-slots-distances : tie.Need-shape_of-buffer-then-slots-distances
+shape_of-buffer-then-slots-distances c = search rules
 
-returns : tie.Need-returns
-returns c =
-    let told = c.before.before.before in
-    let a = (from-check told.before.before).args in
+returns-then-slots-distances : tie.Need-returns-then-slots-distances
+returns-then-slots-distances c =
+    let a = (from-check c.before.before.before).args in
     let b = a.buffer.now in
     let xs = a.slots.now in
     let ds = a.distances.now in
-    refused-run b xs ds _ a.answers.now _ c.refuse-number.ensures
-    (list-fewer-slots b xs ds _ (is-map told) (length a.answers.now) c.before.if1.true)
+    refused-run b xs ds _ a.answers.now _ c.refuse_number.ensures
+    (list-fewer-slots b xs ds _ (is-map c.before.before) (length a.answers.now) c.if-slots-distances.true)
 
-refuse-number-requires-2 : tie.Need-refuse-number-requires-2
-refuse-number-requires-2 c κs = search rules
+refuse_number-requires-then-distances-slots : tie.Need-refuse_number-requires-then-distances-slots
+refuse_number-requires-then-distances-slots c κs = search rules
 
-same-length-2 : tie.Need-same-length-2
-same-length-2 c = search rules
+shape_of-buffer-then-distances-slots : tie.Need-shape_of-buffer-then-distances-slots
+shape_of-buffer-then-distances-slots c = search rules
 
-returns-2 : tie.Need-returns-2
-returns-2 c =
-    let told = c.before.before.before.before in
-    let a = (from-check told.before.before).args in
+returns-then-distances-slots : tie.Need-returns-then-distances-slots
+returns-then-distances-slots c =
+    let a = (from-check c.before.before.before.before).args in
     let b = a.buffer.now in
     let xs = a.slots.now in
     let ds = a.distances.now in
-    refused-run b xs ds _ a.answers.now _ c.refuse-number2.ensures
-    (list-fewer-distances b xs ds _ (is-map told) (length a.answers.now) c.before.if2.true)
+    refused-run b xs ds _ a.answers.now _ c.refuse_number-then-distances-slots.ensures
+    (list-fewer-distances b xs ds _ (is-map c.before.before.before) (length a.answers.now) c.if-distances-slots.true)
 
-refuse-number-requires-3 : tie.Need-refuse-number-requires-3
-refuse-number-requires-3 c κs = search rules
+refuse_number-requires-then-answers-slots : tie.Need-refuse_number-requires-then-answers-slots
+refuse_number-requires-then-answers-slots c κs = search rules
 
-same-length-3 : tie.Need-same-length-3
-same-length-3 c = search rules
+shape_of-buffer-then-answers-slots : tie.Need-shape_of-buffer-then-answers-slots
+shape_of-buffer-then-answers-slots c = search rules
 
-returns-3 : tie.Need-returns-3
-returns-3 c =
-    let short = c.before in
-    let told = short.before.before.before.before in
-    let a = (from-check told.before.before).args in
+returns-then-answers-slots : tie.Need-returns-then-answers-slots
+returns-then-answers-slots c =
+    let a = (from-check c.before.before.before.before.before).args in
     let b = a.buffer.now in
     let xs = a.slots.now in
     let ds = a.distances.now in
-    refused-run b xs ds _ a.answers.now _ c.refuse-number3.ensures
-    (list-short b xs ds _ (is-map told) (length a.answers.now) (as_many short.before)
-    (omega (arith, short.if3.true)))
+    refused-run b xs ds _ a.answers.now _ c.refuse_number-then-answers-slots.ensures
+    (list-short b xs ds _ (is-map c.before.before.before.before) (length a.answers.now) (as_many c.before.before)
+    (omega (arith, c.if-answers-slots.true)))
 
-edit-all-requires : tie.Need-edit-all-requires
-edit-all-requires c κs =
-    let fit = c.before.before in
-    let told = fit.before.before.before.before in
-    let s = from-check told.before.before in
-    let known = told.before.before.before.before.before.before.before in
+edit_all-requires : tie.Need-edit_all-requires
+edit_all-requires c κs =
+    let s = from-check c.before.before.before.before.before.before in
     let held =
-    buffer_held 1 s.args.buffer.now _ (λ i. (known.slice-known.given i).fits) (is-done told) in
-    (record { checked = held.0; sum_is = held.1 }, (as_many fit.before, fits fit))
+    buffer_held 1 s.args.buffer.now _ (λ i. (c.slice_known-1.given i).fits) (is-done c.before.before.before.before.before) in
+    (record { checked = held.0; sum_is = held.1 }, (as_many c.before.before.before, fits c.before.before))
 
-same-length-4 : tie.Need-same-length-4
-same-length-4 c = search rules
+shape_of-buffer-in-Refused : tie.Need-shape_of-buffer-in-Refused
+shape_of-buffer-in-Refused c = search rules
 
-returns-4 : tie.Need-returns-4
-returns-4 c =
-    let told = c.before in
-    let a = (from-check told.before.before).args in
+returns-in-Refused : tie.Need-returns-in-Refused
+returns-in-Refused c =
+    let a = (from-check c.before).args in
     let b = a.buffer.now in
     let xs = a.slots.now in
     let ds = a.distances.now in
     refused-run b xs ds _ a.answers.now _ refl
-    (list-refused b xs ds _ (is-refused told) (length a.answers.now))
+    (list-refused b xs ds _ (is-refused c) (length a.answers.now))
 
-same-length-5 : tie.Need-same-length-5
-same-length-5 c = search rules
+shape_of-buffer-else-answers-slots : tie.Need-shape_of-buffer-else-answers-slots
+shape_of-buffer-else-answers-slots c = search rules
 
-same-length-6 : tie.Need-same-length-6
-same-length-6 c = search rules
+shape_of-answers : tie.Need-shape_of-answers
+shape_of-answers c = search rules
 
-returns-5 : tie.Need-returns-5
-returns-5 c =
-    let run = c.before.before.before.before in
-    let fit = run.before.before.before in
-    let told = fit.before.before.before.before in
-    let known = told.before.before.before.before.before in
-    let a = (from-check told.before.before).args in
+returns-else-answers-slots : tie.Need-returns-else-answers-slots
+returns-else-answers-slots c =
+    let a = (from-check c.before.before.before.before.before.before.before.before.before.before.before).args in
     let b = a.buffer.now in
     let xs = a.slots.now in
     let ds = a.distances.now in
-    made-run b xs ds (λ i. (known.before.before.slice-known.given i).fits)
-    (λ i. (let h = (known.shared-slice-known2.given i).fits in omega (arith, h))) _ (is-map told)
-    (as_many fit.before) a.answers.now (fits fit) _ _ run.edit-all.ensures.0 run.edit-all.ensures.1
+    made-run b xs ds (λ i. (c.slice_known-1.given i).fits)
+    (λ i. (let h = (c.shared_slice_known-2-1.given i).fits in omega (arith, h))) _ (is-map c.before.before.before.before.before.before.before.before.before.before)
+    (as_many c.before.before.before.before.before.before.before.before) a.answers.now (fits c.before.before.before.before.before.before.before) _ _ c.edit_all.ensures.0 c.edit_all.ensures.1
 
-pub edit-list-spec : {M : Type 1} → statement M
-edit-list-spec =
+pub edit_list_spec : {M : Type 1} → statement M
+edit_list_spec =
     tie.close
     (tie.spec
-    check-buffer-requires
-    enum-known-checked
-    enum-known-checked-2
-    refuse-number-requires
-    same_length
-    returns
-    refuse-number-requires-2
-    same-length-2
-    returns-2
-    refuse-number-requires-3
-    same-length-3
-    returns-3
-    edit-all-requires
-    same-length-4
-    returns-4
-    same-length-5
-    same-length-6
-    returns-5)
+    check_buffer-checked-requires
+    enum_known-checked
+    enum_known-checked-in-Done-1
+    refuse_number-requires
+    shape_of-buffer-then-slots-distances
+    returns-then-slots-distances
+    refuse_number-requires-then-distances-slots
+    shape_of-buffer-then-distances-slots
+    returns-then-distances-slots
+    refuse_number-requires-then-answers-slots
+    shape_of-buffer-then-answers-slots
+    returns-then-answers-slots
+    edit_all-requires
+    shape_of-buffer-in-Refused
+    returns-in-Refused
+    shape_of-buffer-else-answers-slots
+    shape_of-answers
+    returns-else-answers-slots)

@@ -19,108 +19,96 @@ use Rattle.pciv_edit.proofs.run.edit_next.Tie as tie
 abbrev the-edit : tie.Start → Edit
 the-edit s = record { slot = s.args.slot; distance = s.args.distance }
 
-bytes : (c : tie.After-slice-known) → Bytes c.before.args.buffer.now
-bytes c i = (c.slice-known.given i).fits
+bytes : (c : tie.After-slice_known-1) → Bytes c.args.buffer.now
+bytes c i = (c.slice_known-1.given i).fits
 
 small : (s : tie.Start) → (the-edit s).distance ≤ max_distance
 small s = omega (arith, s.ranges.distance)
 
-is-refused : (c : tie.After-told)
-    → (let s = c.before.before.before.before.before.before.before.before in
-    edit_outcome s.args.buffer.now (the-edit s) ≡ refused c.told.given.0.0)
+is-refused : (c : tie.In-Refused)
+    → (edit_outcome c.args.buffer.now (the-edit c.before.before.before.before.before.before.before) ≡ refused c.in-Refused.r)
 is-refused c =
-    let answer = c.before.before.before.before.edit-checked.ensures.0 in
-    file_answer-refused _ _ (sym c.told.given.1 ∙ ap (λ (r : EditAnswer). r.outcome) answer)
+    let answer = c.edit_checked-edited.ensures.0 in
+    file_answer-refused _ _ (sym c.in-Refused.is ∙ ap (λ (r : EditAnswer). r.outcome) answer)
 
-is-done : (c : tie.After-told2)
-    → (let s = c.before.before.before.before.before.before.before.before in
-    edit_outcome s.args.buffer.now (the-edit s) ≡ done c.told2.given.0.0)
+is-done : (c : tie.In-Done)
+    → (edit_outcome c.args.buffer.now (the-edit c.before.before.before.before.before.before.before) ≡ done c.in-Done.s)
 is-done c =
-    let answer = c.before.before.before.before.edit-checked.ensures.0 in
-    file_answer-done _ _ (sym c.told2.given.1 ∙ ap (λ (r : EditAnswer). r.outcome) answer)
+    let answer = c.edit_checked-edited.ensures.0 in
+    file_answer-done _ _ (sym c.in-Done.is ∙ ap (λ (r : EditAnswer). r.outcome) answer)
 
-moved : (c : tie.After-edit-checked)
-    → (let s = c.before.before.before.before in
-    c.edit-checked.result.moved ≡ edit_moved s.args.buffer.now (the-edit s))
-moved c = ap (λ (r : EditAnswer). r.moved) c.edit-checked.ensures.0
+moved : (c : tie.After-edit_checked-edited)
+    → (c.edit_checked-edited.result.moved ≡ edit_moved c.args.buffer.now (the-edit c.before.before.before.before))
+moved c = ap (λ (r : EditAnswer). r.moved) c.edit_checked-edited.ensures.0
 
-edit-checked-requires : tie.Need-edit-checked-requires
-edit-checked-requires c κs = search rules
+edit_checked-edited-requires : tie.Need-edit_checked-edited-requires
+edit_checked-edited-requires c κs = search rules
 
-enum-known-told : tie.Need-enum-known-told
-enum-known-told c = search rules
+enum_known-told : tie.Need-enum_known-told
+enum_known-told c = search rules
 
-put-cells-requires : tie.Need-put-cells-requires
-put-cells-requires c κs = search rules
+put_cells-requires : tie.Need-put_cells-requires
+put_cells-requires c κs = search rules
 
-enum-known-told-2 : tie.Need-enum-known-told-2
-enum-known-told-2 c = search rules
+enum_known-told-in-Done-1 : tie.Need-enum_known-told-in-Done-1
+enum_known-told-in-Done-1 c = search rules
 
-put-cells-requires-2 : tie.Need-put-cells-requires-2
-put-cells-requires-2 c κs = search rules
+put_cells-requires-in-Done : tie.Need-put_cells-requires-in-Done
+put_cells-requires-in-Done c κs = search rules
 
-same_length : tie.Need-same-length
-same_length c = search rules
+shape_of-buffer-in-Refused : tie.Need-shape_of-buffer-in-Refused
+shape_of-buffer-in-Refused c = search rules
 
-same-length-2 : tie.Need-same-length-2
-same-length-2 c = search rules
+shape_of-answers-in-Refused : tie.Need-shape_of-answers-in-Refused
+shape_of-answers-in-Refused c = search rules
 
-returns : tie.Need-returns
-returns c =
-    let put = c.before.before in
-    let told = put.before.before.before in
-    let edit = told.before.before.before.before in
-    let s = edit.before.before.before.before in
-    let a = s.args in
-    let is = is-refused told in
-    let same = edit.edit-checked.ensures.1 ∙ buffer-refused a.buffer.now (the-edit s) _ is in (
-      rw same s.requires.0,
+returns-in-Refused : tie.Need-returns-in-Refused
+returns-in-Refused c =
+    let a = c.args in
+    let is = is-refused c.before.before.before.before in
+    let same = c.edit_checked-edited.ensures.1 ∙ buffer-refused a.buffer.now (the-edit c.before.before.before.before.before.before.before.before.before.before.before) _ is in (
+      rw same c.requires.0,
       (
-        edit.edit-checked.ensures.1,
-        put.put-cells.ensures ∙ ap (sets a.answers.now a.at) (cells-refused _ _ _ (moved edit) _ is),
+        c.edit_checked-edited.ensures.1,
+        c.put_cells.ensures ∙ ap (sets a.answers.now a.at) (cells-refused _ _ _ (moved c.before.before.before.before.before.before.before) _ is),
       ),
     )
 
-same-length-3 : tie.Need-same-length-3
-same-length-3 c = search rules
+shape_of-buffer-in-Done : tie.Need-shape_of-buffer-in-Done
+shape_of-buffer-in-Done c = search rules
 
-same-length-4 : tie.Need-same-length-4
-same-length-4 c = search rules
+shape_of-answers-in-Done : tie.Need-shape_of-answers-in-Done
+shape_of-answers-in-Done c = search rules
 
-returns-2 : tie.Need-returns-2
-returns-2 c =
-    let put = c.before.before in
-    let told = put.before.before.before in
-    let edit = told.before.before.before.before in
-    let known = edit.before.before.before in
-    let s = known.before in
-    let a = s.args in
-    let is = is-done told in (
-      rw edit.edit-checked.ensures.1
+returns-in-Done : tie.Need-returns-in-Done
+returns-in-Done c =
+    let a = c.args in
+    let is = is-done c.before.before.before.before in (
+      rw c.edit_checked-edited.ensures.1
           (record {
             checked =
-                accepted-checked a.buffer.now a.n a.k (bytes known) s.requires.0.checked (the-edit s) (small s) _ is;
+                accepted-checked a.buffer.now a.n a.k (bytes c.before.before.before.before.before.before.before.before.before.before) c.requires.0.checked (the-edit c.before.before.before.before.before.before.before.before.before.before.before) (small c.before.before.before.before.before.before.before.before.before.before.before) _ is;
             sum_is =
-                accepted-sum a.buffer.now a.n a.k (bytes known) s.requires.0.checked (the-edit s) (small s) _ is;
+                accepted-sum a.buffer.now a.n a.k (bytes c.before.before.before.before.before.before.before.before.before.before) c.requires.0.checked (the-edit c.before.before.before.before.before.before.before.before.before.before.before) (small c.before.before.before.before.before.before.before.before.before.before.before) _ is;
           }),
       (
-        edit.edit-checked.ensures.1,
-        put.put-cells2.ensures ∙ ap (sets a.answers.now a.at) (cells-done _ _ _ (moved edit) _ is),
+        c.edit_checked-edited.ensures.1,
+        c.put_cells-in-Done.ensures ∙ ap (sets a.answers.now a.at) (cells-done _ _ _ (moved c.before.before.before.before.before.before.before) _ is),
       ),
     )
 
-pub edit-next-spec : {M : Type 1} → statement M
-edit-next-spec =
+pub edit_next_spec : {M : Type 1} → statement M
+edit_next_spec =
     tie.close
     (tie.spec
-    edit-checked-requires
-    enum-known-told
-    put-cells-requires
-    enum-known-told-2
-    put-cells-requires-2
-    same_length
-    same-length-2
-    returns
-    same-length-3
-    same-length-4
-    returns-2)
+    edit_checked-edited-requires
+    enum_known-told
+    put_cells-requires
+    enum_known-told-in-Done-1
+    put_cells-requires-in-Done
+    shape_of-buffer-in-Refused
+    shape_of-answers-in-Refused
+    returns-in-Refused
+    shape_of-buffer-in-Done
+    shape_of-answers-in-Done
+    returns-in-Done)

@@ -12,71 +12,71 @@ use borrow.Author.Rules.{rules}
 use Rattle.pciv_edit.proofs.run.put_cells.Statement.{statement}
 use Rattle.pciv_edit.proofs.run.put_cells.Tie as tie
 
-abbrev invariant-loop : tie.invariant-loop
-invariant-loop answers₀ at moved cells j₀ answers j =
+abbrev invariant-loop-j : tie.invariant-loop-j
+invariant-loop-j answers₀ at moved cells j₀ answers j =
     (j ≤ answer_len)
     × (length answers ≡ length answers₀)
     × (sets answers₀ at cells ≡ sets answers (at + j) (drop j cells))
 
-abbrev decreases-loop : tie.decreases-loop
-decreases-loop answers₀ at moved cells j₀ answers j = answer_len - j
+abbrev decreases-loop-j : tie.decreases-loop-j
+decreases-loop-j answers₀ at moved cells j₀ answers j = answer_len - j
 
-loop-holds : tie.Need-loop-init invariant-loop decreases-loop
-loop-holds c = (search rules, refl, rw add-zero)
+loop-j-init : tie.Need-loop-j-init invariant-loop-j decreases-loop-j
+loop-j-init c = (search rules, refl, rw add-zero)
 
-mul-answers : tie.Need-overflow-mul-answers invariant-loop decreases-loop
-mul-answers c = search rules
+offset_bounds-cells-j : tie.Need-offset_bounds-cells-j invariant-loop-j decreases-loop-j
+offset_bounds-cells-j c = search rules
 
-array-read-answers : tie.Need-array-read-answers invariant-loop decreases-loop
-array-read-answers c = search rules
+bounds-cells-j : tie.Need-bounds-cells-j invariant-loop-j decreases-loop-j
+bounds-cells-j c = search rules
 
-add-answers : tie.Need-overflow-add-answers invariant-loop decreases-loop
-add-answers c = search rules
+overflow_add-answers : tie.Need-overflow_add-answers invariant-loop-j decreases-loop-j
+overflow_add-answers c = search rules
 
-mul-answers-2 : tie.Need-overflow-mul-answers-2 invariant-loop decreases-loop
-mul-answers-2 c = search rules
+offset_bounds-answers-at : tie.Need-offset_bounds-answers-at invariant-loop-j decreases-loop-j
+offset_bounds-answers-at c = search rules
 
-slice-write-answers : tie.Need-slice-write-answers invariant-loop decreases-loop
-slice-write-answers c = search rules
+bounds-answers-at : tie.Need-bounds-answers-at invariant-loop-j decreases-loop-j
+bounds-answers-at c = search rules
 
-add-j : tie.Need-overflow-add-j invariant-loop decreases-loop
-add-j c = search rules
+overflow_add-j : tie.Need-overflow_add-j invariant-loop-j decreases-loop-j
+overflow_add-j c = search rules
 
-loop-less : tie.Need-loop-smaller invariant-loop decreases-loop
-loop-less c = search rules
+loop-j-smaller : tie.Need-loop-j-smaller invariant-loop-j decreases-loop-j
+loop-j-smaller c = search rules
 
-loop-again : tie.Need-loop-preserved invariant-loop decreases-loop
-loop-again c =
-    let l = c.before.loop in
-    let a = c.before.before.args in
+loop-j-preserved : tie.Need-loop-j-preserved invariant-loop-j decreases-loop-j
+loop-j-preserved c =
+    let l = c.loop-j in
+    let a = c.args in
     let here : ℕ = a.at + l.j in
     let next : ℕ = a.at + (l.j + 1) in
     let more = sets-copy-more (cells_of a.r a.s a.moved) l.answers 0 here l.j next (omega arith) (omega arith) in
     (search rules, simp length-set l.invariant.1, l.invariant.2 ∙ more)
 
-same_length : tie.Need-same-length invariant-loop decreases-loop
-same_length c = search rules
+shape_of-answers : tie.Need-shape_of-answers invariant-loop-j decreases-loop-j
+shape_of-answers c = search rules
 
-returns : tie.Need-returns invariant-loop decreases-loop
+returns : tie.Need-returns invariant-loop-j decreases-loop-j
 returns c =
-    let l = c.before.loop in
-    let a = c.before.before.args in
-    sym (l.invariant.2 ∙ sets-copy-end (cells_of a.r a.s a.moved) l.answers (a.at + l.j) l.j c.loop-test.false)
+    let l = c.loop-j in
+    let a = c.args in
+    sym (l.invariant.2 ∙ sets-copy-end (cells_of a.r a.s a.moved) l.answers (a.at + l.j) l.j c.loop-j-test.false)
 
-pub put-cells-spec : {M : Type 1} → statement M
-put-cells-spec =
+pub put_cells_spec : {M : Type 1} → statement M
+put_cells_spec =
     tie.close
     (tie.spec
-    invariant-loop
-    decreases-loop
-    loop-holds
-    mul-answers
-    array-read-answers
-    add-answers
-    mul-answers-2
-    slice-write-answers
-    add-j
-    loop-less
-    loop-again
-    same_length
+    invariant-loop-j
+    decreases-loop-j
+    loop-j-init
+    offset_bounds-cells-j
+    bounds-cells-j
+    overflow_add-answers
+    offset_bounds-answers-at
+    bounds-answers-at
+    overflow_add-j
+    loop-j-smaller
+    loop-j-preserved
+    shape_of-answers
     returns)

@@ -8,37 +8,44 @@ use borrow.Author.Rules.{rules}
 use Rattle.pciv_layout.proofs.entries.wrong_entry.Statement.{statement}
 use Rattle.pciv_layout.proofs.entries.wrong_entry.Tie as tie
 
-returns : tie.Need-returns
-returns c =
-    let a = c.before.args in
+returns-then-primary-slot : tie.Need-returns-then-primary-slot
+returns-then-primary-slot c =
+    let a = c.args in
     let b = a.primary.now in
     sym (wrong_entry-outside (length b) (at b) a.lowest a.slot a.distance (omega arith))
 
-returns-2 : tie.Need-returns-2
-returns-2 c =
-    let a = c.before.before.args in
+returns-then-slot-lowest : tie.Need-returns-then-slot-lowest
+returns-then-slot-lowest c =
+    let a = c.args in
     let b = a.primary.now in
     sym (wrong_entry-low (length b) (at b) a.lowest a.slot a.distance (omega arith))
 
-cast-if3 : tie.Need-overflow-cast-if3
-cast-if3 c = search rules
+overflow_cast-t-7 : tie.Need-overflow_cast-t-7
+overflow_cast-t-7 c = search rules
 
-returns-3 : tie.Need-returns-3
-returns-3 c =
-    let a = c.before.before.before.args in
+returns-then-distance : tie.Need-returns-then-distance
+returns-then-distance c =
+    let a = c.args in
     let b = a.primary.now in
     sym (wrong_entry-inline (length b) (at b) a.lowest a.slot a.distance (omega arith))
 
-shared-slice-read-result : tie.Need-shared-slice-read-result
-shared-slice-read-result c = search rules
+bounds-primary-slot : tie.Need-bounds-primary-slot
+bounds-primary-slot c = search rules
 
-returns-4 : tie.Need-returns-4
-returns-4 c =
-    let a = c.before.before.before.before.args in
+returns : tie.Need-returns
+returns c =
+    let a = c.args in
     let b = a.primary.now in
     sym
     (wrong_entry-byte (length b) (at b) a.lowest a.slot a.distance (omega arith) (omega arith) (omega arith))
 
-pub wrong-entry-spec : {M : Type 1} → statement M
-wrong-entry-spec =
-    tie.close (tie.spec returns returns-2 cast-if3 returns-3 shared-slice-read-result returns-4)
+pub wrong_entry_spec : {M : Type 1} → statement M
+wrong_entry_spec =
+    tie.close
+    (tie.spec
+    returns-then-primary-slot
+    returns-then-slot-lowest
+    overflow_cast-t-7
+    returns-then-distance
+    bounds-primary-slot
+    returns)

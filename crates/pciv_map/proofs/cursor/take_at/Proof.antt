@@ -14,69 +14,61 @@ use Rattle.pciv_map.proofs.cursor.take_at.Tie as tie
 abbrev parts : tie.Start → Parts
 parts s = file_parts s.args.file.now s.args.n s.args.k
 
-bytes : (c : tie.After-shared-slice-known) → ((i : ℕ) → (parts c.before).byte i < 256)
-bytes c i = (c.shared-slice-known.given (40 + i)).fits
+bytes : (c : tie.After-shared_slice_known-1) → ((i : ℕ) → (parts c.before).byte i < 256)
+bytes c i = (c.shared_slice_known-1.given (40 + i)).fits
 
-add-byte : tie.Need-overflow-add-byte
-add-byte c = search rules
+overflow_add-byte : tie.Need-overflow_add-byte
+overflow_add-byte c = search rules
 
-shared-slice-read-byte : tie.Need-shared-slice-read-byte
-shared-slice-read-byte c =
-    let s = c.before.before in
-    omega (arith, primary-inside s.args.file.now s.args.n s.args.k s.requires.0, s.requires.1.0)
+bounds-file-slot : tie.Need-bounds-file-slot
+bounds-file-slot c =
+    omega (arith, primary-inside c.args.file.now c.args.n c.args.k c.requires.0, c.requires.1.0)
 
-cast-t11 : tie.Need-overflow-cast-t11
-cast-t11 c = search rules
+overflow_cast-result : tie.Need-overflow_cast-result
+overflow_cast-result c = search rules
+
+returns-then-byte-lt-SENTINEL : tie.Need-returns-then-byte-lt-SENTINEL
+returns-then-byte-lt-SENTINEL c =
+    let P = parts c.before.before.before in
+    record {
+      is = sym (value_of-inline P c.requires.0.parts c.args.slot c.if-byte-lt-SENTINEL.true);
+      next =
+          cursor-inline P c.requires.0.parts (bytes c.before.before) c.args.j c.args.slot c.requires.1.1 c.requires.1.0
+          c.if-byte-lt-SENTINEL.true;
+    }
+
+entry_distance-requires : tie.Need-entry_distance-requires
+entry_distance-requires c κs =
+    let at =
+    cursor-at (parts c.before.before.before) c.requires.0.parts (bytes c.before.before) c.args.j c.args.slot c.requires.1.1 c.requires.1.0
+    c.if-byte-lt-SENTINEL.false in
+    entry-inside c.args.file.now c.args.n c.args.k c.requires.0 c.args.j at.0
+
+overflow_add-result : tie.Need-overflow_add-result
+overflow_add-result c =
+    omega (arith, c.requires.1.1.few, c.requires.0.header.few, c.requires.0.header.small)
 
 returns : tie.Need-returns
 returns c =
-    let k = c.before.before in
-    let s = k.before in
-    let P = parts s in
+    let P = parts c.before.before.before.before in
+    let overflows = c.if-byte-lt-SENTINEL.false in
     record {
-      is = sym (value_of-inline P s.requires.0.parts s.args.slot c.if1.true);
-      next =
-          cursor-inline P s.requires.0.parts (bytes k) s.args.j s.args.slot s.requires.1.1 s.requires.1.0
-          c.if1.true;
-    }
-
-entry-distance-requires : tie.Need-entry-distance-requires
-entry-distance-requires c κs =
-    let k = c.before.before in
-    let s = k.before in
-    let at =
-    cursor-at (parts s) s.requires.0.parts (bytes k) s.args.j s.args.slot s.requires.1.1 s.requires.1.0
-    c.if1.false in
-    entry-inside s.args.file.now s.args.n s.args.k s.requires.0 s.args.j at.0
-
-add-t7 : tie.Need-overflow-add-t7
-add-t7 c =
-    let s = c.before.before.before.before in
-    omega (arith, s.requires.1.1.few, s.requires.0.header.few, s.requires.0.header.small)
-
-returns-2 : tie.Need-returns-2
-returns-2 c =
-    let k = c.before.before.before in
-    let s = k.before in
-    let P = parts s in
-    let overflows = c.before.if1.false in
-    record {
-      is = c.entry-distance.ensures
-          ∙ value-at P s.requires.0.parts (bytes k) s.args.j s.args.slot s.requires.1.1 s.requires.1.0
+      is = c.entry_distance.ensures
+          ∙ value-at P c.requires.0.parts (bytes c.before.before.before) c.args.j c.args.slot c.requires.1.1 c.requires.1.0
           overflows;
       next =
-          cursor-more P s.requires.0.parts (bytes k) s.args.j s.args.slot s.requires.1.1 s.requires.1.0
+          cursor-more P c.requires.0.parts (bytes c.before.before.before) c.args.j c.args.slot c.requires.1.1 c.requires.1.0
           overflows;
     }
 
-pub take-at-spec : {M : Type 1} → statement M
-take-at-spec =
+pub take_at_spec : {M : Type 1} → statement M
+take_at_spec =
     tie.close
     (tie.spec
-    add-byte
-    shared-slice-read-byte
-    cast-t11
-    returns
-    entry-distance-requires
-    add-t7
-    returns-2)
+    overflow_add-byte
+    bounds-file-slot
+    overflow_cast-result
+    returns-then-byte-lt-SENTINEL
+    entry_distance-requires
+    overflow_add-result
+    returns)

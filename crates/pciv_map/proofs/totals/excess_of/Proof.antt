@@ -15,72 +15,67 @@ use Rattle.pciv_format.proofs.MapLaws.{entry-inside, excess_lt}
 use Rattle.pciv_map.proofs.totals.excess_of.Statement.{statement}
 use Rattle.pciv_map.proofs.totals.excess_of.Tie as tie
 
-abbrev invariant-loop : tie.invariant-loop
-invariant-loop file n k sum₀ j₀ sum j =
+abbrev invariant-loop-j : tie.invariant-loop-j
+invariant-loop-j file n k sum₀ j₀ sum j =
     Added (excess (file_parts file n k)) k (sum_from (excess (file_parts file n k)) 0 k) j sum
 
-abbrev decreases-loop : tie.decreases-loop
-decreases-loop file n k sum₀ j₀ sum j = k - j
+abbrev decreases-loop-j : tie.decreases-loop-j
+decreases-loop-j file n k sum₀ j₀ sum j = k - j
 
 -- the parts of the file
-abbrev parts : tie.Start invariant-loop decreases-loop → Parts
+abbrev parts : tie.Start invariant-loop-j decreases-loop-j → Parts
 parts s = file_parts s.args.file.now s.args.n s.args.k
 
-bytes : (c : tie.After-shared-slice-known invariant-loop decreases-loop) → Bytes c.before.args.file.now
-bytes c i = (c.shared-slice-known.given i).fits
+bytes : (c : tie.After-shared_slice_known-1 invariant-loop-j decreases-loop-j) → Bytes c.args.file.now
+bytes c i = (c.shared_slice_known-1.given i).fits
 
-loop-holds : tie.Need-loop-init invariant-loop decreases-loop
-loop-holds c = rw sub-zero at (added_none (excess (parts c.before)) 0 c.before.args.k (omega arith))
+loop-j-init : tie.Need-loop-j-init invariant-loop-j decreases-loop-j
+loop-j-init c = rw sub-zero at (added_none (excess (parts c.before)) 0 c.args.k (omega arith))
 
-entry-distance-requires : tie.Need-entry-distance-requires invariant-loop decreases-loop
-entry-distance-requires c κs =
-    let s = c.before.before.before in
-    entry-inside s.args.file.now s.args.n s.args.k s.requires c.before.loop.j (omega arith)
+entry_distance-requires : tie.Need-entry_distance-requires invariant-loop-j decreases-loop-j
+entry_distance-requires c κs =
+    entry-inside c.args.file.now c.args.n c.args.k c.requires c.loop-j.j (omega arith)
 
-cast-sum : tie.Need-overflow-cast-sum invariant-loop decreases-loop
-cast-sum c = search rules
+overflow_cast-sum : tie.Need-overflow_cast-sum invariant-loop-j decreases-loop-j
+overflow_cast-sum c = search rules
 
-sub-sum : tie.Need-overflow-sub-sum invariant-loop decreases-loop
-sub-sum c =
-    let d = c.before.before in
-    let s = d.before.before in
-    omega (arith, (entry-good (parts s) s.requires.parts d.loop.j (omega arith)).overflows)
+overflow_sub-sum : tie.Need-overflow_sub-sum invariant-loop-j decreases-loop-j
+overflow_sub-sum c =
+    omega (arith, (entry-good (parts c.before.before.before.before) c.requires.parts c.loop-j.j (omega arith)).overflows)
 
-cast-sum-2 : tie.Need-overflow-cast-sum-2 invariant-loop decreases-loop
-cast-sum-2 c = search rules
+overflow_cast-sum-in-loop-j : tie.Need-overflow_cast-sum-in-loop-j invariant-loop-j decreases-loop-j
+overflow_cast-sum-in-loop-j c = search rules
 
-loop-again : tie.Need-loop-preserved invariant-loop decreases-loop
-loop-again c = rw c.entry-distance.ensures (added-one c.before.before.loop.invariant (omega arith))
+loop-j-preserved : tie.Need-loop-j-preserved invariant-loop-j decreases-loop-j
+loop-j-preserved c = rw c.entry_distance.ensures (added-one c.loop-j.invariant (omega arith))
 
-add-sum : tie.Need-overflow-add-sum invariant-loop decreases-loop
-add-sum c =
-    let known = c.before.before.before in
-    let s = known.before in
-    let fits = excess_lt s.args.file.now s.args.n s.args.k s.requires (bytes known) in
-    omega (arith, (loop-again c).rest)
+overflow_add-sum : tie.Need-overflow_add-sum invariant-loop-j decreases-loop-j
+overflow_add-sum c =
+    let fits = excess_lt c.args.file.now c.args.n c.args.k c.requires (bytes c.before.before.before) in
+    omega (arith, (loop-j-preserved c).rest)
 
-add-j : tie.Need-overflow-add-j invariant-loop decreases-loop
-add-j c = search rules
+overflow_add-j : tie.Need-overflow_add-j invariant-loop-j decreases-loop-j
+overflow_add-j c = search rules
 
-loop-less : tie.Need-loop-smaller invariant-loop decreases-loop
-loop-less c = search rules
+loop-j-smaller : tie.Need-loop-j-smaller invariant-loop-j decreases-loop-j
+loop-j-smaller c = search rules
 
-returns : tie.Need-returns invariant-loop decreases-loop
-returns c = added-all c.before.loop.invariant (omega arith)
+returns : tie.Need-returns invariant-loop-j decreases-loop-j
+returns c = added-all c.loop-j.invariant (omega arith)
 
-pub excess-of-spec : {M : Type 1} → statement M
-excess-of-spec =
+pub excess_of_spec : {M : Type 1} → statement M
+excess_of_spec =
     tie.close
     (tie.spec
-    invariant-loop
-    decreases-loop
-    loop-holds
-    entry-distance-requires
-    cast-sum
-    sub-sum
-    cast-sum-2
-    add-sum
-    add-j
-    loop-less
-    loop-again
+    invariant-loop-j
+    decreases-loop-j
+    loop-j-init
+    entry_distance-requires
+    overflow_cast-sum
+    overflow_sub-sum
+    overflow_cast-sum-in-loop-j
+    overflow_add-sum
+    overflow_add-j
+    loop-j-smaller
+    loop-j-preserved
     returns)

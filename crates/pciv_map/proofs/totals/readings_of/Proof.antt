@@ -6,17 +6,17 @@ use Rattle.pciv_format.proofs.ReadingsLaws.{readings-rest, readings-of-primary}
 use Rattle.pciv_map.proofs.totals.readings_of.Statement.{statement}
 use Rattle.pciv_map.proofs.totals.readings_of.Tie as tie
 
-count-byte-requires : tie.Need-count-byte-requires
-count-byte-requires c κs = search rules
+count_byte-requires : tie.Need-count_byte-requires
+count_byte-requires c κs = search rules
 
-sub-result : tie.Need-overflow-sub-result
-sub-result c = omega (arith, readings-rest c.before.before.args.bytes.now)
+overflow_sub-result : tie.Need-overflow_sub-result
+overflow_sub-result c = omega (arith, readings-rest c.args.bytes.now)
 
 returns : tie.Need-returns
 returns c =
-    let p = c.before.before.args.bytes.now in
+    let p = c.args.bytes.now in
     let rest = readings-rest p in
     (omega (arith, rest), λ xs l e. omega (arith, rest, readings-of-primary p xs l e))
 
-pub readings-of-spec : {M : Type 1} → statement M
-readings-of-spec = tie.close (tie.spec count-byte-requires sub-result returns)
+pub readings_of_spec : {M : Type 1} → statement M
+readings_of_spec = tie.close (tie.spec count_byte-requires overflow_sub-result returns)

@@ -9,54 +9,49 @@ use Rattle.pciv_format.proofs.MapLaws.{primary-inside, sum-primary, sum_lt}
 use Rattle.pciv_map.proofs.totals.sum_of.Statement.{statement}
 use Rattle.pciv_map.proofs.totals.sum_of.Tie as tie
 
-bytes : (c : tie.After-shared-slice-known) → Bytes c.before.args.file.now
-bytes c i = (c.shared-slice-known.given i).fits
+bytes : (c : tie.After-shared_slice_known-1) → Bytes c.args.file.now
+bytes c i = (c.shared_slice_known-1.given i).fits
 
-add-end : tie.Need-overflow-add-end
-add-end c = search rules
+overflow_add-end : tie.Need-overflow_add-end
+overflow_add-end c = search rules
 
-sub-sum-bytes : tie.Need-overflow-sub-sum-bytes
-sub-sum-bytes c = search rules
+slice_bounds-sum_bytes-count : tie.Need-slice_bounds-sum_bytes-count
+slice_bounds-sum_bytes-count c = search rules
 
-part-sum-bytes-start : tie.Need-slice-bounds-sum-bytes-start
-part-sum-bytes-start c = search rules
+slice_bounds-sum_bytes-start : tie.Need-slice_bounds-sum_bytes-start
+slice_bounds-sum_bytes-start c = search rules
 
-part-sum-bytes-end : tie.Need-slice-bounds-sum-bytes-end
-part-sum-bytes-end c =
-    let s = c.before in
-    primary-inside s.args.file.now s.args.n s.args.k s.requires
+slice_bounds-sum_bytes-end : tie.Need-slice_bounds-sum_bytes-end
+slice_bounds-sum_bytes-end c =
+    primary-inside c.args.file.now c.args.n c.args.k c.requires
 
-sum-bytes-requires : tie.Need-sum-bytes-requires
-sum-bytes-requires c κs = search rules
+sum_bytes-requires : tie.Need-sum_bytes-requires
+sum_bytes-requires c κs = search rules
 
-excess-of-requires : tie.Need-excess-of-requires
-excess-of-requires c κs = search rules
+excess_of-requires : tie.Need-excess_of-requires
+excess_of-requires c κs = search rules
 
 returns : tie.Need-returns
 returns c =
-    let known = c.before.before.before in
-    let s = known.before in
-    let a = s.args in
-    let primary = rw (add-sub_cancel_left 40 a.n) at c.before.sum-bytes.ensures in
-    ap₂ (λ (x y : ℕ). x + y) primary c.excess-of.ensures
-    ∙ sum-primary a.file.now a.n a.k s.requires (bytes known)
+    let a = c.args in
+    let primary = rw (add-sub_cancel_left 40 a.n) at c.sum_bytes.ensures in
+    ap₂ (λ (x y : ℕ). x + y) primary c.excess_of.ensures
+    ∙ sum-primary a.file.now a.n a.k c.requires (bytes c.before.before.before)
 
-add-result : tie.Need-overflow-add-result
-add-result c =
-    let known = c.before.before.before in
-    let s = known.before in
-    let fits = sum_lt s.args.file.now s.args.n s.args.k s.requires (bytes known) in
+overflow_add-result : tie.Need-overflow_add-result
+overflow_add-result c =
+    let fits = sum_lt c.args.file.now c.args.n c.args.k c.requires (bytes c.before.before.before) in
     omega (arith, returns c)
 
-pub sum-of-spec : {M : Type 1} → statement M
-sum-of-spec =
+pub sum_of_spec : {M : Type 1} → statement M
+sum_of_spec =
     tie.close
     (tie.spec
-    add-end
-    sub-sum-bytes
-    part-sum-bytes-start
-    part-sum-bytes-end
-    sum-bytes-requires
-    excess-of-requires
-    add-result
+    overflow_add-end
+    slice_bounds-sum_bytes-count
+    slice_bounds-sum_bytes-start
+    slice_bounds-sum_bytes-end
+    sum_bytes-requires
+    excess_of-requires
+    overflow_add-result
     returns)

@@ -5,16 +5,15 @@ use borrow.Author.Rules.{rules}
 use Rattle.pciv_map.proofs.totals.summary_of.Statement.{statement}
 use Rattle.pciv_map.proofs.totals.summary_of.Tie as tie
 
-sum-of-requires : tie.Need-sum-of-requires
-sum-of-requires c κs = search rules
+sum_of-requires : tie.Need-sum_of-requires
+sum_of-requires c κs = search rules
 
 summarized-requires : tie.Need-summarized-requires
 summarized-requires c κs = search rules
 
 returns : tie.Need-returns
 returns c =
-    let summed = c.before in
-    c.summarized.ensures ∙ ap (summarize summed.before.before.args.counts) summed.sum_of.ensures
+    c.summarized.ensures ∙ ap (summarize c.args.counts) c.sum_of.ensures
 
-pub summary-of-spec : {M : Type 1} → statement M
-summary-of-spec = tie.close (tie.spec sum-of-requires summarized-requires returns)
+pub summary_of_spec : {M : Type 1} → statement M
+summary_of_spec = tie.close (tie.spec sum_of-requires summarized-requires returns)

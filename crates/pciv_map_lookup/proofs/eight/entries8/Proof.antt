@@ -10,39 +10,46 @@ use Rattle.pciv_map_lookup.proofs.EightLaws.{overflow-some, eight-start}
 use Rattle.pciv_map_lookup.proofs.eight.entries8.Statement.{statement}
 use Rattle.pciv_map_lookup.proofs.eight.entries8.Tie as tie
 
-abbrev invariant-loop : tie.invariant-loop
-invariant-loop file n k slots places first₀ len₀ first len = (0 < len) × Eight (file_parts file n k) slots places first len
+abbrev invariant-loop-len : tie.invariant-loop-len
+invariant-loop-len file n k slots places first₀ len₀ first len = (0 < len) × Eight (file_parts file n k) slots places first len
 
-abbrev decreases-loop : tie.decreases-loop
-decreases-loop file n k slots places first₀ len₀ first len = len
+abbrev decreases-loop-len : tie.decreases-loop-len
+decreases-loop-len file n k slots places first₀ len₀ first len = len
 
-loop-holds : tie.Need-loop-init invariant-loop decreases-loop
-loop-holds c =
-    let pre = c.before.before.requires in
+loop-len-init : tie.Need-loop-len-init invariant-loop-len decreases-loop-len
+loop-len-init c =
+    let pre = c.requires in
     (overflow-some _ pre.0.parts _ _ _ (pre.1.each 0 (omega arith)), eight-start _ _ _)
 
-halve8-requires : tie.Need-halve8-requires invariant-loop decreases-loop
+halve8-requires : tie.Need-halve8-requires invariant-loop-len decreases-loop-len
 halve8-requires c κs =
-    let at-loop = c.before.before in
-    let pre = at-loop.before.before.before.requires in
-    (pre.0, (pre.1, at-loop.loop.invariant))
+    let pre = c.requires in
+    (pre.0, (pre.1, c.loop-len.invariant))
 
-sub-len : tie.Need-overflow-sub-len invariant-loop decreases-loop
-sub-len c = search rules
+overflow_sub-len : tie.Need-overflow_sub-len invariant-loop-len decreases-loop-len
+overflow_sub-len c = search rules
 
-loop-less : tie.Need-loop-smaller invariant-loop decreases-loop
-loop-less c = search rules
+loop-len-smaller : tie.Need-loop-len-smaller invariant-loop-len decreases-loop-len
+loop-len-smaller c = search rules
 
-loop-again : tie.Need-loop-preserved invariant-loop decreases-loop
-loop-again c = (omega arith, c.halve8.ensures)
+loop-len-preserved : tie.Need-loop-len-preserved invariant-loop-len decreases-loop-len
+loop-len-preserved c = (omega arith, c.halve8.ensures)
 
-returns : tie.Need-returns invariant-loop decreases-loop
+returns : tie.Need-returns invariant-loop-len decreases-loop-len
 returns c =
-    let l = c.before.loop in
-    let one : l.len ≡ 1 = omega (arith, l.invariant.0, c.loop-test.false) in
+    let l = c.loop-len in
+    let one : l.len ≡ 1 = omega (arith, l.invariant.0, c.loop-len-test.false) in
     rw one at l.invariant.1
 
-pub entries8-spec : {M : Type 1} → statement M
-entries8-spec =
+pub entries8_spec : {M : Type 1} → statement M
+entries8_spec =
     tie.close
-    (tie.spec invariant-loop decreases-loop loop-holds halve8-requires sub-len loop-less loop-again returns)
+    (tie.spec
+    invariant-loop-len
+    decreases-loop-len
+    loop-len-init
+    halve8-requires
+    overflow_sub-len
+    loop-len-smaller
+    loop-len-preserved
+    returns)

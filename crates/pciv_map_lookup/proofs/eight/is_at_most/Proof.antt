@@ -4,14 +4,14 @@ use Rattle.pciv_map_lookup.proofs.EightLaws.{flag-leb}
 use Rattle.pciv_map_lookup.proofs.eight.is_at_most.Statement.{statement}
 use Rattle.pciv_map_lookup.proofs.eight.is_at_most.Tie as tie
 
-add-result : tie.Need-overflow-add-result
-add-result c = search rules
+overflow_add-result : tie.Need-overflow_add-result
+overflow_add-result c = search rules
 
-sub-result : tie.Need-overflow-sub-result
-sub-result c = search rules
+overflow_sub-result : tie.Need-overflow_sub-result
+overflow_sub-result c = search rules
 
 returns : tie.Need-returns
 returns c = flag-leb c.args.x c.args.y c.requires.0 c.requires.1
 
-pub is-at-most-spec : {M : Type 1} → statement M
-is-at-most-spec = tie.close (tie.spec add-result sub-result returns)
+pub is_at_most_spec : {M : Type 1} → statement M
+is_at_most_spec = tie.close (tie.spec overflow_add-result overflow_sub-result returns)

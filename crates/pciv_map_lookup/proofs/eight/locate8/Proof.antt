@@ -12,110 +12,106 @@ use Rattle.pciv_format.proofs.MapLaws.{entry-inside}
 use Rattle.pciv_map_lookup.proofs.eight.locate8.Statement.{statement}
 use Rattle.pciv_map_lookup.proofs.eight.locate8.Tie as tie
 
-abbrev invariant-loop : tie.invariant-loop
-invariant-loop distances₀ entries₀ file n k slots places found q₀ distances entries q =
+abbrev invariant-loop-q : tie.invariant-loop-q
+invariant-loop-q distances₀ entries₀ file n k slots places found q₀ distances entries q =
     (q ≤ 8)
     × Filling (at_place (value_of (file_parts file n k)) slots) places distances₀ distances 8 q
     × Filling (at_place (entry_of (file_parts file n k)) slots) places entries₀ entries 8 q
 
-abbrev decreases-loop : tie.decreases-loop
-decreases-loop distances₀ entries₀ file n k slots places found q₀ distances entries q = 8 - q
+abbrev decreases-loop-q : tie.decreases-loop-q
+decreases-loop-q distances₀ entries₀ file n k slots places found q₀ distances entries q = 8 - q
 
-abbrev entered : tie.In-loop invariant-loop decreases-loop → tie.Start invariant-loop decreases-loop
+abbrev entered : tie.In-loop-q invariant-loop-q decreases-loop-q → tie.Start invariant-loop-q decreases-loop-q
 entered c = c.before.before.before.before.before.before.before
 
 -- the place that is filled
-overflows : (c : tie.In-loop invariant-loop decreases-loop) → (let a = (entered c).args in
+overflows : (c : tie.In-loop-q invariant-loop-q decreases-loop-q) → (let a = (entered c).args in
     OverflowPlace (file_parts a.file.now a.n a.k) a.slots.now (length a.slots.now)
-    (get_or a.places.now c.before.loop.q 0))
-overflows c = (entered c).requires.1.0.each c.before.loop.q c.loop-test.true
+    (get_or a.places.now c.loop-q.q 0))
+overflows c = (entered c).requires.1.0.each c.loop-q.q c.loop-q-test.true
 
 -- the entry that was found for it
-entry : (c : tie.In-loop invariant-loop decreases-loop) → (let a = (entered c).args in
+entry : (c : tie.In-loop-q invariant-loop-q decreases-loop-q) → (let a = (entered c).args in
     let P = file_parts a.file.now a.n a.k in
-    let slot = get_or a.slots.now (get_or a.places.now c.before.loop.q 0) 0 in
-    let j = get_or c.before.before.entries8.result c.before.loop.q 0 in
+    let slot = get_or a.slots.now (get_or a.places.now c.loop-q.q 0) 0 in
+    let j = get_or c.entries8-found.result c.loop-q.q 0 in
     (j < a.k) × (value_of P slot ≡ P.distance j) × (entry_of P slot ≡ j))
 entry c =
     holds-value _ (entered c).requires.0.parts _ _ _ _ (overflows c)
-    (c.before.before.entries8.ensures.each c.before.loop.q c.loop-test.true)
+    (c.entries8-found.ensures.each c.loop-q.q c.loop-q-test.true)
 
-entries8-requires : tie.Need-entries8-requires invariant-loop decreases-loop
-entries8-requires c κs =
-    let start = c.before.before.before.before in
-    (start.requires.0, start.requires.1.0)
+entries8-found-requires : tie.Need-entries8-found-requires invariant-loop-q decreases-loop-q
+entries8-found-requires c κs =
+    (c.requires.0, c.requires.1.0)
 
-loop-holds : tie.Need-loop-init invariant-loop decreases-loop
-loop-holds c = (omega arith, filling-start _ _ _ _, filling-start _ _ _ _)
+loop-q-init : tie.Need-loop-q-init invariant-loop-q decreases-loop-q
+loop-q-init c = (omega arith, filling-start _ _ _ _, filling-start _ _ _ _)
 
-mul-place : tie.Need-overflow-mul-place invariant-loop decreases-loop
-mul-place c = search rules
+offset_bounds-places-q : tie.Need-offset_bounds-places-q invariant-loop-q decreases-loop-q
+offset_bounds-places-q c = search rules
 
-element-copy-out-place : tie.Need-element-copy-out-place invariant-loop decreases-loop
-element-copy-out-place c = search rules
+bounds-places-q : tie.Need-bounds-places-q invariant-loop-q decreases-loop-q
+bounds-places-q c = search rules
 
-mul-put-entry : tie.Need-overflow-mul-put-entry invariant-loop decreases-loop
-mul-put-entry c = search rules
+offset_bounds-found-q : tie.Need-offset_bounds-found-q invariant-loop-q decreases-loop-q
+offset_bounds-found-q c = search rules
 
-array-read-put-entry : tie.Need-array-read-put-entry invariant-loop decreases-loop
-array-read-put-entry c = search rules
+bounds-found-q : tie.Need-bounds-found-q invariant-loop-q decreases-loop-q
+bounds-found-q c = search rules
 
-put-entry-requires : tie.Need-put-entry-requires invariant-loop decreases-loop
-put-entry-requires c κs =
-    let in-loop = c.before.before.before in
-    let inv = in-loop.before.loop.invariant in
-    let place = (overflows in-loop).before in (
+put_entry-requires : tie.Need-put_entry-requires invariant-loop-q decreases-loop-q
+put_entry-requires c κs =
+    let inv = c.loop-q.invariant in
+    let place = (overflows c.before.before.before.before).before in (
       (omega (arith, place, inv.1.same), omega (arith, place, inv.2.same)),
-      entry-inside _ _ _ (entered in-loop).requires.0 _ (entry in-loop).0,
+      entry-inside _ _ _ (entered c.before.before.before.before).requires.0 _ (entry c.before.before.before.before).0,
     )
 
-add-q : tie.Need-overflow-add-q invariant-loop decreases-loop
-add-q c = search rules
+overflow_add-q : tie.Need-overflow_add-q invariant-loop-q decreases-loop-q
+overflow_add-q c = search rules
 
-loop-less : tie.Need-loop-smaller invariant-loop decreases-loop
-loop-less c = search rules
+loop-q-smaller : tie.Need-loop-q-smaller invariant-loop-q decreases-loop-q
+loop-q-smaller c = search rules
 
-loop-again : tie.Need-loop-preserved invariant-loop decreases-loop
-loop-again c =
-    let call = c.before.before.before.before in
-    let in-loop = call.before.before.before.before in
-    let inv = in-loop.before.loop.invariant in
-    let long = (entered in-loop).requires.1.0.long in
-    let taken = in-loop.loop-test.true in
-    let put = call.put-entry.ensures in (
+loop-q-preserved : tie.Need-loop-q-preserved invariant-loop-q decreases-loop-q
+loop-q-preserved c =
+    let inv = c.loop-q.invariant in
+    let long = (entered c.before.before.before.before.before.before.before.before.before).requires.1.0.long in
+    let taken = c.loop-q-test.true in
+    let put = c.put_entry.ensures in (
       omega arith,
-      filling-more long inv.1 _ _ put.0 taken (sym (entry in-loop).1),
-      filling-more long inv.2 _ _ put.1 taken (sym (entry in-loop).2),
+      filling-more long inv.1 _ _ put.0 taken (sym (entry c.before.before.before.before.before.before.before.before.before).1),
+      filling-more long inv.2 _ _ put.1 taken (sym (entry c.before.before.before.before.before.before.before.before.before).2),
     )
 
-same_length : tie.Need-same-length invariant-loop decreases-loop
-same_length c = search rules
+shape_of-distances : tie.Need-shape_of-distances invariant-loop-q decreases-loop-q
+shape_of-distances c = search rules
 
-same-length-2 : tie.Need-same-length-2 invariant-loop decreases-loop
-same-length-2 c = search rules
+shape_of-entries : tie.Need-shape_of-entries invariant-loop-q decreases-loop-q
+shape_of-entries c = search rules
 
-returns : tie.Need-returns invariant-loop decreases-loop
+returns : tie.Need-returns invariant-loop-q decreases-loop-q
 returns c =
-    let inv = c.before.loop.invariant in
-    let long = c.before.before.before.before.before.before.before.requires.1.0.long in
-    (filling-end long inv.1 c.loop-test.false, filling-end long inv.2 c.loop-test.false)
+    let inv = c.loop-q.invariant in
+    let long = c.requires.1.0.long in
+    (filling-end long inv.1 c.loop-q-test.false, filling-end long inv.2 c.loop-q-test.false)
 
-pub locate8-spec : {M : Type 1} → statement M
-locate8-spec =
+pub locate8_spec : {M : Type 1} → statement M
+locate8_spec =
     tie.close
     (tie.spec
-    invariant-loop
-    decreases-loop
-    entries8-requires
-    loop-holds
-    mul-place
-    element-copy-out-place
-    mul-put-entry
-    array-read-put-entry
-    put-entry-requires
-    add-q
-    loop-less
-    loop-again
-    same_length
-    same-length-2
+    invariant-loop-q
+    decreases-loop-q
+    entries8-found-requires
+    loop-q-init
+    offset_bounds-places-q
+    bounds-places-q
+    offset_bounds-found-q
+    bounds-found-q
+    put_entry-requires
+    overflow_add-q
+    loop-q-smaller
+    loop-q-preserved
+    shape_of-distances
+    shape_of-entries
     returns)

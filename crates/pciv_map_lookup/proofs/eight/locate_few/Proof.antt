@@ -14,110 +14,106 @@ use Rattle.pciv_format.proofs.MapLaws.{entry-inside}
 use Rattle.pciv_map_lookup.proofs.eight.locate_few.Statement.{statement}
 use Rattle.pciv_map_lookup.proofs.eight.locate_few.Tie as tie
 
-abbrev invariant-loop : tie.invariant-loop
-invariant-loop distances₀ entries₀ file n k slots places count q₀ distances entries q =
+abbrev invariant-loop-q : tie.invariant-loop-q
+invariant-loop-q distances₀ entries₀ file n k slots places count q₀ distances entries q =
     (q ≤ count)
     × Filling (at_place (value_of (file_parts file n k)) slots) places distances₀ distances count q
     × Filling (at_place (entry_of (file_parts file n k)) slots) places entries₀ entries count q
 
-abbrev decreases-loop : tie.decreases-loop
-decreases-loop distances₀ entries₀ file n k slots places count q₀ distances entries q = count - q
+abbrev decreases-loop-q : tie.decreases-loop-q
+decreases-loop-q distances₀ entries₀ file n k slots places count q₀ distances entries q = count - q
 
-abbrev entered : tie.In-loop invariant-loop decreases-loop → tie.Start invariant-loop decreases-loop
+abbrev entered : tie.In-loop-q invariant-loop-q decreases-loop-q → tie.Start invariant-loop-q decreases-loop-q
 entered c = c.before.before.before.before.before.before
 
 -- the place that is filled
-overflows : (c : tie.In-loop invariant-loop decreases-loop) → (let a = (entered c).args in
+overflows : (c : tie.In-loop-q invariant-loop-q decreases-loop-q) → (let a = (entered c).args in
     OverflowPlace (file_parts a.file.now a.n a.k) a.slots.now (length a.slots.now)
-    (get_or a.places.now c.before.loop.q 0))
-overflows c = (entered c).requires.1.0.1.each c.before.loop.q c.loop-test.true
+    (get_or a.places.now c.loop-q.q 0))
+overflows c = (entered c).requires.1.0.1.each c.loop-q.q c.loop-q-test.true
 
 -- its entry
-entry : (c : tie.In-loop invariant-loop decreases-loop) → (let a = (entered c).args in
+entry : (c : tie.In-loop-q invariant-loop-q decreases-loop-q) → (let a = (entered c).args in
     let P = file_parts a.file.now a.n a.k in
-    let slot = get_or a.slots.now (get_or a.places.now c.before.loop.q 0) 0 in
+    let slot = get_or a.slots.now (get_or a.places.now c.loop-q.q 0) 0 in
     let j = entries_below P slot in
     (j < a.k) × (value_of P slot ≡ P.distance j) × (entry_of P slot ≡ j))
 entry c =
     value_of-entry _ (entered c).requires.0.parts _ (overflows c).inside (overflows c).overflows
 
-loop-holds : tie.Need-loop-init invariant-loop decreases-loop
-loop-holds c = (omega arith, filling-start _ _ _ _, filling-start _ _ _ _)
+loop-q-init : tie.Need-loop-q-init invariant-loop-q decreases-loop-q
+loop-q-init c = (omega arith, filling-start _ _ _ _, filling-start _ _ _ _)
 
-mul-place : tie.Need-overflow-mul-place invariant-loop decreases-loop
-mul-place c = search rules
+offset_bounds-places-q : tie.Need-offset_bounds-places-q invariant-loop-q decreases-loop-q
+offset_bounds-places-q c = search rules
 
-element-copy-out-place : tie.Need-element-copy-out-place invariant-loop decreases-loop
-element-copy-out-place c = search rules
+bounds-places-q : tie.Need-bounds-places-q invariant-loop-q decreases-loop-q
+bounds-places-q c = search rules
 
-mul-entry-of : tie.Need-overflow-mul-entry-of invariant-loop decreases-loop
-mul-entry-of c = omega (arith, (overflows c.before).before)
+offset_bounds-slots-place : tie.Need-offset_bounds-slots-place invariant-loop-q decreases-loop-q
+offset_bounds-slots-place c = omega (arith, (overflows c.before.before).before)
 
-shared-slice-read-entry-of : tie.Need-shared-slice-read-entry-of invariant-loop decreases-loop
-shared-slice-read-entry-of c = (overflows c.before.before).before
+bounds-slots-place : tie.Need-bounds-slots-place invariant-loop-q decreases-loop-q
+bounds-slots-place c = (overflows c.before.before.before).before
 
-entry-of-requires : tie.Need-entry-of-requires invariant-loop decreases-loop
-entry-of-requires c κs = (entered c.before.before).pre.0
+entry_of-j-requires : tie.Need-entry_of-j-requires invariant-loop-q decreases-loop-q
+entry_of-j-requires c κs = (entered c.before.before.before).requires.0
 
-put-entry-requires : tie.Need-put-entry-requires invariant-loop decreases-loop
-put-entry-requires c κs =
-    let in-loop = c.before.before.before.before.before in
-    let inv = in-loop.before.loop.invariant in
-    let place = (overflows in-loop).before in (
+put_entry-requires : tie.Need-put_entry-requires invariant-loop-q decreases-loop-q
+put_entry-requires c κs =
+    let inv = c.loop-q.invariant in
+    let place = (overflows c.before.before.before.before.before.before).before in (
       (omega (arith, place, inv.1.same), omega (arith, place, inv.2.same)),
-      entry-inside _ _ _ (entered in-loop).requires.0 _
-          (omega (arith, (entry in-loop).0, c.before.before.entry_of.ensures)),
+      entry-inside _ _ _ (entered c.before.before.before.before.before.before).requires.0 _
+          (omega (arith, (entry c.before.before.before.before.before.before).0, c.entry_of-j.ensures)),
     )
 
-add-q : tie.Need-overflow-add-q invariant-loop decreases-loop
-add-q c = search rules
+overflow_add-q : tie.Need-overflow_add-q invariant-loop-q decreases-loop-q
+overflow_add-q c = search rules
 
-loop-less : tie.Need-loop-smaller invariant-loop decreases-loop
-loop-less c = search rules
+loop-q-smaller : tie.Need-loop-q-smaller invariant-loop-q decreases-loop-q
+loop-q-smaller c = search rules
 
-loop-again : tie.Need-loop-preserved invariant-loop decreases-loop
-loop-again c =
-    let call = c.before.before.before.before in
-    let searched = call.before.before.before in
-    let in-loop = searched.before.before.before in
-    let inv = in-loop.before.loop.invariant in
-    let long = (entered in-loop).requires.1.0.1.long in
-    let taken = in-loop.loop-test.true in
-    let j = searched.entry_of.ensures in
-    let put = call.put-entry.ensures in (
+loop-q-preserved : tie.Need-loop-q-preserved invariant-loop-q decreases-loop-q
+loop-q-preserved c =
+    let inv = c.loop-q.invariant in
+    let long = (entered c.before.before.before.before.before.before.before.before.before.before.before).requires.1.0.1.long in
+    let taken = c.loop-q-test.true in
+    let j = c.entry_of-j.ensures in
+    let put = c.put_entry.ensures in (
       omega arith,
-      filling-more long inv.1 _ _ put.0 taken (rw j (sym (entry in-loop).1)),
-      filling-more long inv.2 _ _ put.1 taken (j ∙ sym (entry in-loop).2),
+      filling-more long inv.1 _ _ put.0 taken (rw j (sym (entry c.before.before.before.before.before.before.before.before.before.before.before).1)),
+      filling-more long inv.2 _ _ put.1 taken (j ∙ sym (entry c.before.before.before.before.before.before.before.before.before.before.before).2),
     )
 
-same_length : tie.Need-same-length invariant-loop decreases-loop
-same_length c = search rules
+shape_of-distances : tie.Need-shape_of-distances invariant-loop-q decreases-loop-q
+shape_of-distances c = search rules
 
-same-length-2 : tie.Need-same-length-2 invariant-loop decreases-loop
-same-length-2 c = search rules
+shape_of-entries : tie.Need-shape_of-entries invariant-loop-q decreases-loop-q
+shape_of-entries c = search rules
 
-returns : tie.Need-returns invariant-loop decreases-loop
+returns : tie.Need-returns invariant-loop-q decreases-loop-q
 returns c =
-    let inv = c.before.loop.invariant in
-    let long = c.before.before.before.before.before.before.requires.1.0.1.long in
-    (filling-end long inv.1 c.loop-test.false, filling-end long inv.2 c.loop-test.false)
+    let inv = c.loop-q.invariant in
+    let long = c.requires.1.0.1.long in
+    (filling-end long inv.1 c.loop-q-test.false, filling-end long inv.2 c.loop-q-test.false)
 
-pub locate-few-spec : {M : Type 1} → statement M
-locate-few-spec =
+pub locate_few_spec : {M : Type 1} → statement M
+locate_few_spec =
     tie.close
     (tie.spec
-    invariant-loop
-    decreases-loop
-    loop-holds
-    mul-place
-    element-copy-out-place
-    mul-entry-of
-    shared-slice-read-entry-of
-    entry-of-requires
-    put-entry-requires
-    add-q
-    loop-less
-    loop-again
-    same_length
-    same-length-2
+    invariant-loop-q
+    decreases-loop-q
+    loop-q-init
+    offset_bounds-places-q
+    bounds-places-q
+    offset_bounds-slots-place
+    bounds-slots-place
+    entry_of-j-requires
+    put_entry-requires
+    overflow_add-q
+    loop-q-smaller
+    loop-q-preserved
+    shape_of-distances
+    shape_of-entries
     returns)

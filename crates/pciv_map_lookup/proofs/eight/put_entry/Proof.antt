@@ -5,41 +5,41 @@ use borrow.Author.Rules.{rules}
 use Rattle.pciv_map_lookup.proofs.eight.put_entry.Statement.{statement}
 use Rattle.pciv_map_lookup.proofs.eight.put_entry.Tie as tie
 
-entry-distance-requires : tie.Need-entry-distance-requires
-entry-distance-requires c κs = search rules
+entry_distance-requires : tie.Need-entry_distance-requires
+entry_distance-requires c κs = search rules
 
-mul-distances : tie.Need-overflow-mul-distances
-mul-distances c = search rules
+offset_bounds-distances-place : tie.Need-offset_bounds-distances-place
+offset_bounds-distances-place c = search rules
 
-slice-write-distances : tie.Need-slice-write-distances
-slice-write-distances c = search rules
+bounds-distances-place : tie.Need-bounds-distances-place
+bounds-distances-place c = search rules
 
-mul-entries : tie.Need-overflow-mul-entries
-mul-entries c = search rules
+offset_bounds-entries-place : tie.Need-offset_bounds-entries-place
+offset_bounds-entries-place c = search rules
 
-slice-write-entries : tie.Need-slice-write-entries
-slice-write-entries c = search rules
+bounds-entries-place : tie.Need-bounds-entries-place
+bounds-entries-place c = search rules
 
-same_length : tie.Need-same-length
-same_length c = search rules
+shape_of-distances : tie.Need-shape_of-distances
+shape_of-distances c = search rules
 
-same-length-2 : tie.Need-same-length-2
-same-length-2 c = search rules
+shape_of-entries : tie.Need-shape_of-entries
+shape_of-entries c = search rules
 
 returns : tie.Need-returns
 returns c =
-    let a = c.before.before.before.before.args in
-    (ap (set a.distances.now a.place) c.entry-distance.ensures, refl)
+    let a = c.args in
+    (ap (set a.distances.now a.place) c.entry_distance.ensures, refl)
 
-pub put-entry-spec : {M : Type 1} → statement M
-put-entry-spec =
+pub put_entry_spec : {M : Type 1} → statement M
+put_entry_spec =
     tie.close
     (tie.spec
-    entry-distance-requires
-    mul-distances
-    slice-write-distances
-    mul-entries
-    slice-write-entries
-    same_length
-    same-length-2
+    entry_distance-requires
+    offset_bounds-distances-place
+    bounds-distances-place
+    offset_bounds-entries-place
+    bounds-entries-place
+    shape_of-distances
+    shape_of-entries
     returns)

@@ -19,104 +19,95 @@ use borrow.Author.Rules.{rules}
 use Rattle.pciv_mask_apply.proofs.kept.count_kept.Statement.{statement}
 use Rattle.pciv_mask_apply.proofs.kept.count_kept.Tie as tie
 
-abbrev invariant-loop : tie.invariant-loop
-invariant-loop file n k words count₀ j₀ count j =
+abbrev invariant-loop-j : tie.invariant-loop-j
+invariant-loop-j file n k words count₀ j₀ count j =
     (j ≤ k) × Counted n (masked_distance Keep (file_parts file n k) words) (lowest_slot (file_parts file n k) j) count
 
-abbrev decreases-loop : tie.decreases-loop
-decreases-loop file n k words count₀ j₀ count j = k - j
+abbrev decreases-loop-j : tie.decreases-loop-j
+decreases-loop-j file n k words count₀ j₀ count j = k - j
 
-abbrev start : tie.At-loop invariant-loop decreases-loop → tie.Start invariant-loop decreases-loop
+abbrev start : tie.At-loop-j invariant-loop-j decreases-loop-j → tie.Start invariant-loop-j decreases-loop-j
 start l = l.before.before.before
 
-abbrev parts : tie.Start invariant-loop decreases-loop → Parts
+abbrev parts : tie.Start invariant-loop-j decreases-loop-j → Parts
 parts s = file_parts s.args.file.now s.args.n s.args.k
 
-bytes : (l : tie.At-loop invariant-loop decreases-loop) → ((i : ℕ) → (parts (start l)).byte i < 256)
-bytes l i = (l.before.before.shared-slice-known.given (40 + i)).fits
+bytes : (l : tie.At-loop-j invariant-loop-j decreases-loop-j) → ((i : ℕ) → (parts (start l)).byte i < 256)
+bytes l i = (l.shared_slice_known-1.given (40 + i)).fits
 
 -- the bit that is added
-added : (c : tie.After-bit-of invariant-loop decreases-loop)
-    → (let w = c.before.before in
-    c.bit-of.result ≡ mask_value (start w.before).args.words.now
-    ((parts (start w.before)).slot w.before.loop.j))
+added : (c : tie.After-bit_of invariant-loop-j decreases-loop-j)
+    → (c.bit_of.result ≡ mask_value (start c.before.before.before).args.words.now
+    ((parts (start c.before.before.before)).slot c.loop-j.j))
 added c =
-    let w = c.before.before in
-    c.bit-of.ensures ∙ ap (mask_value (start w.before).args.words.now) c.before.entry-slot.ensures
+    c.bit_of.ensures ∙ ap (mask_value (start c.before.before.before).args.words.now) c.entry_slot.ensures
 
-small : (c : tie.After-bit-of invariant-loop decreases-loop) → c.bit-of.result ≤ 1
+small : (c : tie.After-bit_of invariant-loop-j decreases-loop-j) → c.bit_of.result ≤ 1
 small c =
-    let w = c.before.before in
     omega (
       arith,
-      c.bit-of.ensures,
+      c.bit_of.ensures,
       flag-le
-          (mask_has (start w.before).args.words.now c.before.entry-slot.result),
+          (mask_has (start c.before.before.before).args.words.now c.entry_slot.result),
     )
 
-loop-holds : tie.Need-loop-init invariant-loop decreases-loop
-loop-holds c =
-    let s = c.before.before in
-    (omega arith, counted_start s.args.n (masked_distance Keep (parts s) s.args.words.now))
+loop-j-init : tie.Need-loop-j-init invariant-loop-j decreases-loop-j
+loop-j-init c =
+    (omega arith, counted_start c.args.n (masked_distance Keep (parts c.before.before) c.args.words.now))
 
-entry-slot-requires : tie.Need-entry-slot-requires invariant-loop decreases-loop
-entry-slot-requires c κs =
+entry_slot-requires : tie.Need-entry_slot-requires invariant-loop-j decreases-loop-j
+entry_slot-requires c κs =
     let s = start c.before in
-    entry-inside s.args.file.now s.args.n s.args.k s.pre.0 c.before.loop.j c.loop-test.true
+    entry-inside s.args.file.now s.args.n s.args.k s.requires.0 c.loop-j.j c.loop-j-test.true
 
-bit-of-requires : tie.Need-bit-of-requires invariant-loop decreases-loop
-bit-of-requires c κs =
-    let w = c.before in
-    let s = start w.before in
-    let good = entry-good (parts s) s.pre.0.parts w.before.loop.j w.loop-test.true in
-    omega (arith, good.inside, c.entry-slot.ensures, mask-covers s.pre.1)
+bit_of-requires : tie.Need-bit_of-requires invariant-loop-j decreases-loop-j
+bit_of-requires c κs =
+    let s = start c.before.before in
+    let good = entry-good (parts s) s.requires.0.parts c.loop-j.j c.loop-j-test.true in
+    omega (arith, good.inside, c.entry_slot.ensures, mask-covers s.requires.1)
 
-cast-count : tie.Need-overflow-cast-count invariant-loop decreases-loop
-cast-count c = omega (arith, small c)
+overflow_cast-count : tie.Need-overflow_cast-count invariant-loop-j decreases-loop-j
+overflow_cast-count c = omega (arith, small c)
 
-add-count : tie.Need-overflow-add-count invariant-loop decreases-loop
-add-count c =
-    let w = c.before.before in
-    let s = start w.before in
-    let l = w.before.loop in
-    omega (arith, small c, l.invariant.1.below, l.invariant.1.inside, s.pre.0.header.small)
+overflow_add-count : tie.Need-overflow_add-count invariant-loop-j decreases-loop-j
+overflow_add-count c =
+    let s = start c.before.before.before in
+    let l = c.loop-j in
+    omega (arith, small c, l.invariant.1.below, l.invariant.1.inside, s.requires.0.header.small)
 
-add-j : tie.Need-overflow-add-j invariant-loop decreases-loop
-add-j c = search rules
+overflow_add-j : tie.Need-overflow_add-j invariant-loop-j decreases-loop-j
+overflow_add-j c = search rules
 
-loop-less : tie.Need-loop-smaller invariant-loop decreases-loop
-loop-less c = search rules
+loop-j-smaller : tie.Need-loop-j-smaller invariant-loop-j decreases-loop-j
+loop-j-smaller c = search rules
 
-loop-again : tie.Need-loop-preserved invariant-loop decreases-loop
-loop-again c =
-    let w = c.before.before in
-    let l = w.before in
-    let s = start l in (
+loop-j-preserved : tie.Need-loop-j-preserved invariant-loop-j decreases-loop-j
+loop-j-preserved c =
+    let s = start c.before.before.before in (
       omega arith,
-      kept-counted (parts s) s.pre.0.parts (bytes l) s.args.words.now w.loop-test.true
-          l.loop.invariant.1 (added c),
+      kept-counted (parts s) s.requires.0.parts (bytes c.before.before.before) s.args.words.now c.loop-j-test.true
+          c.loop-j.invariant.1 (added c),
     )
 
-returns : tie.Need-returns invariant-loop decreases-loop
+returns : tie.Need-returns invariant-loop-j decreases-loop-j
 returns c =
-    let l = c.before in
-    let s = start l in
-    counted-last (kept-along (parts s) s.pre.0.parts (bytes l) s.args.words.now) l.loop.j
-    l.loop.invariant.0 c.loop-test.false
-    l.loop.invariant.1
+    let s = start c.before in
+    counted-last (kept-along (parts s) s.requires.0.parts (bytes c.before) s.args.words.now) c.loop-j.j
+    c.loop-j.invariant.0 c.loop-j-test.false
+    c.loop-j.invariant.1
 
-pub count-kept-spec : {M : Type 1} → statement M
-count-kept-spec =
+pub count_kept_spec : {M : Type 1} → statement M
+count_kept_spec =
     tie.close
     (tie.spec
-    invariant-loop
-    decreases-loop
-    loop-holds
-    entry-slot-requires
-    bit-of-requires
-    cast-count
-    add-count
-    add-j
-    loop-less
-    loop-again
+    invariant-loop-j
+    decreases-loop-j
+    loop-j-init
+    entry_slot-requires
+    bit_of-requires
+    overflow_cast-count
+    overflow_add-count
+    overflow_add-j
+    loop-j-smaller
+    loop-j-preserved
     returns)

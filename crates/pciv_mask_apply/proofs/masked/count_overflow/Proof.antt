@@ -14,31 +14,31 @@ in-case : (P : Parts) (ws : List ℕ) (n r : ℕ) {op case : MaskedOp} → op �
     → r ≡ overflow_count n (masked_distance case P ws) → r ≡ overflow_count n (masked_distance op P ws)
 in-case P ws n r e q = rw e q
 
-enum_told : tie.Need-enum-told
-enum_told c = search rules
+enum_told-1 : tie.Need-enum_told-1
+enum_told-1 c = search rules
 
-count-kept-requires : tie.Need-count-kept-requires
-count-kept-requires c κs = let s = c.before.before.before.before in (s.requires.0, s.requires.1)
+count_kept-requires : tie.Need-count_kept-requires
+count_kept-requires c κs = (c.requires.0, c.requires.1)
 
-enum-told-2 : tie.Need-enum-told-2
-enum-told-2 c = search rules
+enum_told-in-Increment : tie.Need-enum_told-in-Increment
+enum_told-in-Increment c = search rules
 
-count-incremented-requires : tie.Need-count-incremented-requires
-count-incremented-requires c κs = let s = c.before.before.before.before in (s.requires.0, s.requires.1)
+count_incremented-requires : tie.Need-count_incremented-requires
+count_incremented-requires c κs = (c.requires.0, c.requires.1)
 
-returns : tie.Need-returns
-returns c = in-case _ _ _ _ c.before.enum_told.given.1 c.count_kept.ensures
+returns-in-Keep : tie.Need-returns-in-Keep
+returns-in-Keep c = in-case _ _ _ _ c.in-Keep.is c.count_kept.ensures
 
-returns-2 : tie.Need-returns-2
-returns-2 c = in-case _ _ _ _ c.before.enum-told2.given.1 c.count-incremented.ensures
+returns-in-Increment : tie.Need-returns-in-Increment
+returns-in-Increment c = in-case _ _ _ _ c.in-Increment.is c.count_incremented.ensures
 
-pub count-overflow-spec : {M : Type 1} → statement M
-count-overflow-spec =
+pub count_overflow_spec : {M : Type 1} → statement M
+count_overflow_spec =
     tie.close
     (tie.spec
-    enum_told
-    count-kept-requires
-    enum-told-2
-    count-incremented-requires
-    returns
-    returns-2)
+    enum_told-1
+    count_kept-requires
+    enum_told-in-Increment
+    count_incremented-requires
+    returns-in-Keep
+    returns-in-Increment)

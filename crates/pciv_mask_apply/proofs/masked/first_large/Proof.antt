@@ -18,27 +18,31 @@ in-case : (P : Parts) (ws : List ℕ) (n r : ℕ) {op case : MaskedOp} → op �
     → r ≡ first_below (λ (i : ℕ). ltb max_distance (masked_distance op P ws i)) n
 in-case P ws n r e q = rw e q
 
-enum_told : tie.Need-enum-told
-enum_told c = search rules
+enum_told-1 : tie.Need-enum_told-1
+enum_told-1 c = search rules
 
-enum-told-2 : tie.Need-enum-told-2
-enum-told-2 c = search rules
+enum_told-in-Increment : tie.Need-enum_told-in-Increment
+enum_told-in-Increment c = search rules
 
-first-too-large-requires : tie.Need-first-too-large-requires
-first-too-large-requires c κs = search rules
+first_too_large-requires : tie.Need-first_too_large-requires
+first_too_large-requires c κs = search rules
 
-returns : tie.Need-returns
-returns c =
-    let known = c.before.before.before in
-    let s = known.before in
-    let a = s.args in
-    in-case _ _ a.n a.n c.enum_told.given.1
-    (kept_small a.file.now a.n a.k s.requires.0 (λ i. (known.shared-slice-known.given i).fits)
+returns-in-Keep : tie.Need-returns-in-Keep
+returns-in-Keep c =
+    let a = c.args in
+    in-case _ _ a.n a.n c.in-Keep.is
+    (kept_small a.file.now a.n a.k c.requires.0 (λ i. (c.shared_slice_known-1.given i).fits)
     a.words.now)
 
-returns-2 : tie.Need-returns-2
-returns-2 c = in-case _ _ _ _ c.before.enum-told2.given.1 c.first-too-large.ensures
+returns-in-Increment : tie.Need-returns-in-Increment
+returns-in-Increment c = in-case _ _ _ _ c.in-Increment.is c.first_too_large.ensures
 
-pub first-large-spec : {M : Type 1} → statement M
-first-large-spec =
-    tie.close (tie.spec enum_told enum-told-2 first-too-large-requires returns returns-2)
+pub first_large_spec : {M : Type 1} → statement M
+first_large_spec =
+    tie.close
+    (tie.spec
+    enum_told-1
+    enum_told-in-Increment
+    first_too_large-requires
+    returns-in-Keep
+    returns-in-Increment)

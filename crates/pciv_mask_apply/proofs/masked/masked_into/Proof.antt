@@ -16,7 +16,7 @@ use borrow.Author.Rules.{rules}
 use Rattle.pciv_mask_apply.proofs.masked.masked_into.Statement.{statement}
 use Rattle.pciv_mask_apply.proofs.masked.masked_into.Tie as tie
 
-abbrev entry : tie.After-first-large → tie.Start
+abbrev entry : tie.After-first_large-large → tie.Start
 entry c = c.before.before.before.before
 
 -- the distances of the result
@@ -26,136 +26,113 @@ v s = masked_distance s.args.op (file_parts s.args.file.now s.args.n s.args.k) s
 abbrev into : tie.Start → Outcome Summary
 into s = map_into s.args.n (v s) (length s.args.out.now)
 
-abbrev at_count : tie.After-count-overflow → tie.Start
+abbrev at_count : tie.After-count_overflow-count → tie.Start
 at_count c = entry c.before.before
 
 -- no slot is too large
-fits : (c : tie.Else1) → Fits (entry c.before).args.n (v (entry c.before))
+fits : (c : tie.Else-large-n) → Fits (entry c.before).args.n (v (entry c.before))
 fits c =
     let s = entry c.before in
-    fits-none s.args.n (v s) c.before.first-large.result c.before.first-large.ensures c.if1.false
+    fits-none s.args.n (v s) c.first_large-large.result c.first_large-large.ensures c.if-large-n.false
 
-opened : (b : tie.After-begin)
-    → (let e = b.before.before in
-    let s = at_count e in
-    Opened s.args.n e.count-overflow.result (v s) (into s) s.args.out.now b.begin.result
-    b.begin.new.0)
+opened : (b : tie.After-begin-begun)
+    → (let s = at_count b.before.before in
+    Opened s.args.n b.count_overflow-count.result (v s) (into s) s.args.out.now b.begin-begun.result
+    b.begin-begun.new.out)
 opened b =
-    let e = b.before.before in
-    let s = at_count e in
+    let s = at_count b.before.before in
     record {
-      few = s.pre.0.header.small;
-      each = fits e.before;
-      count = e.count-overflow.ensures;
-      into = map-fits s.args.n (v s) (length s.args.out.now) (fits e.before);
-      answer = b.begin.ensures.0;
-      buffer = b.begin.ensures.1;
+      few = s.requires.0.header.small;
+      each = fits b.before.before.before;
+      count = b.count_overflow-count.ensures;
+      into = map-fits s.args.n (v s) (length s.args.out.now) (fits b.before.before.before);
+      answer = b.begin-begun.ensures.0;
+      buffer = b.begin-begun.ensures.1;
     }
 
-first-large-requires : tie.Need-first-large-requires
-first-large-requires c κs =
-    let s = c.before.before.before in
+first_large-large-requires : tie.Need-first_large-large-requires
+first_large-large-requires c κs =
+    (c.requires.0, c.requires.1)
+
+refuse_file-requires : tie.Need-refuse_file-requires
+refuse_file-requires c κs = search rules
+
+returns-then-large-n : tie.Need-returns-then-large-n
+returns-then-large-n c =
+    let s = entry c.before.before in
+    map-large s.args.n (v s) c.first_large-large.result c.first_large-large.ensures c.if-large-n.true
+    s.args.out.now c.refuse_file.result c.refuse_file.ensures
+
+count_overflow-count-requires : tie.Need-count_overflow-count-requires
+count_overflow-count-requires c κs =
+    let s = entry c.before in
     (s.requires.0, s.requires.1)
 
-refuse-file-requires : tie.Need-refuse-file-requires
-refuse-file-requires c κs = search rules
+begin-begun-requires : tie.Need-begin-begun-requires
+begin-begun-requires c κs =
+    let s = at_count c.before in
+    begin-few s.args.n c.count_overflow-count.result (v s) s.requires.0.header.small c.count_overflow-count.ensures
 
-returns : tie.Need-returns
-returns c =
-    let f = c.before.before in
-    let s = entry f in
-    map-large s.args.n (v s) f.first-large.result f.first-large.ensures c.before.if1.true
-    s.args.out.now c.refuse-file.result c.refuse-file.ensures
+enum_known-begun : tie.Need-enum_known-begun
+enum_known-begun c = search rules
 
-count-overflow-requires : tie.Need-count-overflow-requires
-count-overflow-requires c κs =
-    let s = entry c.before in
-    (s.pre.0, s.pre.1)
+enum_known-begun-in-Counted-1 : tie.Need-enum_known-begun-in-Counted-1
+enum_known-begun-in-Counted-1 c = search rules
 
-begin-requires : tie.Need-begin-requires
-begin-requires c κs =
-    let e = c.before in
-    let s = at_count e in
-    begin-few s.args.n e.count-overflow.result (v s) s.pre.0.header.small e.count-overflow.ensures
+put_primary-requires : tie.Need-put_primary-requires
+put_primary-requires c κs =
+    let s = at_count c.before.before.before.before.before.before in
+    (s.requires.0, (s.requires.1, omega (arith, opened-space (opened c.before.before.before.before) _ c.in-Counted.is)))
 
-enum-known-begun : tie.Need-enum-known-begun
-enum-known-begun c = search rules
-
-enum-known-begun-2 : tie.Need-enum-known-begun-2
-enum-known-begun-2 c = search rules
-
-put-primary-requires : tie.Need-put-primary-requires
-put-primary-requires c κs =
-    let k = c.before.before in
-    let b = k.before.before.before.before in
-    let s = at_count b.before.before in
-    (s.pre.0, (s.pre.1, omega (arith, opened-space (opened b) _ k.begun2.given.1)))
-
-put-entries-requires : tie.Need-put-entries-requires
-put-entries-requires c κs =
-    let p = c.before.before.before in
-    let k = p.before.before.before in
-    let b = k.before.before.before.before in
-    let e = b.before.before in
-    let o = opened-entries (opened b) _ k.begun2.given.1 _ p.put-primary.ensures in
-    let s = at_count e in
-    (s.pre.0, (s.pre.1, (fits e.before, (o.0, (e.count-overflow.ensures, o.1)))))
+put_entries-requires : tie.Need-put_entries-requires
+put_entries-requires c κs =
+    let o = opened-entries (opened c.before.before.before.before.before.before.before.before) _ c.in-Counted.is _ c.put_primary.ensures in
+    let s = at_count c.before.before.before.before.before.before.before.before.before.before in
+    (s.requires.0, (s.requires.1, (fits c.before.before.before.before.before.before.before.before.before.before.before, (o.0, (c.count_overflow-count.ensures, o.1)))))
 
 finish-requires : tie.Need-finish-requires
 finish-requires c κs =
-    let q = c.before.before.before in
-    let p = q.before.before.before.before in
-    let k = p.before.before.before in
-    opened-finish (opened k.before.before.before.before) _ k.begun2.given.1 _ p.put-primary.ensures _
-    q.put_entries.ensures
+    opened-finish (opened c.before.before.before.before.before.before.before.before.before.before.before.before) _ c.in-Counted.is _ c.put_primary.ensures _
+    c.put_entries.ensures
 
-summary-of-requires : tie.Need-summary-of-requires
-summary-of-requires c κs =
-    let f = c.before.before.before in
-    let q = f.before.before.before.before in
-    let p = q.before.before.before.before in
-    let k = p.before.before.before in
-    opened_map (opened k.before.before.before.before) _ k.begun2.given.1 _ p.put-primary.ensures _
-    q.put_entries.ensures
-    _ f.finish.ensures
+summary_of-requires : tie.Need-summary_of-requires
+summary_of-requires c κs =
+    opened_map (opened c.before.before.before.before.before.before.before.before.before.before.before.before.before.before.before) _ c.in-Counted.is _ c.put_primary.ensures _
+    c.put_entries.ensures
+    _ c.finish.ensures
 
-same_length : tie.Need-same-length
-same_length c = search rules
+shape_of-out-in-Refused : tie.Need-shape_of-out-in-Refused
+shape_of-out-in-Refused c = search rules
 
-returns-2 : tie.Need-returns-2
-returns-2 c =
-    let k = c.before in
-    opened-refused (opened k.before.before.before.before) _ k.begun.given.1
+returns-in-Refused : tie.Need-returns-in-Refused
+returns-in-Refused c =
+    opened-refused (opened c.before.before.before) _ c.in-Refused.is
 
-same-length-2 : tie.Need-same-length-2
-same-length-2 c = search rules
+shape_of-out-in-Counted : tie.Need-shape_of-out-in-Counted
+shape_of-out-in-Counted c = search rules
 
-returns-3 : tie.Need-returns-3
-returns-3 c =
-    let f = c.before.before.before.before in
-    let q = f.before.before.before.before in
-    let p = q.before.before.before.before in
-    let k = p.before.before.before in
-    opened-done (opened k.before.before.before.before) _ k.begun2.given.1 _ p.put-primary.ensures _
-    q.put_entries.ensures
-    _ f.finish.ensures _ c.summary-of.ensures
+returns-in-Counted : tie.Need-returns-in-Counted
+returns-in-Counted c =
+    opened-done (opened c.before.before.before.before.before.before.before.before.before.before.before.before.before.before.before.before) _ c.in-Counted.is _ c.put_primary.ensures _
+    c.put_entries.ensures
+    _ c.finish.ensures _ c.summary_of.ensures
 
-pub masked-into-spec : {M : Type 1} → statement M
-masked-into-spec =
+pub masked_into_spec : {M : Type 1} → statement M
+masked_into_spec =
     tie.close
     (tie.spec
-    first-large-requires
-    refuse-file-requires
-    returns
-    count-overflow-requires
-    begin-requires
-    enum-known-begun
-    enum-known-begun-2
-    put-primary-requires
-    put-entries-requires
+    first_large-large-requires
+    refuse_file-requires
+    returns-then-large-n
+    count_overflow-count-requires
+    begin-begun-requires
+    enum_known-begun
+    enum_known-begun-in-Counted-1
+    put_primary-requires
+    put_entries-requires
     finish-requires
-    summary-of-requires
-    same_length
-    returns-2
-    same-length-2
-    returns-3)
+    summary_of-requires
+    shape_of-out-in-Refused
+    returns-in-Refused
+    shape_of-out-in-Counted
+    returns-in-Counted)

@@ -32,72 +32,66 @@ module _ (P : Parts) (ws : List ℕ) (n : ℕ) (d : List ℕ) {op case : MaskedO
 abbrev parts : tie.Start → Parts
 parts s = file_parts s.args.file.now s.args.n s.args.k
 
-enum_told : tie.Need-enum-told
-enum_told c = search rules
+enum_told-1 : tie.Need-enum_told-1
+enum_told-1 c = search rules
 
-put-kept-requires : tie.Need-put-kept-requires
-put-kept-requires c κs =
-    let t = c.before in
-    let s = t.before.before.before.before.before in
-    let is = s.requires.1.1.1.1.0 in
-    let e = t.enum_told.given.1 in (
-      s.requires.0,
+put_kept-requires : tie.Need-put_kept-requires
+put_kept-requires c κs =
+    let is = c.requires.1.1.1.1.0 in
+    let e = c.in-Keep.is in (
+      c.requires.0,
       (
-        s.requires.1.0,
-        (count-in-case (parts s) s.args.words.now s.args.n s.args.out.now e _ is, s.requires.1.1.1.1.1),
+        c.requires.1.0,
+        (count-in-case (parts c.before.before.before.before.before) c.args.words.now c.args.n c.args.out.now e _ is, c.requires.1.1.1.1.1),
       ),
     )
 
-enum-told-2 : tie.Need-enum-told-2
-enum-told-2 c = search rules
+enum_told-in-Increment : tie.Need-enum_told-in-Increment
+enum_told-in-Increment c = search rules
 
-put-incremented-requires : tie.Need-put-incremented-requires
-put-incremented-requires c κs =
-    let t = c.before in
-    let s = t.before.before.before.before.before in
-    let P = parts s in
-    let ws = s.args.words.now in
-    let n = s.args.n in
-    let d = s.args.out.now in
-    let e = t.enum-told2.given.1 in (
-      s.requires.0,
+put_incremented-requires : tie.Need-put_incremented-requires
+put_incremented-requires c κs =
+    let P = parts c.before.before.before.before.before in
+    let ws = c.args.words.now in
+    let n = c.args.n in
+    let d = c.args.out.now in
+    let e = c.in-Increment.is in (
+      c.requires.0,
       (
-        s.requires.1.0,
+        c.requires.1.0,
         (
-          fits-in-case P ws n d e s.requires.1.1.0,
+          fits-in-case P ws n d e c.requires.1.1.0,
           (
-            holds-in-case P ws n d e s.requires.1.1.1.0,
-            (count-in-case P ws n d e _ s.requires.1.1.1.1.0, s.requires.1.1.1.1.1),
+            holds-in-case P ws n d e c.requires.1.1.1.0,
+            (count-in-case P ws n d e _ c.requires.1.1.1.1.0, c.requires.1.1.1.1.1),
           ),
         ),
       ),
     )
 
-same_length : tie.Need-same-length
-same_length c = search rules
+shape_of-out-in-Keep : tie.Need-shape_of-out-in-Keep
+shape_of-out-in-Keep c = search rules
 
-returns : tie.Need-returns
-returns c =
-    let p = c.before.before in
-    in-case _ _ _ _ p.before.before.enum_told.given.1 _ p.put-kept.ensures
+returns-in-Keep : tie.Need-returns-in-Keep
+returns-in-Keep c =
+    in-case _ _ _ _ c.in-Keep.is _ c.put_kept.ensures
 
-same-length-2 : tie.Need-same-length-2
-same-length-2 c = search rules
+shape_of-out-in-Increment : tie.Need-shape_of-out-in-Increment
+shape_of-out-in-Increment c = search rules
 
-returns-2 : tie.Need-returns-2
-returns-2 c =
-    let p = c.before.before in
-    in-case _ _ _ _ p.before.before.enum-told2.given.1 _ p.put-incremented.ensures
+returns-in-Increment : tie.Need-returns-in-Increment
+returns-in-Increment c =
+    in-case _ _ _ _ c.in-Increment.is _ c.put_incremented.ensures
 
-pub put-entries-spec : {M : Type 1} → statement M
-put-entries-spec =
+pub put_entries_spec : {M : Type 1} → statement M
+put_entries_spec =
     tie.close
     (tie.spec
-    enum_told
-    put-kept-requires
-    enum-told-2
-    put-incremented-requires
-    same_length
-    returns
-    same-length-2
-    returns-2)
+    enum_told-1
+    put_kept-requires
+    enum_told-in-Increment
+    put_incremented-requires
+    shape_of-out-in-Keep
+    returns-in-Keep
+    shape_of-out-in-Increment
+    returns-in-Increment)

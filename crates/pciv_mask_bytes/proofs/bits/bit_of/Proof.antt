@@ -4,20 +4,27 @@ use borrow.Author.Rules.{rules}
 use Rattle.pciv_mask_bytes.proofs.bits.bit_of.Statement.{statement}
 use Rattle.pciv_mask_bytes.proofs.bits.bit_of.Tie as tie
 
-mul-result : tie.Need-overflow-mul-result
-mul-result c = search rules
+offset_bounds-words-slot : tie.Need-offset_bounds-words-slot
+offset_bounds-words-slot c = search rules
 
-shared-slice-read-result : tie.Need-shared-slice-read-result
-shared-slice-read-result c = search rules
+bounds-words-slot : tie.Need-bounds-words-slot
+bounds-words-slot c = search rules
 
-shr-result : tie.Need-overflow-shr-result
-shr-result c = search rules
+overflow_shr-result : tie.Need-overflow_shr-result
+overflow_shr-result c = search rules
 
-cast-result : tie.Need-overflow-cast-result
-cast-result c = search rules
+overflow_cast-result : tie.Need-overflow_cast-result
+overflow_cast-result c = search rules
 
 returns : tie.Need-returns
-returns c = let a = c.before.args in bit-of-word a.words.now a.slot
+returns c = let a = c.args in bit-of-word a.words.now a.slot
 
-pub bit-of-spec : {M : Type 1} → statement M
-bit-of-spec = tie.close (tie.spec mul-result shared-slice-read-result shr-result cast-result returns)
+pub bit_of_spec : {M : Type 1} → statement M
+bit_of_spec =
+    tie.close
+    (tie.spec
+    offset_bounds-words-slot
+    bounds-words-slot
+    overflow_shr-result
+    overflow_cast-result
+    returns)

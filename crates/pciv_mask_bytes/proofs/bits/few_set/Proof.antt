@@ -5,55 +5,55 @@ use borrow.Author.Rules.{rules}
 use Rattle.pciv_mask_bytes.proofs.bits.few_set.Statement.{statement}
 use Rattle.pciv_mask_bytes.proofs.bits.few_set.Tie as tie
 
-abbrev invariant-loop : tie.invariant-loop
-invariant-loop words from any₀ j₀ any j = j ≤ 16
+abbrev invariant-loop-j : tie.invariant-loop-j
+invariant-loop-j words from any₀ j₀ any j = j ≤ 16
 
-abbrev decreases-loop : tie.decreases-loop
-decreases-loop words from any₀ j₀ any j = 16 - j
+abbrev decreases-loop-j : tie.decreases-loop-j
+decreases-loop-j words from any₀ j₀ any j = 16 - j
 
-sub-if1 : tie.Need-overflow-sub-if1 invariant-loop decreases-loop
-sub-if1 c = search rules
+overflow_sub-words : tie.Need-overflow_sub-words invariant-loop-j decreases-loop-j
+overflow_sub-words c = search rules
 
-returns : tie.Need-returns invariant-loop decreases-loop
+returns-then-words-from-lt-BLOCK : tie.Need-returns-then-words-from-lt-BLOCK invariant-loop-j decreases-loop-j
+returns-then-words-from-lt-BLOCK c = search rules
+
+loop-j-init : tie.Need-loop-j-init invariant-loop-j decreases-loop-j
+loop-j-init c = search rules
+
+overflow_add-any : tie.Need-overflow_add-any invariant-loop-j decreases-loop-j
+overflow_add-any c = search rules
+
+offset_bounds-words-from : tie.Need-offset_bounds-words-from invariant-loop-j decreases-loop-j
+offset_bounds-words-from c = search rules
+
+bounds-words-from : tie.Need-bounds-words-from invariant-loop-j decreases-loop-j
+bounds-words-from c = search rules
+
+overflow_add-j : tie.Need-overflow_add-j invariant-loop-j decreases-loop-j
+overflow_add-j c = search rules
+
+loop-j-smaller : tie.Need-loop-j-smaller invariant-loop-j decreases-loop-j
+loop-j-smaller c = search rules
+
+loop-j-preserved : tie.Need-loop-j-preserved invariant-loop-j decreases-loop-j
+loop-j-preserved c = search rules
+
+returns : tie.Need-returns invariant-loop-j decreases-loop-j
 returns c = search rules
 
-loop-holds : tie.Need-loop-init invariant-loop decreases-loop
-loop-holds c = search rules
-
-add-any : tie.Need-overflow-add-any invariant-loop decreases-loop
-add-any c = search rules
-
-mul-any : tie.Need-overflow-mul-any invariant-loop decreases-loop
-mul-any c = search rules
-
-shared-slice-read-any : tie.Need-shared-slice-read-any invariant-loop decreases-loop
-shared-slice-read-any c = search rules
-
-add-j : tie.Need-overflow-add-j invariant-loop decreases-loop
-add-j c = search rules
-
-loop-less : tie.Need-loop-smaller invariant-loop decreases-loop
-loop-less c = search rules
-
-loop-again : tie.Need-loop-preserved invariant-loop decreases-loop
-loop-again c = search rules
-
-returns-2 : tie.Need-returns-2 invariant-loop decreases-loop
-returns-2 c = search rules
-
-pub few-set-spec : {M : Type 1} → statement M
-few-set-spec =
+pub few_set_spec : {M : Type 1} → statement M
+few_set_spec =
     tie.close
     (tie.spec
-    invariant-loop
-    decreases-loop
-    sub-if1
-    returns
-    loop-holds
-    add-any
-    mul-any
-    shared-slice-read-any
-    add-j
-    loop-less
-    loop-again
-    returns-2)
+    invariant-loop-j
+    decreases-loop-j
+    overflow_sub-words
+    returns-then-words-from-lt-BLOCK
+    loop-j-init
+    overflow_add-any
+    offset_bounds-words-from
+    bounds-words-from
+    overflow_add-j
+    loop-j-smaller
+    loop-j-preserved
+    returns)

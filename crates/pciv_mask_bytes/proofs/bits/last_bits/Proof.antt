@@ -8,31 +8,31 @@ use borrow.Author.Rules.{rules}
 use Rattle.pciv_mask_bytes.proofs.bits.last_bits.Statement.{statement}
 use Rattle.pciv_mask_bytes.proofs.bits.last_bits.Tie as tie
 
-slice-aggregate-put-word : tie.Need-slice-aggregate-put-word
-slice-aggregate-put-word c = search rules
+slice_bounds-put_word-end : tie.Need-slice_bounds-put_word-end
+slice_bounds-put_word-end c = search rules
 
-mul-put-word : tie.Need-overflow-mul-put-word
-mul-put-word c = search rules
+offset_bounds-words-n : tie.Need-offset_bounds-words-n
+offset_bounds-words-n c = search rules
 
-shared-slice-read-put-word : tie.Need-shared-slice-read-put-word
-shared-slice-read-put-word c = search rules
+bounds-words-n : tie.Need-bounds-words-n
+bounds-words-n c = search rules
 
-put-word-requires : tie.Need-put-word-requires
-put-word-requires c κs = search rules
+put_word-requires : tie.Need-put_word-requires
+put_word-requires c κs = search rules
 
-returns : tie.Need-returns
-returns c = let p = c.before in p.put_word.ensures ∙ sets-whole _ _ (length-table _ 0 64)
+returns-then-n-words : tie.Need-returns-then-n-words
+returns-then-n-words c = c.put_word.ensures ∙ sets-whole _ _ (length-table _ 0 64)
 
-returns-2 : tie.Need-returns-2
-returns-2 c = let a = c.before.before.args in no_bytes a.words.now (a.n / 64) c.if1.false
+returns-else-n-words : tie.Need-returns-else-n-words
+returns-else-n-words c = let a = c.args in no_bytes a.words.now (a.n / 64) c.if-n-words.false
 
-pub last-bits-spec : {M : Type 1} → statement M
-last-bits-spec =
+pub last_bits_spec : {M : Type 1} → statement M
+last_bits_spec =
     tie.close
     (tie.spec
-    slice-aggregate-put-word
-    mul-put-word
-    shared-slice-read-put-word
-    put-word-requires
-    returns
-    returns-2)
+    slice_bounds-put_word-end
+    offset_bounds-words-n
+    bounds-words-n
+    put_word-requires
+    returns-then-n-words
+    returns-else-n-words)

@@ -11,138 +11,131 @@ use borrow.Author.Rules.{rules}
 use Rattle.pciv_mask_bytes.proofs.bits.put_bits.Statement.{statement}
 use Rattle.pciv_mask_bytes.proofs.bits.put_bits.Tie as tie
 
-abbrev invariant-loop : tie.invariant-loop
-invariant-loop out₀ n words rows i₀ out i = (i % 64 ≡ 0) × SlotsLeft (mask_value words) n out₀ 0 out i
+abbrev invariant-loop-i : tie.invariant-loop-i
+invariant-loop-i out₀ n words rows i₀ out i = (i % 64 ≡ 0) × SlotsLeft (mask_value words) n out₀ 0 out i
 
-abbrev decreases-loop : tie.decreases-loop
-decreases-loop out₀ n words rows i₀ out i = n - i
+abbrev decreases-loop-i : tie.decreases-loop-i
+decreases-loop-i out₀ n words rows i₀ out i = n - i
 
-abbrev invariant-loop2 : tie.invariant-loop2
-invariant-loop2 out₀ n words i₀ bits out i = (64 * (n / 64) ≤ i) × SlotsLeft (mask_value words) n out₀ i₀ out i
+abbrev invariant-loop-i-2 : tie.invariant-loop-i-2
+invariant-loop-i-2 out₀ n words i₀ bits out i = (64 * (n / 64) ≤ i) × SlotsLeft (mask_value words) n out₀ i₀ out i
 
-abbrev decreases-loop2 : tie.decreases-loop2
-decreases-loop2 out₀ n words i₀ bits out i = n - i
+abbrev decreases-loop-i-2 : tie.decreases-loop-i-2
+decreases-loop-i-2 out₀ n words i₀ bits out i = n - i
 
-abbrev start : tie.In-loop invariant-loop decreases-loop invariant-loop2 decreases-loop2 → tie.Start invariant-loop decreases-loop invariant-loop2 decreases-loop2
+abbrev start : tie.In-loop-i invariant-loop-i decreases-loop-i invariant-loop-i-2 decreases-loop-i-2 → tie.Start invariant-loop-i decreases-loop-i invariant-loop-i-2 decreases-loop-i-2
 start c = c.before.before.before.before.before
 
-abbrev start2 : tie.In-loop2 invariant-loop decreases-loop invariant-loop2 decreases-loop2 → tie.Start invariant-loop decreases-loop invariant-loop2 decreases-loop2
+abbrev start2 : tie.In-loop-i-2 invariant-loop-i decreases-loop-i invariant-loop-i-2 decreases-loop-i-2 → tie.Start invariant-loop-i decreases-loop-i invariant-loop-i-2 decreases-loop-i-2
 start2 c = c.before.before.before.before.before.before.before.before.before
 
-bit-rows-requires : tie.Need-bit-rows-requires invariant-loop decreases-loop invariant-loop2 decreases-loop2
-bit-rows-requires c κs = search rules
+bit_rows-rows-requires : tie.Need-bit_rows-rows-requires invariant-loop-i decreases-loop-i invariant-loop-i-2 decreases-loop-i-2
+bit_rows-rows-requires c κs = search rules
 
-loop-holds : tie.Need-loop-init invariant-loop decreases-loop invariant-loop2 decreases-loop2
-loop-holds c =
-    let a = c.before.before.before.args in
+loop-i-init : tie.Need-loop-i-init invariant-loop-i decreases-loop-i invariant-loop-i-2 decreases-loop-i-2
+loop-i-init c =
+    let a = c.args in
     (refl, slots-start (mask_value a.words.now) a.n a.out.now 0 (omega arith))
 
-sub-loop : tie.Need-overflow-sub-loop invariant-loop decreases-loop invariant-loop2 decreases-loop2
-sub-loop c = search rules
+overflow_sub-n : tie.Need-overflow_sub-n invariant-loop-i decreases-loop-i invariant-loop-i-2 decreases-loop-i-2
+overflow_sub-n c = search rules
 
-add-put-word : tie.Need-overflow-add-put-word invariant-loop decreases-loop invariant-loop2 decreases-loop2
-add-put-word c = search rules
+overflow_add-i : tie.Need-overflow_add-i invariant-loop-i decreases-loop-i invariant-loop-i-2 decreases-loop-i-2
+overflow_add-i c = search rules
 
-mul-put-word : tie.Need-overflow-mul-put-word invariant-loop decreases-loop invariant-loop2 decreases-loop2
-mul-put-word c = search rules
+offset_bounds-words-i : tie.Need-offset_bounds-words-i invariant-loop-i decreases-loop-i invariant-loop-i-2 decreases-loop-i-2
+offset_bounds-words-i c = search rules
 
-shared-slice-read-put-word : tie.Need-shared-slice-read-put-word invariant-loop decreases-loop invariant-loop2 decreases-loop2
-shared-slice-read-put-word c = search rules
+bounds-words-i : tie.Need-bounds-words-i invariant-loop-i decreases-loop-i invariant-loop-i-2 decreases-loop-i-2
+bounds-words-i c = search rules
 
-put-word-requires : tie.Need-put-word-requires invariant-loop decreases-loop invariant-loop2 decreases-loop2
-put-word-requires c κs = (c.before.before.before.before.before.bit-rows.ensures, search rules)
+put_word-requires : tie.Need-put_word-requires invariant-loop-i decreases-loop-i invariant-loop-i-2 decreases-loop-i-2
+put_word-requires c κs = (c.bit_rows-rows.ensures, search rules)
 
-add-i : tie.Need-overflow-add-i invariant-loop decreases-loop invariant-loop2 decreases-loop2
-add-i c = search rules
+overflow_add-i-in-loop-i : tie.Need-overflow_add-i-in-loop-i invariant-loop-i decreases-loop-i invariant-loop-i-2 decreases-loop-i-2
+overflow_add-i-in-loop-i c = search rules
 
-loop-less : tie.Need-loop-smaller invariant-loop decreases-loop invariant-loop2 decreases-loop2
-loop-less c = search rules
+loop-i-smaller : tie.Need-loop-i-smaller invariant-loop-i decreases-loop-i invariant-loop-i-2 decreases-loop-i-2
+loop-i-smaller c = search rules
 
-loop-again : tie.Need-loop-preserved invariant-loop decreases-loop invariant-loop2 decreases-loop2
-loop-again c =
-    let p = c.before.before in
-    let w = p.before.before.before.before in
-    let l = w.before.loop in
-    let a = (start w).args in
+loop-i-preserved : tie.Need-loop-i-preserved invariant-loop-i decreases-loop-i invariant-loop-i-2 decreases-loop-i-2
+loop-i-preserved c =
+    let l = c.loop-i in
+    let a = (start c.before.before.before.before.before.before).args in
     let is = word-of-mask a.words.now l.i l.invariant.0 in (
       omega (arith, l.invariant.0),
-      slots-word (mask_value a.words.now) a.n l.invariant.1 _ _ w.loop-test.true p.put_word.ensures is,
+      slots-word (mask_value a.words.now) a.n l.invariant.1 _ _ c.loop-i-test.true c.put_word.ensures is,
     )
 
-last-bits-requires : tie.Need-last-bits-requires invariant-loop decreases-loop invariant-loop2 decreases-loop2
-last-bits-requires c κs = c.before.before.before.bit-rows.ensures
+last_bits-bits-requires : tie.Need-last_bits-bits-requires invariant-loop-i decreases-loop-i invariant-loop-i-2 decreases-loop-i-2
+last_bits-bits-requires c κs = c.bit_rows-rows.ensures
 
-loop2-holds : tie.Need-loop2-init invariant-loop decreases-loop invariant-loop2 decreases-loop2
-loop2-holds c =
-    let w = c.before.before in
-    let l = w.before.loop in
-    let a = w.before.before.before.before.before.args in (
-      omega (arith, l.invariant.0, l.invariant.1.inside, w.loop-test.false),
+loop-i-2-init : tie.Need-loop-i-2-init invariant-loop-i decreases-loop-i invariant-loop-i-2 decreases-loop-i-2
+loop-i-2-init c =
+    let l = c.loop-i in
+    let a = c.args in (
+      omega (arith, l.invariant.0, l.invariant.1.inside, c.loop-i-test.false),
       slots-start (mask_value a.words.now) a.n l.out l.i l.invariant.1.inside,
     )
 
-array-read-out : tie.Need-array-read-out invariant-loop decreases-loop invariant-loop2 decreases-loop2
-array-read-out c = search rules
+bounds-bits-i : tie.Need-bounds-bits-i invariant-loop-i decreases-loop-i invariant-loop-i-2 decreases-loop-i-2
+bounds-bits-i c = search rules
 
-add-out : tie.Need-overflow-add-out invariant-loop decreases-loop invariant-loop2 decreases-loop2
-add-out c = search rules
+overflow_add-out : tie.Need-overflow_add-out invariant-loop-i decreases-loop-i invariant-loop-i-2 decreases-loop-i-2
+overflow_add-out c = search rules
 
-slice-write-out : tie.Need-slice-write-out invariant-loop decreases-loop invariant-loop2 decreases-loop2
-slice-write-out c =
-    let l = c.before in
-    let words = l.before.before.before.before.loop.invariant.1 in
-    omega (arith, (start2 c).requires.1, c.loop2-test.true, l.loop2.invariant.1.same, words.same)
+bounds-out-i : tie.Need-bounds-out-i invariant-loop-i decreases-loop-i invariant-loop-i-2 decreases-loop-i-2
+bounds-out-i c =
+    let words = c.loop-i.invariant.1 in
+    omega (arith, (start2 c).requires.1, c.loop-i-2-test.true, c.loop-i-2.invariant.1.same, words.same)
 
-add-i-2 : tie.Need-overflow-add-i-2 invariant-loop decreases-loop invariant-loop2 decreases-loop2
-add-i-2 c = search rules
+overflow_add-i-in-loop-i-2 : tie.Need-overflow_add-i-in-loop-i-2 invariant-loop-i decreases-loop-i invariant-loop-i-2 decreases-loop-i-2
+overflow_add-i-in-loop-i-2 c = search rules
 
-loop2-less : tie.Need-loop2-smaller invariant-loop decreases-loop invariant-loop2 decreases-loop2
-loop2-less c = search rules
+loop-i-2-smaller : tie.Need-loop-i-2-smaller invariant-loop-i decreases-loop-i invariant-loop-i-2 decreases-loop-i-2
+loop-i-2-smaller c = search rules
 
-loop2-again : tie.Need-loop2-preserved invariant-loop decreases-loop invariant-loop2 decreases-loop2
-loop2-again c =
-    let b = c.before.before in
-    let l = c.before.loop2 in
+loop-i-2-preserved : tie.Need-loop-i-2-preserved invariant-loop-i decreases-loop-i invariant-loop-i-2 decreases-loop-i-2
+loop-i-2-preserved c =
+    let l = c.loop-i-2 in
     let a = (start2 c).args in
-    let more = c.loop2-test.true in
-    let bit = last_bit _ a.words.now a.n l.i b.last-bits.ensures l.invariant.0 more in
+    let more = c.loop-i-2-test.true in
+    let bit = last_bit _ a.words.now a.n l.i c.last_bits-bits.ensures l.invariant.0 more in
     (omega (arith, l.invariant.0), slots-one (mask_value a.words.now) a.n l.invariant.1 _ more bit)
 
-same_length : tie.Need-same-length invariant-loop decreases-loop invariant-loop2 decreases-loop2
-same_length c = search rules
+shape_of-out : tie.Need-shape_of-out invariant-loop-i decreases-loop-i invariant-loop-i-2 decreases-loop-i-2
+shape_of-out c = search rules
 
-returns : tie.Need-returns invariant-loop decreases-loop invariant-loop2 decreases-loop2
+returns : tie.Need-returns invariant-loop-i decreases-loop-i invariant-loop-i-2 decreases-loop-i-2
 returns c =
-    let l = c.before in
-    let k = l.before.before.before.before in
-    let a = k.before.before.before.before.args in
-    slots_end (mask_value a.words.now) a.n k.loop.invariant.1 l.loop2.invariant.1 c.loop2-test.false
+    let a = c.args in
+    slots_end (mask_value a.words.now) a.n c.loop-i.invariant.1 c.loop-i-2.invariant.1 c.loop-i-2-test.false
 
-pub put-bits-spec : {M : Type 1} → statement M
-put-bits-spec =
+pub put_bits_spec : {M : Type 1} → statement M
+put_bits_spec =
     tie.close
     (tie.spec
-    invariant-loop
-    decreases-loop
-    invariant-loop2
-    decreases-loop2
-    bit-rows-requires
-    loop-holds
-    sub-loop
-    add-put-word
-    mul-put-word
-    shared-slice-read-put-word
-    put-word-requires
-    add-i
-    loop-less
-    loop-again
-    last-bits-requires
-    loop2-holds
-    array-read-out
-    add-out
-    slice-write-out
-    add-i-2
-    loop2-less
-    loop2-again
-    same_length
+    invariant-loop-i
+    decreases-loop-i
+    invariant-loop-i-2
+    decreases-loop-i-2
+    bit_rows-rows-requires
+    loop-i-init
+    overflow_sub-n
+    overflow_add-i
+    offset_bounds-words-i
+    bounds-words-i
+    put_word-requires
+    overflow_add-i-in-loop-i
+    loop-i-smaller
+    loop-i-preserved
+    last_bits-bits-requires
+    loop-i-2-init
+    bounds-bits-i
+    overflow_add-out
+    bounds-out-i
+    overflow_add-i-in-loop-i-2
+    loop-i-2-smaller
+    loop-i-2-preserved
+    shape_of-out
     returns)

@@ -14,50 +14,46 @@ use borrow.Author.Rules.{rules}
 use Rattle.pciv_mask_bytes.proofs.bits.put_word.Statement.{statement}
 use Rattle.pciv_mask_bytes.proofs.bits.put_word.Tie as tie
 
-abbrev invariant-loop : tie.invariant-loop
-invariant-loop out₀ at rows word j₀ out j =
+abbrev invariant-loop-j : tie.invariant-loop-j
+invariant-loop-j out₀ at rows word j₀ out j =
     (j ≤ 64)
     × (j % 8 ≡ 0)
     × (length out ≡ length out₀)
     × (sets out₀ at (table (bit_at word) 0 64) ≡ sets out (at + j) (table (bit_at word) j (64 - j)))
 
-abbrev decreases-loop : tie.decreases-loop
-decreases-loop out₀ at rows word j₀ out j = 64 - j
+abbrev decreases-loop-j : tie.decreases-loop-j
+decreases-loop-j out₀ at rows word j₀ out j = 64 - j
 
-loop-holds : tie.Need-loop-init invariant-loop decreases-loop
-loop-holds c =
-    let a = c.before.args in
+loop-j-init : tie.Need-loop-j-init invariant-loop-j decreases-loop-j
+loop-j-init c =
+    let a = c.args in
     (omega arith, refl, refl, sets-table-start (bit_at a.word) a.at 64 a.out.now)
 
-add-put-row : tie.Need-overflow-add-put-row invariant-loop decreases-loop
-add-put-row c = search rules
+overflow_add-at : tie.Need-overflow_add-at invariant-loop-j decreases-loop-j
+overflow_add-at c = search rules
 
-eight-bits-requires : tie.Need-eight-bits-requires invariant-loop decreases-loop
-eight-bits-requires c κs = search rules
+eight_bits-requires : tie.Need-eight_bits-requires invariant-loop-j decreases-loop-j
+eight_bits-requires c κs = search rules
 
-put-row-requires : tie.Need-put-row-requires invariant-loop decreases-loop
-put-row-requires c κs =
-    let s = c.before.before.before.before.before in
-    (s.requires.0, omega (arith, c.eight-bits.ensures), search rules)
+put_row-requires : tie.Need-put_row-requires invariant-loop-j decreases-loop-j
+put_row-requires c κs =
+    (c.requires.0, omega (arith, c.eight_bits.ensures), search rules)
 
-add-j : tie.Need-overflow-add-j invariant-loop decreases-loop
-add-j c = search rules
+overflow_add-j : tie.Need-overflow_add-j invariant-loop-j decreases-loop-j
+overflow_add-j c = search rules
 
-loop-less : tie.Need-loop-smaller invariant-loop decreases-loop
-loop-less c = search rules
+loop-j-smaller : tie.Need-loop-j-smaller invariant-loop-j decreases-loop-j
+loop-j-smaller c = search rules
 
-loop-again : tie.Need-loop-preserved invariant-loop decreases-loop
-loop-again c =
-    let p = c.before.before in
-    let e = p.before in
-    let w = e.before.before in
-    let l = w.before.loop in
-    let a = w.before.before.before.args in
+loop-j-preserved : tie.Need-loop-j-preserved invariant-loop-j decreases-loop-j
+loop-j-preserved c =
+    let l = c.loop-j in
+    let a = c.args in
     let f : ℕ → ℕ = bit_at a.word in
-    let row = ap bits_row e.eight-bits.ensures ∙ row-of-word a.word l.j in
-    let put : p.put-row.new.0 ≡ sets l.out (a.at + l.j) (table f l.j 8) =
-    p.put-row.ensures ∙ ap (sets l.out (a.at + l.j)) row in
-    let fits : l.j + 8 ≤ 64 = omega (arith, w.loop-test.true, l.invariant.1) in
+    let row = ap bits_row c.eight_bits.ensures ∙ row-of-word a.word l.j in
+    let put : c.put_row.new.out ≡ sets l.out (a.at + l.j) (table f l.j 8) =
+    c.put_row.ensures ∙ ap (sets l.out (a.at + l.j)) row in
+    let fits : l.j + 8 ≤ 64 = omega (arith, c.loop-j-test.true, l.invariant.1) in
     let left = sets-table-part f a.at 64 l.j 8 l.out fits in
     let next : ℕ = l.j + 8 in (
       fits,
@@ -66,27 +62,27 @@ loop-again c =
       l.invariant.3 ∙ left ∙ ap (λ (d : List ℕ). sets d (a.at + next) (table f next (64 - next))) (sym put),
     )
 
-same_length : tie.Need-same-length invariant-loop decreases-loop
-same_length c = search rules
+shape_of-out : tie.Need-shape_of-out invariant-loop-j decreases-loop-j
+shape_of-out c = search rules
 
-returns : tie.Need-returns invariant-loop decreases-loop
+returns : tie.Need-returns invariant-loop-j decreases-loop-j
 returns c =
-    let a = c.before.before.before.args in
-    let l = c.before.loop in
-    sym (l.invariant.3 ∙ sets-table-end (bit_at a.word) a.at 64 l.j _ (omega (arith, c.loop-test.false)))
+    let a = c.args in
+    let l = c.loop-j in
+    sym (l.invariant.3 ∙ sets-table-end (bit_at a.word) a.at 64 l.j _ (omega (arith, c.loop-j-test.false)))
 
-pub put-word-spec : {M : Type 1} → statement M
-put-word-spec =
+pub put_word_spec : {M : Type 1} → statement M
+put_word_spec =
     tie.close
     (tie.spec
-    invariant-loop
-    decreases-loop
-    loop-holds
-    add-put-row
-    eight-bits-requires
-    put-row-requires
-    add-j
-    loop-less
-    loop-again
-    same_length
+    invariant-loop-j
+    decreases-loop-j
+    loop-j-init
+    overflow_add-at
+    eight_bits-requires
+    put_row-requires
+    overflow_add-j
+    loop-j-smaller
+    loop-j-preserved
+    shape_of-out
     returns)

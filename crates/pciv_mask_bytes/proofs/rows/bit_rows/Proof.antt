@@ -10,5 +10,5 @@ returns : tie.Need-returns
 unfolding bit_rows table bit_at
 returns c = refl
 
-pub bit-rows-spec : {M : Type 1} → statement M
-bit-rows-spec = tie.close (tie.spec returns)
+pub bit_rows_spec : {M : Type 1} → statement M
+bit_rows_spec = tie.close (tie.spec returns)

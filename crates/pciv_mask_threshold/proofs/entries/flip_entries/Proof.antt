@@ -21,131 +21,127 @@ use borrow.Author.Rules.{rules}
 use Rattle.pciv_mask_threshold.proofs.entries.flip_entries.Statement.{statement}
 use Rattle.pciv_mask_threshold.proofs.entries.flip_entries.Tie as tie
 
-abbrev invariant-loop : tie.invariant-loop
-invariant-loop file n k limit out₀ j₀ out j =
+abbrev invariant-loop-j : tie.invariant-loop-j
+invariant-loop-j file n k limit out₀ j₀ out j =
     (j ≤ k) × (length out ≡ length out₀)
     × ((d : List ℕ) (p : ℕ → Bool) → out₀ ≡ sets d 0 (mask_of n p)
     → out ≡ sets d 0 (mask_of n (settled (file_parts file n k) limit p j)))
 
-abbrev decreases-loop : tie.decreases-loop
-decreases-loop file n k limit out₀ j₀ out j = k - j
+abbrev decreases-loop-j : tie.decreases-loop-j
+decreases-loop-j file n k limit out₀ j₀ out j = k - j
 
 -- ---- at the loop: the function's entry, the parts of the file, and that the file is bytes
 
-abbrev entry : tie.At-loop invariant-loop decreases-loop → tie.Start invariant-loop decreases-loop
+abbrev entry : tie.At-loop-j invariant-loop-j decreases-loop-j → tie.Start invariant-loop-j decreases-loop-j
 entry d = d.before.before.before
 
-abbrev parts : tie.Start invariant-loop decreases-loop → Parts
+abbrev parts : tie.Start invariant-loop-j decreases-loop-j → Parts
 parts s = file_parts s.args.file.now s.args.n s.args.k
 
-bytes : (d : tie.At-loop invariant-loop decreases-loop) → (i : ℕ) → (parts (entry d)).byte i < 256
-bytes d i = (d.before.before.shared-slice-known.given (40 + i)).fits
+bytes : (d : tie.At-loop-j invariant-loop-j decreases-loop-j) → (i : ℕ) → (parts (entry d)).byte i < 256
+bytes d i = (d.shared_slice_known-1.given (40 + i)).fits
 
 -- entry j has its slot in the map, and its word in out
-inside : (d : tie.At-loop invariant-loop decreases-loop) → d.loop.j < (parts (entry d)).k
-    → (parts (entry d)).slot d.loop.j < (parts (entry d)).n
-inside d h = (entry-good (parts (entry d)) (entry d).requires.0.parts d.loop.j h).inside
+inside : (d : tie.At-loop-j invariant-loop-j decreases-loop-j) → d.loop-j.j < (parts (entry d)).k
+    → (parts (entry d)).slot d.loop-j.j < (parts (entry d)).n
+inside d h = (entry-good (parts (entry d)) (entry d).requires.0.parts d.loop-j.j h).inside
 
-long : (d : tie.At-loop invariant-loop decreases-loop) → mask_len (parts (entry d)).n ≤ length d.loop.out
-long d = omega (arith, d.loop.invariant.1, (entry d).requires.1.1)
+long : (d : tie.At-loop-j invariant-loop-j decreases-loop-j) → mask_len (parts (entry d)).n ≤ length d.loop-j.out
+long d = omega (arith, d.loop-j.invariant.1, (entry d).requires.1.1)
 
-loop-holds : tie.Need-loop-init invariant-loop decreases-loop
-loop-holds c =
-    let s = c.before.before in
-    let file : (i : ℕ) → (parts s).byte i < 256 = λ i. (c.before.shared-slice-known.given (40 + i)).fits in (
+loop-j-init : tie.Need-loop-j-init invariant-loop-j decreases-loop-j
+loop-j-init c =
+    let file : (i : ℕ) → (parts c.before.before).byte i < 256 = λ i. (c.shared_slice_known-1.given (40 + i)).fits in (
       omega arith,
       refl,
-      λ d p e. e ∙ ap (sets d 0) (settled-start (parts s) s.requires.0.parts file s.args.limit s.requires.1.0 p),
+      λ d p e. e ∙ ap (sets d 0) (settled-start (parts c.before.before) c.requires.0.parts file c.args.limit c.requires.1.0 p),
     )
 
-entry-slot-requires : tie.Need-entry-slot-requires invariant-loop decreases-loop
-entry-slot-requires c κs =
+entry_slot-slot-requires : tie.Need-entry_slot-slot-requires invariant-loop-j decreases-loop-j
+entry_slot-slot-requires c κs =
     let s = entry c.before in
-    entry-inside s.args.file.now s.args.n s.args.k s.pre.0 c.before.loop.j (omega arith)
+    entry-inside s.args.file.now s.args.n s.args.k s.requires.0 c.loop-j.j (omega arith)
 
-entry-distance-requires : tie.Need-entry-distance-requires invariant-loop decreases-loop
-entry-distance-requires c κs = entry-slot-requires c.before κs
+entry_distance-distance-requires : tie.Need-entry_distance-distance-requires invariant-loop-j decreases-loop-j
+entry_distance-distance-requires c κs = entry_slot-slot-requires c.before κs
 
-cast-out : tie.Need-overflow-cast-out invariant-loop decreases-loop
-cast-out c = search rules
+overflow_cast-out : tie.Need-overflow_cast-out invariant-loop-j decreases-loop-j
+overflow_cast-out c = search rules
 
-cast-out-2 : tie.Need-overflow-cast-out-2 invariant-loop decreases-loop
-cast-out-2 c = search rules
+overflow_cast-out-in-loop-j : tie.Need-overflow_cast-out-in-loop-j invariant-loop-j decreases-loop-j
+overflow_cast-out-in-loop-j c = search rules
 
-shl-out : tie.Need-overflow-shl-out invariant-loop decreases-loop
-shl-out c = search rules
+overflow_shl-out : tie.Need-overflow_shl-out invariant-loop-j decreases-loop-j
+overflow_shl-out c = search rules
 
-mul-out : tie.Need-overflow-mul-out invariant-loop decreases-loop
-mul-out c =
-    let d = c.before.before.before in
-    let e = c.before.entry-slot.ensures in
-    omega (arith, e, inside d (omega arith), long d, (entry d).well-formed)
+offset_bounds-out-w : tie.Need-offset_bounds-out-w invariant-loop-j decreases-loop-j
+offset_bounds-out-w c =
+    let e = c.entry_slot-slot.ensures in
+    omega (arith, e, inside c.before.before.before (omega arith), long c.before.before.before, (entry c.before.before.before).well_formed)
 
-slice-read-out : tie.Need-slice-read-out invariant-loop decreases-loop
-slice-read-out c =
-    let d = c.before.before.before.before in
-    let e = c.before.before.entry-slot.ensures in
-    omega (arith, e, inside d (omega arith), long d)
+bounds-out-w : tie.Need-bounds-out-w invariant-loop-j decreases-loop-j
+bounds-out-w c =
+    let e = c.entry_slot-slot.ensures in
+    omega (arith, e, inside c.before.before.before.before (omega arith), long c.before.before.before.before)
 
-slice-write-out : tie.Need-slice-write-out invariant-loop decreases-loop
-slice-write-out c = slice-read-out c
+bounds-out-w-in-loop-j : tie.Need-bounds-out-w-in-loop-j invariant-loop-j decreases-loop-j
+bounds-out-w-in-loop-j c =
+    omega (arith, c.entry_slot-slot.ensures, inside c.before.before.before.before (omega arith), long c.before.before.before.before)
 
-add-j : tie.Need-overflow-add-j invariant-loop decreases-loop
-add-j c = search rules
+overflow_add-j : tie.Need-overflow_add-j invariant-loop-j decreases-loop-j
+overflow_add-j c = search rules
 
-loop-less : tie.Need-loop-smaller invariant-loop decreases-loop
-loop-less c = search rules
+loop-j-smaller : tie.Need-loop-j-smaller invariant-loop-j decreases-loop-j
+loop-j-smaller c = search rules
 
-loop-again : tie.Need-loop-preserved invariant-loop decreases-loop
-loop-again c =
-    let d = c.before.before.before.before in
-    let s = entry d in
+loop-j-preserved : tie.Need-loop-j-preserved invariant-loop-j decreases-loop-j
+loop-j-preserved c =
+    let s = entry c.before.before.before.before in
     let a = s.args in
     let P = parts s in
-    let j = d.loop.j in
+    let j = c.loop-j.j in
     let here : j < P.k = omega arith in (
       omega arith,
-      simp length-set d.loop.invariant.1,
+      simp length-set c.loop-j.invariant.1,
       λ f p e.
-          rw (d.loop.invariant.2 f p e, c.before.before.entry-slot.ensures, c.before.entry-distance.ensures)
+          rw (c.loop-j.invariant.2 f p e, c.entry_slot-slot.ensures, c.entry_distance-distance.ensures)
           (flip-front f a.n (settled P a.limit p j) (P.slot j) (leb a.limit (P.distance j)) _
           (bool_byte-flag (leb a.limit (P.distance j)))
-          (omega (arith, s.pre.1.1, ap length e, length-sets f 0 (mask_of a.n p))) (inside d here)
-          ∙ ap (sets f 0) (settled-more P s.pre.0.parts (bytes d) a.limit s.pre.1.0 p j here)),
+          (omega (arith, s.requires.1.1, ap length e, length-sets f 0 (mask_of a.n p))) (inside c.before.before.before.before here)
+          ∙ ap (sets f 0) (settled-more P s.requires.0.parts (bytes c.before.before.before.before) a.limit s.requires.1.0 p j here)),
     )
 
-same_length : tie.Need-same-length invariant-loop decreases-loop
-same_length c = search rules
+shape_of-out : tie.Need-shape_of-out invariant-loop-j decreases-loop-j
+shape_of-out c = search rules
 
-returns : tie.Need-returns invariant-loop decreases-loop
+returns : tie.Need-returns invariant-loop-j decreases-loop-j
 returns c f p e =
-    let d = c.before in
-    let s = entry d in
+    let s = entry c.before in
     let a = s.args in
     let P = parts s in
-    let all : d.loop.j ≡ a.k = omega arith in
-    let end : mask_of a.n (settled P a.limit p d.loop.j) ≡ mask_of a.n (flipped_from P a.limit p) =
+    let all : c.loop-j.j ≡ a.k = omega arith in
+    let end : mask_of a.n (settled P a.limit p c.loop-j.j) ≡ mask_of a.n (flipped_from P a.limit p) =
     ap (λ (j : ℕ). mask_of a.n (settled P a.limit p j)) all
-    ∙ settled-end P s.pre.0.parts (bytes d) a.limit s.pre.1.0 p in
-    d.loop.invariant.2 f p e ∙ ap (sets f 0) end
+    ∙ settled-end P s.requires.0.parts (bytes c.before) a.limit s.requires.1.0 p in
+    c.loop-j.invariant.2 f p e ∙ ap (sets f 0) end
 
-pub flip-entries-spec : {M : Type 1} → statement M
-flip-entries-spec =
+pub flip_entries_spec : {M : Type 1} → statement M
+flip_entries_spec =
     tie.close
     (tie.spec
-    invariant-loop
-    decreases-loop
-    loop-holds
-    entry-slot-requires
-    entry-distance-requires
-    cast-out
-    cast-out-2
-    shl-out
-    mul-out
-    slice-read-out
-    slice-write-out
-    add-j
-    loop-less
-    loop-again
-    same_length
+    invariant-loop-j
+    decreases-loop-j
+    loop-j-init
+    entry_slot-slot-requires
+    entry_distance-distance-requires
+    overflow_cast-out
+    overflow_cast-out-in-loop-j
+    overflow_shl-out
+    offset_bounds-out-w
+    bounds-out-w
+    bounds-out-w-in-loop-j
+    overflow_add-j
+    loop-j-smaller
+    loop-j-preserved
+    shape_of-out
     returns)

@@ -14,47 +14,45 @@ in-case : (a : List ℕ) (from to r : ℕ) {of case : Term} → of ≡ case
     → r ≡ sum_from (term_at case a) from (to - from) → r ≡ sum_from (term_at of a) from (to - from)
 in-case a from to r e sum = rw e sum
 
-enum-known-of : tie.Need-enum-known-of
-enum-known-of c = search rules
+enum_known-of : tie.Need-enum_known-of
+enum_known-of c = search rules
 
-count-part-requires : tie.Need-count-part-requires
-count-part-requires c κs = search rules
+count_part-requires : tie.Need-count_part-requires
+count_part-requires c κs = search rules
 
-cast-result : tie.Need-overflow-cast-result
-cast-result c = search rules
+overflow_cast-result : tie.Need-overflow_cast-result
+overflow_cast-result c = search rules
 
-enum_told : tie.Need-enum-told
-enum_told c = search rules
+enum_told-1 : tie.Need-enum_told-1
+enum_told-1 c = search rules
 
-sum-part-requires : tie.Need-sum-part-requires
-sum-part-requires c κs = search rules
+sum_part-requires : tie.Need-sum_part-requires
+sum_part-requires c κs = search rules
 
-cast-result-2 : tie.Need-overflow-cast-result-2
-cast-result-2 c = search rules
+overflow_cast-result-in-Byte : tie.Need-overflow_cast-result-in-Byte
+overflow_cast-result-in-Byte c = search rules
 
 -- the bytes equal to one
-returns : tie.Need-returns
-returns c =
-    let d = c.before.before in
-    let a = d.before.before.before.args in
-    in-case a.a.now a.from a.to c.count-part.result d.of.given.1 c.count-part.ensures
+returns-in-Passing : tie.Need-returns-in-Passing
+returns-in-Passing c =
+    let a = c.args in
+    in-case a.a.now a.from a.to c.count_part.result c.in-Passing.is c.count_part.ensures
 
 -- the bytes themselves
-returns-2 : tie.Need-returns-2
-returns-2 c =
-    let d = c.before in
-    let a = d.before.before.before.args in
-    in-case a.a.now a.from a.to c.sum-part.result d.enum_told.given.1 c.sum-part.ensures
+returns-in-Byte : tie.Need-returns-in-Byte
+returns-in-Byte c =
+    let a = c.args in
+    in-case a.a.now a.from a.to c.sum_part.result c.in-Byte.is c.sum_part.ensures
 
-pub add-part-spec : {M : Type 1} → statement M
-add-part-spec =
+pub add_part_spec : {M : Type 1} → statement M
+add_part_spec =
     tie.close
     (tie.spec
-    enum-known-of
-    count-part-requires
-    cast-result
-    enum_told
-    sum-part-requires
-    cast-result-2
-    returns
-    returns-2)
+    enum_known-of
+    count_part-requires
+    overflow_cast-result
+    enum_told-1
+    sum_part-requires
+    overflow_cast-result-in-Byte
+    returns-in-Passing
+    returns-in-Byte)

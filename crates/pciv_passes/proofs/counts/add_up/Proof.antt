@@ -11,67 +11,66 @@ use Rattle.pciv_bytes.proofs.SumLaws.{Added, added_none, added-part, added-all}
 use Rattle.pciv_passes.proofs.counts.add_up.Statement.{statement}
 use Rattle.pciv_passes.proofs.counts.add_up.Tie as tie
 
-abbrev invariant-loop : tie.invariant-loop
-invariant-loop of a n sum₀ i₀ sum i = Added (term_at of a) n (sum_from (term_at of a) 0 (length a)) i sum
+abbrev invariant-loop-i : tie.invariant-loop-i
+invariant-loop-i of a n sum₀ i₀ sum i = Added (term_at of a) n (sum_from (term_at of a) 0 (length a)) i sum
 
-abbrev decreases-loop : tie.decreases-loop
-decreases-loop of a n sum₀ i₀ sum i = n - i
+abbrev decreases-loop-i : tie.decreases-loop-i
+decreases-loop-i of a n sum₀ i₀ sum i = n - i
 
-loop-holds : tie.Need-loop-init invariant-loop decreases-loop
-loop-holds c =
-    let a = c.before.args in
+loop-i-init : tie.Need-loop-i-init invariant-loop-i decreases-loop-i
+loop-i-init c =
+    let a = c.args in
     rw sub-zero at (added_none (term_at a.of a.a.now) 0 (length a.a.now) (omega arith))
 
-sub-loop : tie.Need-overflow-sub-loop invariant-loop decreases-loop
-sub-loop c = search rules
+overflow_sub-n : tie.Need-overflow_sub-n invariant-loop-i decreases-loop-i
+overflow_sub-n c = search rules
 
-add-add-part : tie.Need-overflow-add-add-part invariant-loop decreases-loop
-add-add-part c = search rules
+overflow_add-i : tie.Need-overflow_add-i invariant-loop-i decreases-loop-i
+overflow_add-i c = search rules
 
-add-part-requires : tie.Need-add-part-requires invariant-loop decreases-loop
-add-part-requires c κs = search rules
+add_part-sum-requires : tie.Need-add_part-sum-requires invariant-loop-i decreases-loop-i
+add_part-sum-requires c κs = search rules
 
-loop-again : tie.Need-loop-preserved invariant-loop decreases-loop
-loop-again c =
-    let l = c.before.before.loop in
-    rw c.add-part.ensures (added-part l.invariant _ (omega arith) (omega arith))
+loop-i-preserved : tie.Need-loop-i-preserved invariant-loop-i decreases-loop-i
+loop-i-preserved c =
+    let l = c.loop-i in
+    rw c.add_part-sum.ensures (added-part l.invariant _ (omega arith) (omega arith))
 
-add-sum : tie.Need-overflow-add-sum invariant-loop decreases-loop
-add-sum c = omega (arith, (loop-again c).rest)
+overflow_add-sum : tie.Need-overflow_add-sum invariant-loop-i decreases-loop-i
+overflow_add-sum c = omega (arith, (loop-i-preserved c).rest)
 
-add-i : tie.Need-overflow-add-i invariant-loop decreases-loop
-add-i c = search rules
+overflow_add-i-in-loop-i : tie.Need-overflow_add-i-in-loop-i invariant-loop-i decreases-loop-i
+overflow_add-i-in-loop-i c = search rules
 
-loop-less : tie.Need-loop-smaller invariant-loop decreases-loop
-loop-less c = search rules
+loop-i-smaller : tie.Need-loop-i-smaller invariant-loop-i decreases-loop-i
+loop-i-smaller c = search rules
 
-add-part-requires-2 : tie.Need-add-part-requires-2 invariant-loop decreases-loop
-add-part-requires-2 c κs = search rules
+add_part-requires : tie.Need-add_part-requires invariant-loop-i decreases-loop-i
+add_part-requires c κs = search rules
 
-returns : tie.Need-returns invariant-loop decreases-loop
+returns : tie.Need-returns invariant-loop-i decreases-loop-i
 returns c =
-    let d = c.before.before in
-    let n : ℕ = length d.before.before.args.a.now in
-    let last = added-part d.loop.invariant n (omega arith) (omega arith) in
-    rw c.add-part2.ensures (added-all last (omega arith))
+    let n : ℕ = length c.args.a.now in
+    let last = added-part c.loop-i.invariant n (omega arith) (omega arith) in
+    rw c.add_part.ensures (added-all last (omega arith))
 
-add-result : tie.Need-overflow-add-result invariant-loop decreases-loop
-add-result c = omega (arith, returns c)
+overflow_add-result : tie.Need-overflow_add-result invariant-loop-i decreases-loop-i
+overflow_add-result c = omega (arith, returns c)
 
-pub add-up-spec : {M : Type 1} → statement M
-add-up-spec =
+pub add_up_spec : {M : Type 1} → statement M
+add_up_spec =
     tie.close
     (tie.spec
-    invariant-loop
-    decreases-loop
-    loop-holds
-    sub-loop
-    add-add-part
-    add-part-requires
-    add-sum
-    add-i
-    loop-less
-    loop-again
-    add-part-requires-2
-    add-result
+    invariant-loop-i
+    decreases-loop-i
+    loop-i-init
+    overflow_sub-n
+    overflow_add-i
+    add_part-sum-requires
+    overflow_add-sum
+    overflow_add-i-in-loop-i
+    loop-i-smaller
+    loop-i-preserved
+    add_part-requires
+    overflow_add-result
     returns)

@@ -9,13 +9,13 @@ use borrow.Author.Rules.{rules}
 use Rattle.pciv_passes.proofs.counts.count_from.Statement.{statement}
 use Rattle.pciv_passes.proofs.counts.count_from.Tie as tie
 
-add-up-requires : tie.Need-add-up-requires
-add-up-requires c κs =
-    let a = c.before.args in
+add_up-requires : tie.Need-add_up-requires
+add_up-requires c κs =
+    let a = c.args in
     omega (arith, sum_from-flag-le (λ (i : ℕ). leb a.x (byte_at a.a.now i)) 0 (length a.a.now))
 
 returns : tie.Need-returns
 returns c = search rules
 
-pub count-from-spec : {M : Type 1} → statement M
-count-from-spec = tie.close (tie.spec add-up-requires returns)
+pub count_from_spec : {M : Type 1} → statement M
+count_from_spec = tie.close (tie.spec add_up-requires returns)

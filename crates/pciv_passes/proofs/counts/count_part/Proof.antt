@@ -9,52 +9,51 @@ use borrow.Author.Rules.{rules}
 use Rattle.pciv_passes.proofs.counts.count_part.Statement.{statement}
 use Rattle.pciv_passes.proofs.counts.count_part.Tie as tie
 
-abbrev invariant-loop : tie.invariant-loop
-invariant-loop test a from to sum₀ i₀ sum i = Added (test_at test a) to (sum_from (test_at test a) from (to - from)) i sum
+abbrev invariant-loop-i : tie.invariant-loop-i
+invariant-loop-i test a from to sum₀ i₀ sum i = Added (test_at test a) to (sum_from (test_at test a) from (to - from)) i sum
 
-abbrev decreases-loop : tie.decreases-loop
-decreases-loop test a from to sum₀ i₀ sum i = to - i
+abbrev decreases-loop-i : tie.decreases-loop-i
+decreases-loop-i test a from to sum₀ i₀ sum i = to - i
 
-loop-holds : tie.Need-loop-init invariant-loop decreases-loop
-loop-holds c = added_none _ _ _ c.before.requires.order
+loop-i-init : tie.Need-loop-i-init invariant-loop-i decreases-loop-i
+loop-i-init c = added_none _ _ _ c.requires.order
 
-shared-slice-read-passing : tie.Need-shared-slice-read-passing invariant-loop decreases-loop
-shared-slice-read-passing c = search rules
+bounds-a-i : tie.Need-bounds-a-i invariant-loop-i decreases-loop-i
+bounds-a-i c = search rules
 
-passing-requires : tie.Need-passing-requires invariant-loop decreases-loop
-passing-requires c κs = search rules
+passing-sum-requires : tie.Need-passing-sum-requires invariant-loop-i decreases-loop-i
+passing-sum-requires c κs = search rules
 
-loop-again : tie.Need-loop-preserved invariant-loop decreases-loop
-loop-again c =
-    let d = c.before.before in
-    rw c.passing.ensures (added-one d.before.loop.invariant (omega arith))
+loop-i-preserved : tie.Need-loop-i-preserved invariant-loop-i decreases-loop-i
+loop-i-preserved c =
+    rw c.passing-sum.ensures (added-one c.loop-i.invariant (omega arith))
 
-add-sum : tie.Need-overflow-add-sum invariant-loop decreases-loop
-add-sum c =
-    let a = c.before.before.before.before.before.args in
+overflow_add-sum : tie.Need-overflow_add-sum invariant-loop-i decreases-loop-i
+overflow_add-sum c =
+    let a = c.args in
     let most = sum_from-flag-le (λ i. passes a.test (byte_at a.a.now i)) a.from (a.to - a.from) in
-    omega (arith, (loop-again c).rest, most)
+    omega (arith, (loop-i-preserved c).rest, most)
 
-add-i : tie.Need-overflow-add-i invariant-loop decreases-loop
-add-i c = search rules
+overflow_add-i : tie.Need-overflow_add-i invariant-loop-i decreases-loop-i
+overflow_add-i c = search rules
 
-loop-less : tie.Need-loop-smaller invariant-loop decreases-loop
-loop-less c = search rules
+loop-i-smaller : tie.Need-loop-i-smaller invariant-loop-i decreases-loop-i
+loop-i-smaller c = search rules
 
-returns : tie.Need-returns invariant-loop decreases-loop
-returns c = added-all c.before.loop.invariant (omega arith)
+returns : tie.Need-returns invariant-loop-i decreases-loop-i
+returns c = added-all c.loop-i.invariant (omega arith)
 
-pub count-part-spec : {M : Type 1} → statement M
-count-part-spec =
+pub count_part_spec : {M : Type 1} → statement M
+count_part_spec =
     tie.close
     (tie.spec
-    invariant-loop
-    decreases-loop
-    loop-holds
-    shared-slice-read-passing
-    passing-requires
-    add-sum
-    add-i
-    loop-less
-    loop-again
+    invariant-loop-i
+    decreases-loop-i
+    loop-i-init
+    bounds-a-i
+    passing-sum-requires
+    overflow_add-sum
+    overflow_add-i
+    loop-i-smaller
+    loop-i-preserved
     returns)

@@ -5,29 +5,33 @@ use borrow.Author.Rules.{rules}
 use Rattle.pciv_passes.proofs.counts.passing.Statement.{statement}
 use Rattle.pciv_passes.proofs.counts.passing.Tie as tie
 
-enum-known-test : tie.Need-enum-known-test
-enum-known-test c = search rules
+enum_known-test : tie.Need-enum_known-test
+enum_known-test c = search rules
 
-cast-result : tie.Need-overflow-cast-result
-cast-result c = search rules
+overflow_cast-result : tie.Need-overflow_cast-result
+overflow_cast-result c = search rules
 
-enum-known-test-2 : tie.Need-enum-known-test-2
-enum-known-test-2 c = search rules
+enum_known-test-in-AtLeast-1 : tie.Need-enum_known-test-in-AtLeast-1
+enum_known-test-in-AtLeast-1 c = search rules
 
-cast-result-2 : tie.Need-overflow-cast-result-2
-cast-result-2 c = search rules
+overflow_cast-result-in-AtLeast : tie.Need-overflow_cast-result-in-AtLeast
+overflow_cast-result-in-AtLeast c = search rules
 
-returns : tie.Need-returns
-returns c =
-    let t = c.before in
-    rw t.test.given.1 (bool_byte-flag (eqb t.before.before.args.x t.test.given.0.0))
+returns-in-Equal : tie.Need-returns-in-Equal
+returns-in-Equal c =
+    rw c.in-Equal.is (bool_byte-flag (eqb c.args.x c.in-Equal.y))
 
-returns-2 : tie.Need-returns-2
-returns-2 c =
-    let t = c.before in
-    rw t.test2.given.1 (bool_byte-flag (leb t.test2.given.0.0 t.before.before.args.x))
+returns-in-AtLeast : tie.Need-returns-in-AtLeast
+returns-in-AtLeast c =
+    rw c.in-AtLeast.is (bool_byte-flag (leb c.in-AtLeast.y c.args.x))
 
-pub passing-spec : {M : Type 1} → statement M
-passing-spec =
+pub passing_spec : {M : Type 1} → statement M
+passing_spec =
     tie.close
-    (tie.spec enum-known-test cast-result enum-known-test-2 cast-result-2 returns returns-2)
+    (tie.spec
+    enum_known-test
+    overflow_cast-result
+    enum_known-test-in-AtLeast-1
+    overflow_cast-result-in-AtLeast
+    returns-in-Equal
+    returns-in-AtLeast)

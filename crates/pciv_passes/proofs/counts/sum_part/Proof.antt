@@ -9,55 +9,55 @@ use Rattle.pciv_bytes.proofs.SumLaws.{sum_from-byte_at-le, Added, added_none, ad
 use Rattle.pciv_passes.proofs.counts.sum_part.Statement.{statement}
 use Rattle.pciv_passes.proofs.counts.sum_part.Tie as tie
 
-abbrev invariant-loop : tie.invariant-loop
-invariant-loop a from to sum₀ i₀ sum i = Added (byte_at a) to (sum_from (byte_at a) from (to - from)) i sum
+abbrev invariant-loop-i : tie.invariant-loop-i
+invariant-loop-i a from to sum₀ i₀ sum i = Added (byte_at a) to (sum_from (byte_at a) from (to - from)) i sum
 
-abbrev decreases-loop : tie.decreases-loop
-decreases-loop a from to sum₀ i₀ sum i = to - i
+abbrev decreases-loop-i : tie.decreases-loop-i
+decreases-loop-i a from to sum₀ i₀ sum i = to - i
 
-loop-holds : tie.Need-loop-init invariant-loop decreases-loop
-loop-holds c = added_none _ _ _ c.requires.order
+loop-i-init : tie.Need-loop-i-init invariant-loop-i decreases-loop-i
+loop-i-init c = added_none _ _ _ c.requires.order
 
-shared-slice-read-sum : tie.Need-shared-slice-read-sum invariant-loop decreases-loop
-shared-slice-read-sum c = search rules
+bounds-a-i : tie.Need-bounds-a-i invariant-loop-i decreases-loop-i
+bounds-a-i c = search rules
 
-cast-sum : tie.Need-overflow-cast-sum invariant-loop decreases-loop
-cast-sum c = omega (arith, c.shared-slice-known.given c.before.before.loop.i)
+overflow_cast-sum : tie.Need-overflow_cast-sum invariant-loop-i decreases-loop-i
+overflow_cast-sum c = omega (arith, c.shared_slice_known-1.given c.loop-i.i)
 
-loop-again : tie.Need-loop-preserved invariant-loop decreases-loop
-loop-again c =
-    let l = c.before.before.loop in
+loop-i-preserved : tie.Need-loop-i-preserved invariant-loop-i decreases-loop-i
+loop-i-preserved c =
+    let l = c.loop-i in
     added-one l.invariant (omega arith)
 
-add-sum : tie.Need-overflow-add-sum invariant-loop decreases-loop
-add-sum c =
-    let a = c.before.before.before.args in
-    let bytes : Bytes a.a.now = λ j. (c.shared-slice-known.given j).fits in
+overflow_add-sum : tie.Need-overflow_add-sum invariant-loop-i decreases-loop-i
+overflow_add-sum c =
+    let a = c.args in
+    let bytes : Bytes a.a.now = λ j. (c.shared_slice_known-1.given j).fits in
     let most = sum_from-byte_at-le a.a.now bytes a.from (a.to - a.from) in
-    omega (arith, (loop-again c).rest)
+    omega (arith, (loop-i-preserved c).rest)
 
-add-i : tie.Need-overflow-add-i invariant-loop decreases-loop
-add-i c = search rules
+overflow_add-i : tie.Need-overflow_add-i invariant-loop-i decreases-loop-i
+overflow_add-i c = search rules
 
-loop-less : tie.Need-loop-smaller invariant-loop decreases-loop
-loop-less c = search rules
+loop-i-smaller : tie.Need-loop-i-smaller invariant-loop-i decreases-loop-i
+loop-i-smaller c = search rules
 
-returns : tie.Need-returns invariant-loop decreases-loop
+returns : tie.Need-returns invariant-loop-i decreases-loop-i
 returns c =
-    let l = c.before.loop in
+    let l = c.loop-i in
     added-all l.invariant (omega arith)
 
-pub sum-part-spec : {M : Type 1} → statement M
-sum-part-spec =
+pub sum_part_spec : {M : Type 1} → statement M
+sum_part_spec =
     tie.close
     (tie.spec
-    invariant-loop
-    decreases-loop
-    loop-holds
-    shared-slice-read-sum
-    cast-sum
-    add-sum
-    add-i
-    loop-less
-    loop-again
+    invariant-loop-i
+    decreases-loop-i
+    loop-i-init
+    bounds-a-i
+    overflow_cast-sum
+    overflow_add-sum
+    overflow_add-i
+    loop-i-smaller
+    loop-i-preserved
     returns)

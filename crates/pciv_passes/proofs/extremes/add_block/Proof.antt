@@ -13,53 +13,51 @@ in-case : (a b : List ℕ) (from to l m : ℕ) {of case : Term} → of ≡ case
     → ExtremeSums case a b from to l m → ExtremeSums of a b from to l m
 in-case a b from to l m e sums = rw e sums
 
-enum-known-of : tie.Need-enum-known-of
-enum-known-of c = search rules
+enum_known-of : tie.Need-enum_known-of
+enum_known-of c = search rules
 
-count-block-requires : tie.Need-count-block-requires
-count-block-requires c κs = search rules
+count_block-counts-requires : tie.Need-count_block-counts-requires
+count_block-counts-requires c κs = search rules
 
-cast-t10 : tie.Need-overflow-cast-t10
-cast-t10 c = search rules
+overflow_cast-result : tie.Need-overflow_cast-result
+overflow_cast-result c = search rules
 
-cast-t11 : tie.Need-overflow-cast-t11
-cast-t11 c = search rules
+overflow_cast-result-in-Passing : tie.Need-overflow_cast-result-in-Passing
+overflow_cast-result-in-Passing c = search rules
 
-enum_told : tie.Need-enum-told
-enum_told c = search rules
+enum_told-1 : tie.Need-enum_told-1
+enum_told-1 c = search rules
 
-sum-block-requires : tie.Need-sum-block-requires
-sum-block-requires c κs = search rules
+sum_block-sums-requires : tie.Need-sum_block-sums-requires
+sum_block-sums-requires c κs = search rules
 
-cast-t12 : tie.Need-overflow-cast-t12
-cast-t12 c = search rules
+overflow_cast-result-in-Byte : tie.Need-overflow_cast-result-in-Byte
+overflow_cast-result-in-Byte c = search rules
 
-cast-t13 : tie.Need-overflow-cast-t13
-cast-t13 c = search rules
+overflow_cast-result-in-Byte-2 : tie.Need-overflow_cast-result-in-Byte-2
+overflow_cast-result-in-Byte-2 c = search rules
 
 -- the bytes that pass
-returns : tie.Need-returns
-returns c =
-    let d = c.before.before in
-    in-case _ _ _ _ _ _ d.before.before.of.given.1 d.count-block.ensures
+returns-in-Passing : tie.Need-returns-in-Passing
+returns-in-Passing c =
+    in-case _ _ _ _ _ _ c.in-Passing.is c.count_block-counts.ensures
 
 -- the bytes themselves
-returns-2 : tie.Need-returns-2
-returns-2 c =
-    let d = c.before.before in
-    in-case _ _ _ _ _ _ d.before.enum_told.given.1 d.sum-block.ensures
+returns-in-Byte : tie.Need-returns-in-Byte
+returns-in-Byte c =
+    in-case _ _ _ _ _ _ c.in-Byte.is c.sum_block-sums.ensures
 
-pub add-block-spec : {M : Type 1} → statement M
-add-block-spec =
+pub add_block_spec : {M : Type 1} → statement M
+add_block_spec =
     tie.close
     (tie.spec
-    enum-known-of
-    count-block-requires
-    cast-t10
-    cast-t11
-    enum_told
-    sum-block-requires
-    cast-t12
-    cast-t13
-    returns
-    returns-2)
+    enum_known-of
+    count_block-counts-requires
+    overflow_cast-result
+    overflow_cast-result-in-Passing
+    enum_told-1
+    sum_block-sums-requires
+    overflow_cast-result-in-Byte
+    overflow_cast-result-in-Byte-2
+    returns-in-Passing
+    returns-in-Byte)

@@ -12,119 +12,119 @@ use Rattle.pciv_passes.proofs.ExtremesLaws.{progress-one, progress-end, counts-l
 use Rattle.pciv_passes.proofs.extremes.count_block.Statement.{statement}
 use Rattle.pciv_passes.proofs.extremes.count_block.Tie as tie
 
-abbrev invariant-loop : tie.invariant-loop
-invariant-loop test a b from to least₀ most₀ i₀ least most i = Progress (Passing test) a b from to i least most
+abbrev invariant-loop-i : tie.invariant-loop-i
+invariant-loop-i test a b from to least₀ most₀ i₀ least most i = Progress (Passing test) a b from to i least most
 
-abbrev decreases-loop : tie.decreases-loop
-decreases-loop test a b from to least₀ most₀ i₀ least most i = to - i
+abbrev decreases-loop-i : tie.decreases-loop-i
+decreases-loop-i test a b from to least₀ most₀ i₀ least most i = to - i
 
-abbrev at-loop : tie.After-passing invariant-loop decreases-loop → tie.At-loop invariant-loop decreases-loop
+abbrev at-loop : tie.After-passing-least invariant-loop-i decreases-loop-i → tie.At-loop-i invariant-loop-i decreases-loop-i
 at-loop c = c.before.before.before.before.before
 
-abbrev first : tie.After-passing2 invariant-loop decreases-loop → tie.After-passing invariant-loop decreases-loop
+abbrev first : tie.After-passing-most invariant-loop-i decreases-loop-i → tie.After-passing-least invariant-loop-i decreases-loop-i
 first c = c.before.before.before.before
 
 -- what is counted for the two bytes
-least-is : (c : tie.After-passing invariant-loop decreases-loop)
-    → (let a = (at-loop c).before.before.before.args in
-    c.passing.result ≡ least_at (Passing a.test) a.a.now a.b.now (at-loop c).loop.i)
+least-is : (c : tie.After-passing-least invariant-loop-i decreases-loop-i)
+    → (let a = (at-loop c).args in
+    c.passing-least.result ≡ least_at (Passing a.test) a.a.now a.b.now (at-loop c).loop-i.i)
 least-is c =
-    let a = (at-loop c).before.before.before.args in
-    c.passing.ensures ∙ ap (λ (x : ℕ). flag (passes a.test x)) c.before.byte-op.ensures
+    let a = (at-loop c).args in
+    c.passing-least.ensures ∙ ap (λ (x : ℕ). flag (passes a.test x)) c.byte_op.ensures
 
-most-is : (c : tie.After-passing2 invariant-loop decreases-loop)
-    → (let a = (at-loop (first c)).before.before.before.args in
-    c.passing2.result ≡ most_at (Passing a.test) a.a.now a.b.now (at-loop (first c)).loop.i)
+most-is : (c : tie.After-passing-most invariant-loop-i decreases-loop-i)
+    → (let a = (at-loop (first c)).args in
+    c.passing-most.result ≡ most_at (Passing a.test) a.a.now a.b.now (at-loop (first c)).loop-i.i)
 most-is c =
-    let a = (at-loop (first c)).before.before.before.args in
-    c.passing2.ensures ∙ ap (λ (x : ℕ). flag (passes a.test x)) c.before.byte-op2.ensures
+    let a = (at-loop (first c)).args in
+    c.passing-most.ensures ∙ ap (λ (x : ℕ). flag (passes a.test x)) c.byte_op-in-loop-i.ensures
 
-loop-holds : tie.Need-loop-init invariant-loop decreases-loop
-loop-holds c = progress_start _ _ _ _ _ c.before.before.requires.0.order
+loop-i-init : tie.Need-loop-i-init invariant-loop-i decreases-loop-i
+loop-i-init c = progress_start _ _ _ _ _ c.requires.0.order
 
-shared-slice-read-byte-op : tie.Need-shared-slice-read-byte-op invariant-loop decreases-loop
-shared-slice-read-byte-op c = search rules
+bounds-a-i : tie.Need-bounds-a-i invariant-loop-i decreases-loop-i
+bounds-a-i c = search rules
 
-shared-slice-read-byte-op-2 : tie.Need-shared-slice-read-byte-op-2 invariant-loop decreases-loop
-shared-slice-read-byte-op-2 c = search rules
+bounds-b-i : tie.Need-bounds-b-i invariant-loop-i decreases-loop-i
+bounds-b-i c = search rules
 
-byte-op-requires : tie.Need-byte-op-requires invariant-loop decreases-loop
-byte-op-requires c κs = search rules
+byte_op-requires : tie.Need-byte_op-requires invariant-loop-i decreases-loop-i
+byte_op-requires c κs = search rules
 
-passing-requires : tie.Need-passing-requires invariant-loop decreases-loop
-passing-requires c κs = search rules
+passing-least-requires : tie.Need-passing-least-requires invariant-loop-i decreases-loop-i
+passing-least-requires c κs = search rules
 
-add-least : tie.Need-overflow-add-least invariant-loop decreases-loop
-add-least c =
+overflow_add-least : tie.Need-overflow_add-least invariant-loop-i decreases-loop-i
+overflow_add-least c =
     let l = at-loop c in
     let s = l.before.before.before in
     let a = s.args in
-    let more = c.before.before.before.before.loop-test.true in
+    let more = c.loop-i-test.true in
     omega (
       arith,
-      progress-least l.loop.inv more c.passing.result (least-is c),
+      progress-least l.loop-i.invariant more c.passing-least.result (least-is c),
       (counts-le a.test a.a.now a.b.now a.from (a.to - a.from)).0,
-      s.pre.0.short,
+      s.requires.0.short,
     )
 
-shared-slice-read-byte-op-3 : tie.Need-shared-slice-read-byte-op-3 invariant-loop decreases-loop
-shared-slice-read-byte-op-3 c = search rules
+bounds-a-i-in-loop-i : tie.Need-bounds-a-i-in-loop-i invariant-loop-i decreases-loop-i
+bounds-a-i-in-loop-i c = search rules
 
-shared-slice-read-byte-op-4 : tie.Need-shared-slice-read-byte-op-4 invariant-loop decreases-loop
-shared-slice-read-byte-op-4 c = search rules
+bounds-b-i-in-loop-i : tie.Need-bounds-b-i-in-loop-i invariant-loop-i decreases-loop-i
+bounds-b-i-in-loop-i c = search rules
 
-byte-op-requires-2 : tie.Need-byte-op-requires-2 invariant-loop decreases-loop
-byte-op-requires-2 c κs = search rules
+byte_op-requires-in-loop-i : tie.Need-byte_op-requires-in-loop-i invariant-loop-i decreases-loop-i
+byte_op-requires-in-loop-i c κs = search rules
 
-passing-requires-2 : tie.Need-passing-requires-2 invariant-loop decreases-loop
-passing-requires-2 c κs = search rules
+passing-most-requires : tie.Need-passing-most-requires invariant-loop-i decreases-loop-i
+passing-most-requires c κs = search rules
 
-add_most : tie.Need-overflow-add-most invariant-loop decreases-loop
-add_most c =
+overflow_add-most : tie.Need-overflow_add-most invariant-loop-i decreases-loop-i
+overflow_add-most c =
     let l = at-loop (first c) in
     let s = l.before.before.before in
     let a = s.args in
-    let more = (first c).before.before.before.before.loop-test.true in
+    let more = (first c).loop-i-test.true in
     omega (
       arith,
-      progress-most l.loop.inv more c.passing2.result (most-is c),
+      progress-most l.loop-i.invariant more c.passing-most.result (most-is c),
       (counts-le a.test a.a.now a.b.now a.from (a.to - a.from)).1,
-      s.pre.0.short,
+      s.requires.0.short,
     )
 
-add-i : tie.Need-overflow-add-i invariant-loop decreases-loop
-add-i c = search rules
+overflow_add-i : tie.Need-overflow_add-i invariant-loop-i decreases-loop-i
+overflow_add-i c = search rules
 
-loop-less : tie.Need-loop-smaller invariant-loop decreases-loop
-loop-less c = search rules
+loop-i-smaller : tie.Need-loop-i-smaller invariant-loop-i decreases-loop-i
+loop-i-smaller c = search rules
 
-loop-again : tie.Need-loop-preserved invariant-loop decreases-loop
-loop-again c =
+loop-i-preserved : tie.Need-loop-i-preserved invariant-loop-i decreases-loop-i
+loop-i-preserved c =
     let f = first c in
-    let more = f.before.before.before.before.loop-test.taken in
-    progress-one (at-loop f).loop.inv more _ _ (least-is f) (most-is c)
+    let more = f.loop-i-test.true in
+    progress-one (at-loop f).loop-i.invariant more _ _ (least-is f) (most-is c)
 
-returns : tie.Need-returns invariant-loop decreases-loop
-returns c = progress-end c.before.loop.invariant c.loop-test.false
+returns : tie.Need-returns invariant-loop-i decreases-loop-i
+returns c = progress-end c.loop-i.invariant c.loop-i-test.false
 
-pub count-block-spec : {M : Type 1} → statement M
-count-block-spec =
+pub count_block_spec : {M : Type 1} → statement M
+count_block_spec =
     tie.close
     (tie.spec
-    invariant-loop
-    decreases-loop
-    loop-holds
-    shared-slice-read-byte-op
-    shared-slice-read-byte-op-2
-    byte-op-requires
-    passing-requires
-    add-least
-    shared-slice-read-byte-op-3
-    shared-slice-read-byte-op-4
-    byte-op-requires-2
-    passing-requires-2
-    add_most
-    add-i
-    loop-less
-    loop-again
+    invariant-loop-i
+    decreases-loop-i
+    loop-i-init
+    bounds-a-i
+    bounds-b-i
+    byte_op-requires
+    passing-least-requires
+    overflow_add-least
+    bounds-a-i-in-loop-i
+    bounds-b-i-in-loop-i
+    byte_op-requires-in-loop-i
+    passing-most-requires
+    overflow_add-most
+    overflow_add-i
+    loop-i-smaller
+    loop-i-preserved
     returns)

@@ -13,97 +13,94 @@ use Rattle.pciv_passes.proofs.pairs.byte_op.Tie as tie
 in-case : (r x y : ℕ) {op case : ByteOp} → op ≡ case → r ≡ byte_op case x y → r ≡ byte_op op x y
 in-case r x y e q = rw e q
 
-enum_told : tie.Need-enum-told
-enum_told c = search rules
+enum_told-1 : tie.Need-enum_told-1
+enum_told-1 c = search rules
 
-smaller-byte-requires : tie.Need-smaller-byte-requires
-smaller-byte-requires c κs = search rules
+smaller_byte-requires : tie.Need-smaller_byte-requires
+smaller_byte-requires c κs = search rules
 
-enum-told-2 : tie.Need-enum-told-2
-enum-told-2 c = search rules
+enum_told-in-Max : tie.Need-enum_told-in-Max
+enum_told-in-Max c = search rules
 
-larger-byte-requires : tie.Need-larger-byte-requires
-larger-byte-requires c κs = search rules
+larger_byte-requires : tie.Need-larger_byte-requires
+larger_byte-requires c κs = search rules
 
-enum-told-3 : tie.Need-enum-told-3
-enum-told-3 c = search rules
+enum_told-in-Add : tie.Need-enum_told-in-Add
+enum_told-in-Add c = search rules
 
-byte-sum-requires : tie.Need-byte-sum-requires
-byte-sum-requires c κs = search rules
+byte_sum-requires : tie.Need-byte_sum-requires
+byte_sum-requires c κs = search rules
 
-enum-told-4 : tie.Need-enum-told-4
-enum-told-4 c = search rules
+enum_told-in-Sub : tie.Need-enum_told-in-Sub
+enum_told-in-Sub c = search rules
 
-byte-difference-requires : tie.Need-byte-difference-requires
-byte-difference-requires c κs = search rules
+byte_difference-requires : tie.Need-byte_difference-requires
+byte_difference-requires c κs = search rules
 
-enum-told-5 : tie.Need-enum-told-5
-enum-told-5 c = search rules
+enum_told-in-Lower : tie.Need-enum_told-in-Lower
+enum_told-in-Lower c = search rules
 
-byte-difference-requires-2 : tie.Need-byte-difference-requires-2
-byte-difference-requires-2 c κs = search rules
+byte_difference-requires-in-Lower : tie.Need-byte_difference-requires-in-Lower
+byte_difference-requires-in-Lower c κs = search rules
 
-larger-byte-requires-2 : tie.Need-larger-byte-requires-2
-larger-byte-requires-2 c κs = search rules
+larger_byte-requires-in-Lower : tie.Need-larger_byte-requires-in-Lower
+larger_byte-requires-in-Lower c κs = search rules
 
-smaller-byte-requires-2 : tie.Need-smaller-byte-requires-2
-smaller-byte-requires-2 c κs = search rules
+smaller_byte-requires-in-Lower : tie.Need-smaller_byte-requires-in-Lower
+smaller_byte-requires-in-Lower c κs = search rules
 
-enum-told-6 : tie.Need-enum-told-6
-enum-told-6 c = search rules
+enum_told-in-Raise : tie.Need-enum_told-in-Raise
+enum_told-in-Raise c = search rules
 
-byte-sum-requires-2 : tie.Need-byte-sum-requires-2
-byte-sum-requires-2 c κs = search rules
+byte_sum-requires-else-x-eq0 : tie.Need-byte_sum-requires-else-x-eq0
+byte_sum-requires-else-x-eq0 c κs = search rules
 
-returns : tie.Need-returns
-returns c = in-case _ _ _ c.before.enum_told.given.1 c.smaller-byte.ensures
+returns-in-Min : tie.Need-returns-in-Min
+returns-in-Min c = in-case _ _ _ c.in-Min.is c.smaller_byte.ensures
 
-returns-2 : tie.Need-returns-2
-returns-2 c = in-case _ _ _ c.before.enum-told2.given.1 c.larger-byte.ensures
+returns-in-Max : tie.Need-returns-in-Max
+returns-in-Max c = in-case _ _ _ c.in-Max.is c.larger_byte.ensures
 
-returns-3 : tie.Need-returns-3
-returns-3 c = in-case _ _ _ c.before.enum-told3.given.1 c.byte-sum.ensures
+returns-in-Add : tie.Need-returns-in-Add
+returns-in-Add c = in-case _ _ _ c.in-Add.is c.byte_sum.ensures
 
-returns-4 : tie.Need-returns-4
-returns-4 c = in-case _ _ _ c.before.enum-told4.given.1 c.byte-difference.ensures
+returns-in-Sub : tie.Need-returns-in-Sub
+returns-in-Sub c = in-case _ _ _ c.in-Sub.is c.byte_difference.ensures
 
-returns-5 : tie.Need-returns-5
-returns-5 c =
-    let l = c.before in
-    let d = l.before in
-    in-case _ _ _ d.before.enum-told5.given.1
-    (omega (arith, c.smaller-byte2.ensures, l.larger-byte2.ensures, d.byte-difference2.ensures))
+returns-in-Lower : tie.Need-returns-in-Lower
+returns-in-Lower c =
+    in-case _ _ _ c.in-Lower.is
+    (omega (arith, c.smaller_byte-in-Lower.ensures, c.larger_byte-in-Lower.ensures, c.byte_difference-in-Lower.ensures))
 
-returns-6 : tie.Need-returns-6
-returns-6 c = in-case _ _ _ c.before.enum-told6.given.1 (rw c.if1.true)
+returns-then-x-eq0 : tie.Need-returns-then-x-eq0
+returns-then-x-eq0 c = in-case _ _ _ c.in-Raise.is (rw c.if-x-eq0.true)
 
-returns-7 : tie.Need-returns-7
-returns-7 c =
-    let t = c.before in
-    in-case _ _ _ t.before.enum-told6.given.1 (rw (ne_eqb _ 0 t.if1.false) c.byte-sum2.ensures)
+returns-else-x-eq0 : tie.Need-returns-else-x-eq0
+returns-else-x-eq0 c =
+    in-case _ _ _ c.in-Raise.is (rw (ne_eqb _ 0 c.if-x-eq0.false) c.byte_sum-else-x-eq0.ensures)
 
-pub byte-op-spec : {M : Type 1} → statement M
-byte-op-spec =
+pub byte_op_spec : {M : Type 1} → statement M
+byte_op_spec =
     tie.close
     (tie.spec
-    enum_told
-    smaller-byte-requires
-    enum-told-2
-    larger-byte-requires
-    enum-told-3
-    byte-sum-requires
-    enum-told-4
-    byte-difference-requires
-    enum-told-5
-    byte-difference-requires-2
-    larger-byte-requires-2
-    smaller-byte-requires-2
-    enum-told-6
-    byte-sum-requires-2
-    returns
-    returns-2
-    returns-3
-    returns-4
-    returns-5
-    returns-6
-    returns-7)
+    enum_told-1
+    smaller_byte-requires
+    enum_told-in-Max
+    larger_byte-requires
+    enum_told-in-Add
+    byte_sum-requires
+    enum_told-in-Sub
+    byte_difference-requires
+    enum_told-in-Lower
+    byte_difference-requires-in-Lower
+    larger_byte-requires-in-Lower
+    smaller_byte-requires-in-Lower
+    enum_told-in-Raise
+    byte_sum-requires-else-x-eq0
+    returns-in-Min
+    returns-in-Max
+    returns-in-Add
+    returns-in-Sub
+    returns-in-Lower
+    returns-then-x-eq0
+    returns-else-x-eq0)

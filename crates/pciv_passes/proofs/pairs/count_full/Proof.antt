@@ -17,79 +17,78 @@ use Rattle.pciv_passes.proofs.pairs.count_full.Tie as tie
 whole_le : (op : ByteOp) (a b : List ℕ) → sum_from (full_at op a b) 0 (length a) ≤ length a
 whole_le op a b = sum_from-flag-le (λ (i : ℕ). eqb (pair_at op a b i) 255) 0 (length a)
 
-abbrev invariant-loop : tie.invariant-loop
-invariant-loop op a b n sum₀ i₀ sum i = Added (full_at op a b) n (sum_from (full_at op a b) 0 (length a)) i sum
+abbrev invariant-loop-i : tie.invariant-loop-i
+invariant-loop-i op a b n sum₀ i₀ sum i = Added (full_at op a b) n (sum_from (full_at op a b) 0 (length a)) i sum
 
-abbrev decreases-loop : tie.decreases-loop
-decreases-loop op a b n sum₀ i₀ sum i = n - i
+abbrev decreases-loop-i : tie.decreases-loop-i
+decreases-loop-i op a b n sum₀ i₀ sum i = n - i
 
-loop-holds : tie.Need-loop-init invariant-loop decreases-loop
-loop-holds c =
-    let a = c.before.before.args in
+loop-i-init : tie.Need-loop-i-init invariant-loop-i decreases-loop-i
+loop-i-init c =
+    let a = c.args in
     rw sub-zero at (added_none (full_at a.op a.a.now a.b.now) 0 (length a.a.now) (omega arith))
 
-sub-loop : tie.Need-overflow-sub-loop invariant-loop decreases-loop
-sub-loop c = search rules
+overflow_sub-n : tie.Need-overflow_sub-n invariant-loop-i decreases-loop-i
+overflow_sub-n c = search rules
 
-add-count-full-part : tie.Need-overflow-add-count-full-part invariant-loop decreases-loop
-add-count-full-part c = search rules
+overflow_add-i : tie.Need-overflow_add-i invariant-loop-i decreases-loop-i
+overflow_add-i c = search rules
 
-count-full-part-requires : tie.Need-count-full-part-requires invariant-loop decreases-loop
-count-full-part-requires c κs = search rules
+count_full_part-requires : tie.Need-count_full_part-requires invariant-loop-i decreases-loop-i
+count_full_part-requires c κs = search rules
 
-cast-sum : tie.Need-overflow-cast-sum invariant-loop decreases-loop
-cast-sum c = search rules
+overflow_cast-sum : tie.Need-overflow_cast-sum invariant-loop-i decreases-loop-i
+overflow_cast-sum c = search rules
 
-loop-again : tie.Need-loop-preserved invariant-loop decreases-loop
-loop-again c =
-    let l = c.before.before.loop in
-    rw c.count-full-part.ensures (added-part l.invariant _ (omega arith) (omega arith))
+loop-i-preserved : tie.Need-loop-i-preserved invariant-loop-i decreases-loop-i
+loop-i-preserved c =
+    let l = c.loop-i in
+    rw c.count_full_part.ensures (added-part l.invariant _ (omega arith) (omega arith))
 
-add-sum : tie.Need-overflow-add-sum invariant-loop decreases-loop
-add-sum c =
-    let a = c.before.before.before.before.before.args in
-    omega (arith, (loop-again c).rest, whole_le a.op a.a.now a.b.now)
+overflow_add-sum : tie.Need-overflow_add-sum invariant-loop-i decreases-loop-i
+overflow_add-sum c =
+    let a = c.args in
+    omega (arith, (loop-i-preserved c).rest, whole_le a.op a.a.now a.b.now)
 
-add-i : tie.Need-overflow-add-i invariant-loop decreases-loop
-add-i c = search rules
+overflow_add-i-in-loop-i : tie.Need-overflow_add-i-in-loop-i invariant-loop-i decreases-loop-i
+overflow_add-i-in-loop-i c = search rules
 
-loop-less : tie.Need-loop-smaller invariant-loop decreases-loop
-loop-less c = search rules
+loop-i-smaller : tie.Need-loop-i-smaller invariant-loop-i decreases-loop-i
+loop-i-smaller c = search rules
 
-count-full-part-requires-2 : tie.Need-count-full-part-requires-2 invariant-loop decreases-loop
-count-full-part-requires-2 c κs = search rules
+count_full_part-requires-2 : tie.Need-count_full_part-requires-2 invariant-loop-i decreases-loop-i
+count_full_part-requires-2 c κs = search rules
 
-cast-result : tie.Need-overflow-cast-result invariant-loop decreases-loop
-cast-result c = search rules
+overflow_cast-result : tie.Need-overflow_cast-result invariant-loop-i decreases-loop-i
+overflow_cast-result c = search rules
 
-returns : tie.Need-returns invariant-loop decreases-loop
+returns : tie.Need-returns invariant-loop-i decreases-loop-i
 returns c =
-    let d = c.before.before in
-    let n : ℕ = length d.before.before.before.args.a.now in
-    let last = added-part d.loop.invariant n (omega arith) (omega arith) in
-    rw c.count-full-part2.ensures (added-all last (omega arith))
+    let n : ℕ = length c.args.a.now in
+    let last = added-part c.loop-i.invariant n (omega arith) (omega arith) in
+    rw c.count_full_part-2.ensures (added-all last (omega arith))
 
-add-result : tie.Need-overflow-add-result invariant-loop decreases-loop
-add-result c =
-    let a = c.before.before.before.before.before.args in
+overflow_add-result : tie.Need-overflow_add-result invariant-loop-i decreases-loop-i
+overflow_add-result c =
+    let a = c.args in
     omega (arith, returns c, whole_le a.op a.a.now a.b.now)
 
-pub count-full-spec : {M : Type 1} → statement M
-count-full-spec =
+pub count_full_spec : {M : Type 1} → statement M
+count_full_spec =
     tie.close
     (tie.spec
-    invariant-loop
-    decreases-loop
-    loop-holds
-    sub-loop
-    add-count-full-part
-    count-full-part-requires
-    cast-sum
-    add-sum
-    add-i
-    loop-less
-    loop-again
-    count-full-part-requires-2
-    cast-result
-    add-result
+    invariant-loop-i
+    decreases-loop-i
+    loop-i-init
+    overflow_sub-n
+    overflow_add-i
+    count_full_part-requires
+    overflow_cast-sum
+    overflow_add-sum
+    overflow_add-i-in-loop-i
+    loop-i-smaller
+    loop-i-preserved
+    count_full_part-requires-2
+    overflow_cast-result
+    overflow_add-result
     returns)

@@ -10,64 +10,63 @@ use Rattle.pciv_bytes.proofs.SumLaws.{sum_from-flag-le, Added, added_none, added
 use Rattle.pciv_passes.proofs.pairs.count_full_part.Statement.{statement}
 use Rattle.pciv_passes.proofs.pairs.count_full_part.Tie as tie
 
-abbrev invariant-loop : tie.invariant-loop
-invariant-loop op a b from to sum₀ i₀ sum i = Added (full_at op a b) to (sum_from (full_at op a b) from (to - from)) i sum
+abbrev invariant-loop-i : tie.invariant-loop-i
+invariant-loop-i op a b from to sum₀ i₀ sum i = Added (full_at op a b) to (sum_from (full_at op a b) from (to - from)) i sum
 
-abbrev decreases-loop : tie.decreases-loop
-decreases-loop op a b from to sum₀ i₀ sum i = to - i
+abbrev decreases-loop-i : tie.decreases-loop-i
+decreases-loop-i op a b from to sum₀ i₀ sum i = to - i
 
-loop-holds : tie.Need-loop-init invariant-loop decreases-loop
-loop-holds c = added_none _ _ _ c.before.before.requires.0.order
+loop-i-init : tie.Need-loop-i-init invariant-loop-i decreases-loop-i
+loop-i-init c = added_none _ _ _ c.requires.0.order
 
-shared-slice-read-byte-op : tie.Need-shared-slice-read-byte-op invariant-loop decreases-loop
-shared-slice-read-byte-op c = search rules
+bounds-a-i : tie.Need-bounds-a-i invariant-loop-i decreases-loop-i
+bounds-a-i c = search rules
 
-shared-slice-read-byte-op-2 : tie.Need-shared-slice-read-byte-op-2 invariant-loop decreases-loop
-shared-slice-read-byte-op-2 c = search rules
+bounds-b-i : tie.Need-bounds-b-i invariant-loop-i decreases-loop-i
+bounds-b-i c = search rules
 
-byte-op-requires : tie.Need-byte-op-requires invariant-loop decreases-loop
-byte-op-requires c κs = search rules
+byte_op-requires : tie.Need-byte_op-requires invariant-loop-i decreases-loop-i
+byte_op-requires c κs = search rules
 
-cast-sum : tie.Need-overflow-cast-sum invariant-loop decreases-loop
-cast-sum c = tt
+overflow_cast-sum : tie.Need-overflow_cast-sum invariant-loop-i decreases-loop-i
+overflow_cast-sum c = tt
 
-loop-again : tie.Need-loop-preserved invariant-loop decreases-loop
-loop-again c =
-    let d = c.before.before.before.before in
-    let a = d.before.before.before.args in
+loop-i-preserved : tie.Need-loop-i-preserved invariant-loop-i decreases-loop-i
+loop-i-preserved c =
+    let a = c.args in
     let f = pair_at a.op a.a.now a.b.now in
-    rw (c.byte-op.ensures, bool_byte-flag (eqb (f d.loop.i) 255)) (added-one d.loop.invariant (omega arith))
+    rw (c.byte_op.ensures, bool_byte-flag (eqb (f c.loop-i.i) 255)) (added-one c.loop-i.invariant (omega arith))
 
-add-sum : tie.Need-overflow-add-sum invariant-loop decreases-loop
-add-sum c =
-    let a = c.before.before.before.before.before.before.before.args in
+overflow_add-sum : tie.Need-overflow_add-sum invariant-loop-i decreases-loop-i
+overflow_add-sum c =
+    let a = c.args in
     let f = pair_at a.op a.a.now a.b.now in
-    omega (arith, (loop-again c).rest, sum_from-flag-le (λ i. eqb (f i) 255) a.from (a.to - a.from))
+    omega (arith, (loop-i-preserved c).rest, sum_from-flag-le (λ i. eqb (f i) 255) a.from (a.to - a.from))
 
-add-i : tie.Need-overflow-add-i invariant-loop decreases-loop
-add-i c = search rules
+overflow_add-i : tie.Need-overflow_add-i invariant-loop-i decreases-loop-i
+overflow_add-i c = search rules
 
-loop-less : tie.Need-loop-smaller invariant-loop decreases-loop
-loop-less c = search rules
+loop-i-smaller : tie.Need-loop-i-smaller invariant-loop-i decreases-loop-i
+loop-i-smaller c = search rules
 
-returns : tie.Need-returns invariant-loop decreases-loop
+returns : tie.Need-returns invariant-loop-i decreases-loop-i
 returns c =
-    let l = c.before.loop in
+    let l = c.loop-i in
     added-all l.invariant (omega arith)
 
-pub count-full-part-spec : {M : Type 1} → statement M
-count-full-part-spec =
+pub count_full_part_spec : {M : Type 1} → statement M
+count_full_part_spec =
     tie.close
     (tie.spec
-    invariant-loop
-    decreases-loop
-    loop-holds
-    shared-slice-read-byte-op
-    shared-slice-read-byte-op-2
-    byte-op-requires
-    cast-sum
-    add-sum
-    add-i
-    loop-less
-    loop-again
+    invariant-loop-i
+    decreases-loop-i
+    loop-i-init
+    bounds-a-i
+    bounds-b-i
+    byte_op-requires
+    overflow_cast-sum
+    overflow_add-sum
+    overflow_add-i
+    loop-i-smaller
+    loop-i-preserved
     returns)

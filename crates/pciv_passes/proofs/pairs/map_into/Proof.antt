@@ -12,71 +12,70 @@ use borrow.Author.Rules.{rules}
 use Rattle.pciv_passes.proofs.pairs.map_into.Statement.{statement}
 use Rattle.pciv_passes.proofs.pairs.map_into.Tie as tie
 
-abbrev invariant-loop : tie.invariant-loop
-invariant-loop op a x out₀ at i₀ out i =
+abbrev invariant-loop-i : tie.invariant-loop-i
+invariant-loop-i op a x out₀ at i₀ out i =
     (i ≤ length a)
     × (length out ≡ length out₀)
     × (sets out₀ at (table (one_at op a x) 0 (length a)) ≡ sets out (at + i) (table (one_at op a x) i (length a - i)))
 
-abbrev decreases-loop : tie.decreases-loop
-decreases-loop op a x out₀ at i₀ out i = length a - i
+abbrev decreases-loop-i : tie.decreases-loop-i
+decreases-loop-i op a x out₀ at i₀ out i = length a - i
 
-loop-holds : tie.Need-loop-init invariant-loop decreases-loop
-loop-holds c =
-    let a = c.before.before.args in
+loop-i-init : tie.Need-loop-i-init invariant-loop-i decreases-loop-i
+loop-i-init c =
+    let a = c.args in
     let start = sets-table-start (one_at a.op a.a.now a.x) a.at (length a.a.now) a.out.now in
     (search rules, refl, start)
 
-shared-slice-read-byte-op : tie.Need-shared-slice-read-byte-op invariant-loop decreases-loop
-shared-slice-read-byte-op c = search rules
+bounds-a-i : tie.Need-bounds-a-i invariant-loop-i decreases-loop-i
+bounds-a-i c = search rules
 
-byte-op-requires : tie.Need-byte-op-requires invariant-loop decreases-loop
-byte-op-requires c κs = search rules
+byte_op-requires : tie.Need-byte_op-requires invariant-loop-i decreases-loop-i
+byte_op-requires c κs = search rules
 
-add-out : tie.Need-overflow-add-out invariant-loop decreases-loop
-add-out c = search rules
+overflow_add-out : tie.Need-overflow_add-out invariant-loop-i decreases-loop-i
+overflow_add-out c = search rules
 
-slice-write-out : tie.Need-slice-write-out invariant-loop decreases-loop
-slice-write-out c = search rules
+bounds-out-at : tie.Need-bounds-out-at invariant-loop-i decreases-loop-i
+bounds-out-at c = search rules
 
-add-i : tie.Need-overflow-add-i invariant-loop decreases-loop
-add-i c = search rules
+overflow_add-i : tie.Need-overflow_add-i invariant-loop-i decreases-loop-i
+overflow_add-i c = search rules
 
-loop-less : tie.Need-loop-smaller invariant-loop decreases-loop
-loop-less c = search rules
+loop-i-smaller : tie.Need-loop-i-smaller invariant-loop-i decreases-loop-i
+loop-i-smaller c = search rules
 
-loop-again : tie.Need-loop-preserved invariant-loop decreases-loop
-loop-again c =
-    let d = c.before.before in
-    let l = d.before.loop in
-    let a = d.before.before.before.before.args in
+loop-i-preserved : tie.Need-loop-i-preserved invariant-loop-i decreases-loop-i
+loop-i-preserved c =
+    let l = c.loop-i in
+    let a = c.args in
     let f : ℕ → ℕ = one_at a.op a.a.now a.x in
     let more = sets-table-more f a.at (length a.a.now) l.i l.out (omega arith) in
-    (search rules, simp length-set l.invariant.1, rw c.byte-op.ensures (l.invariant.2 ∙ more))
+    (search rules, simp length-set l.invariant.1, rw c.byte_op.ensures (l.invariant.2 ∙ more))
 
-same_length : tie.Need-same-length invariant-loop decreases-loop
-same_length c = search rules
+shape_of-out : tie.Need-shape_of-out invariant-loop-i decreases-loop-i
+shape_of-out c = search rules
 
-returns : tie.Need-returns invariant-loop decreases-loop
+returns : tie.Need-returns invariant-loop-i decreases-loop-i
 returns c =
-    let l = c.before.loop in
-    let a = c.before.before.before.before.args in
+    let l = c.loop-i in
+    let a = c.args in
     let f : ℕ → ℕ = one_at a.op a.a.now a.x in
     sym (l.invariant.2 ∙ sets-table-end f a.at (length a.a.now) l.i l.out (omega arith))
 
-pub map-into-spec : {M : Type 1} → statement M
-map-into-spec =
+pub map_into_spec : {M : Type 1} → statement M
+map_into_spec =
     tie.close
     (tie.spec
-    invariant-loop
-    decreases-loop
-    loop-holds
-    shared-slice-read-byte-op
-    byte-op-requires
-    add-out
-    slice-write-out
-    add-i
-    loop-less
-    loop-again
-    same_length
+    invariant-loop-i
+    decreases-loop-i
+    loop-i-init
+    bounds-a-i
+    byte_op-requires
+    overflow_add-out
+    bounds-out-at
+    overflow_add-i
+    loop-i-smaller
+    loop-i-preserved
+    shape_of-out
     returns)

@@ -16,51 +16,51 @@ use Rattle.pciv_repair.proofs.lines.any_other.Tie as tie
 abbrev other : List ℕ → List ℕ → ℕ → Bool
 other a b i = not (eqb (get_or a i 0) (get_or b i 0))
 
-abbrev invariant-loop : tie.invariant-loop
-invariant-loop a b from to found₀ i₀ found i =
+abbrev invariant-loop-i : tie.invariant-loop-i
+invariant-loop-i a b from to found₀ i₀ found i =
     (i ≤ to) × (found || any_from (other a b) i (to - i) ≡ any_from (other a b) from (to - from))
 
-abbrev decreases-loop : tie.decreases-loop
-decreases-loop a b from to found₀ i₀ found i = to - i
+abbrev decreases-loop-i : tie.decreases-loop-i
+decreases-loop-i a b from to found₀ i₀ found i = to - i
 
-loop-holds : tie.Need-loop-init invariant-loop decreases-loop
-loop-holds c = (c.requires.0, refl)
+loop-i-init : tie.Need-loop-i-init invariant-loop-i decreases-loop-i
+loop-i-init c = (c.requires.0, refl)
 
-shared-slice-read-found : tie.Need-shared-slice-read-found invariant-loop decreases-loop
-shared-slice-read-found c = search rules
+bounds-a-i : tie.Need-bounds-a-i invariant-loop-i decreases-loop-i
+bounds-a-i c = search rules
 
-shared-slice-read-found-2 : tie.Need-shared-slice-read-found-2 invariant-loop decreases-loop
-shared-slice-read-found-2 c = search rules
+bounds-b-i : tie.Need-bounds-b-i invariant-loop-i decreases-loop-i
+bounds-b-i c = search rules
 
-add-i : tie.Need-overflow-add-i invariant-loop decreases-loop
-add-i c = search rules
+overflow_add-i : tie.Need-overflow_add-i invariant-loop-i decreases-loop-i
+overflow_add-i c = search rules
 
-loop-less : tie.Need-loop-smaller invariant-loop decreases-loop
-loop-less c = search rules
+loop-i-smaller : tie.Need-loop-i-smaller invariant-loop-i decreases-loop-i
+loop-i-smaller c = search rules
 
-loop-again : tie.Need-loop-preserved invariant-loop decreases-loop
-loop-again c =
-    let l = c.before.before.before.loop in
-    let a = c.before.before.before.before.args in
+loop-i-preserved : tie.Need-loop-i-preserved invariant-loop-i decreases-loop-i
+loop-i-preserved c =
+    let l = c.loop-i in
+    let a = c.args in
     let p : ℕ → Bool = other a.a.now a.b.now in
     (omega arith, sym (any_from-more p l.found l.i a.to (omega arith)) ∙ l.invariant.1)
 
-returns : tie.Need-returns invariant-loop decreases-loop
+returns : tie.Need-returns invariant-loop-i decreases-loop-i
 returns c =
-    let l = c.before.loop in
-    let a = c.before.before.args in
+    let l = c.loop-i in
+    let a = c.args in
     sym (any_from-end (other a.a.now a.b.now) l.found l.i a.to (omega arith)) ∙ l.invariant.1
 
-pub any-other-spec : {M : Type 1} → statement M
-any-other-spec =
+pub any_other_spec : {M : Type 1} → statement M
+any_other_spec =
     tie.close
     (tie.spec
-    invariant-loop
-    decreases-loop
-    loop-holds
-    shared-slice-read-found
-    shared-slice-read-found-2
-    add-i
-    loop-less
-    loop-again
+    invariant-loop-i
+    decreases-loop-i
+    loop-i-init
+    bounds-a-i
+    bounds-b-i
+    overflow_add-i
+    loop-i-smaller
+    loop-i-preserved
     returns)

@@ -11,63 +11,61 @@ use borrow.Author.Rules.{rules}
 use Rattle.pciv_repair.proofs.lines.count_fields.Statement.{statement}
 use Rattle.pciv_repair.proofs.lines.count_fields.Tie as tie
 
-abbrev invariant-loop : tie.invariant-loop
-invariant-loop file new count₀ i₀ count i =
+abbrev invariant-loop-i : tie.invariant-loop-i
+invariant-loop-i file new count₀ i₀ count i =
     let other : ℕ → ℕ = λ (j : ℕ). flag (other_field file new j) in
     Added other 6 (sum_from other 0 6) i count
 
-abbrev decreases-loop : tie.decreases-loop
-decreases-loop file new count₀ i₀ count i = 6 - i
+abbrev decreases-loop-i : tie.decreases-loop-i
+decreases-loop-i file new count₀ i₀ count i = 6 - i
 
-loop-holds : tie.Need-loop-init invariant-loop decreases-loop
-loop-holds c = added_none _ 0 6 (omega arith)
+loop-i-init : tie.Need-loop-i-init invariant-loop-i decreases-loop-i
+loop-i-init c = added_none _ 0 6 (omega arith)
 
-field-of-requires : tie.Need-field-of-requires invariant-loop decreases-loop
-field-of-requires c κs = search rules
+field_of-requires : tie.Need-field_of-requires invariant-loop-i decreases-loop-i
+field_of-requires c κs = search rules
 
-field-of-requires-2 : tie.Need-field-of-requires-2 invariant-loop decreases-loop
-field-of-requires-2 c κs = search rules
+field_of-requires-in-loop-i : tie.Need-field_of-requires-in-loop-i invariant-loop-i decreases-loop-i
+field_of-requires-in-loop-i c κs = search rules
 
-cast-count : tie.Need-overflow-cast-count invariant-loop decreases-loop
-cast-count c = search rules
+overflow_cast-count : tie.Need-overflow_cast-count invariant-loop-i decreases-loop-i
+overflow_cast-count c = search rules
 
-loop-again : tie.Need-loop-preserved invariant-loop decreases-loop
-loop-again c =
-    let l = c.before.before.before in
-    let a = l.before.before.before.args in
-    let flagged = bool_byte-flag (other_field a.file.now a.new.now l.loop.i) in
-    rw (c.before.field_of.ensures, c.field-of2.ensures, flagged)
-    (added-one l.loop.invariant c.before.before.loop-test.true)
+loop-i-preserved : tie.Need-loop-i-preserved invariant-loop-i decreases-loop-i
+loop-i-preserved c =
+    let a = c.args in
+    let flagged = bool_byte-flag (other_field a.file.now a.new.now c.loop-i.i) in
+    rw (c.field_of.ensures, c.field_of-in-loop-i.ensures, flagged)
+    (added-one c.loop-i.invariant c.loop-i-test.true)
 
-add-count : tie.Need-overflow-add-count invariant-loop decreases-loop
-add-count c =
-    let a = c.before.before.before.before.before.before.args in
-    omega (arith, (loop-again c).rest, sum_from-flag-le (other_field a.file.now a.new.now) 0 6)
+overflow_add-count : tie.Need-overflow_add-count invariant-loop-i decreases-loop-i
+overflow_add-count c =
+    let a = c.args in
+    omega (arith, (loop-i-preserved c).rest, sum_from-flag-le (other_field a.file.now a.new.now) 0 6)
 
-add-i : tie.Need-overflow-add-i invariant-loop decreases-loop
-add-i c = search rules
+overflow_add-i : tie.Need-overflow_add-i invariant-loop-i decreases-loop-i
+overflow_add-i c = search rules
 
-loop-less : tie.Need-loop-smaller invariant-loop decreases-loop
-loop-less c = search rules
+loop-i-smaller : tie.Need-loop-i-smaller invariant-loop-i decreases-loop-i
+loop-i-smaller c = search rules
 
-returns : tie.Need-returns invariant-loop decreases-loop
+returns : tie.Need-returns invariant-loop-i decreases-loop-i
 returns c =
-    let l = c.before in
-    let a = l.before.before.before.args in
-    added-all l.loop.invariant c.loop-test.false ∙ sym (count-sum (other_field a.file.now a.new.now) 6 0)
+    let a = c.args in
+    added-all c.loop-i.invariant c.loop-i-test.false ∙ sym (count-sum (other_field a.file.now a.new.now) 6 0)
 
-pub count-fields-spec : {M : Type 1} → statement M
-count-fields-spec =
+pub count_fields_spec : {M : Type 1} → statement M
+count_fields_spec =
     tie.close
     (tie.spec
-    invariant-loop
-    decreases-loop
-    loop-holds
-    field-of-requires
-    field-of-requires-2
-    cast-count
-    add-count
-    add-i
-    loop-less
-    loop-again
+    invariant-loop-i
+    decreases-loop-i
+    loop-i-init
+    field_of-requires
+    field_of-requires-in-loop-i
+    overflow_cast-count
+    overflow_add-count
+    overflow_add-i
+    loop-i-smaller
+    loop-i-preserved
     returns)

@@ -4,20 +4,27 @@ use borrow.Author.Rules.{rules}
 use Rattle.pciv_repair.proofs.lines.field_at.Statement.{statement}
 use Rattle.pciv_repair.proofs.lines.field_at.Tie as tie
 
-mul-result : tie.Need-overflow-mul-result
-mul-result c = search rules
+overflow_mul-result : tie.Need-overflow_mul-result
+overflow_mul-result c = search rules
 
-sub-result : tie.Need-overflow-sub-result
-sub-result c = search rules
+overflow_sub-result : tie.Need-overflow_sub-result
+overflow_sub-result c = search rules
 
-mul-result-2 : tie.Need-overflow-mul-result-2
-mul-result-2 c = search rules
+overflow_mul-result-else-i-lt2 : tie.Need-overflow_mul-result-else-i-lt2
+overflow_mul-result-else-i-lt2 c = search rules
 
-returns : tie.Need-returns
-returns c = rw (lt-ltb c.before.args.i 2 c.if1.true)
+returns-then-i-lt2 : tie.Need-returns-then-i-lt2
+returns-then-i-lt2 c = rw (lt-ltb c.args.i 2 c.if-i-lt2.true)
 
-returns-2 : tie.Need-returns-2
-returns-2 c = rw (le-ltb c.before.args.i 2 c.if1.false)
+returns-else-i-lt2 : tie.Need-returns-else-i-lt2
+returns-else-i-lt2 c = rw (le-ltb c.args.i 2 c.if-i-lt2.false)
 
-pub field-at-spec : {M : Type 1} → statement M
-field-at-spec = tie.close (tie.spec mul-result sub-result mul-result-2 returns returns-2)
+pub field_at_spec : {M : Type 1} → statement M
+field_at_spec =
+    tie.close
+    (tie.spec
+    overflow_mul-result
+    overflow_sub-result
+    overflow_mul-result-else-i-lt2
+    returns-then-i-lt2
+    returns-else-i-lt2)

@@ -5,43 +5,41 @@ use borrow.Author.Rules.{rules}
 use Rattle.pciv_repair.proofs.lines.field_of.Statement.{statement}
 use Rattle.pciv_repair.proofs.lines.field_of.Tie as tie
 
-mul-get32 : tie.Need-overflow-mul-get32
-mul-get32 c = search rules
+overflow_mul-i : tie.Need-overflow_mul-i
+overflow_mul-i c = search rules
 
 get32-requires : tie.Need-get32-requires
 get32-requires c κs = search rules
 
-cast-result : tie.Need-overflow-cast-result
-cast-result c = search rules
+overflow_cast-result : tie.Need-overflow_cast-result
+overflow_cast-result c = search rules
 
-sub-get64 : tie.Need-overflow-sub-get64
-sub-get64 c = search rules
+overflow_sub-i : tie.Need-overflow_sub-i
+overflow_sub-i c = search rules
 
-mul-get64 : tie.Need-overflow-mul-get64
-mul-get64 c = search rules
+overflow_mul-i-else-i-lt2 : tie.Need-overflow_mul-i-else-i-lt2
+overflow_mul-i-else-i-lt2 c = search rules
 
 get64-requires : tie.Need-get64-requires
 get64-requires c κs = search rules
 
-returns : tie.Need-returns
-returns c =
-    let s = c.before.before.before in
-    c.get32.ensures ∙ field_of-low s.args.file.now s.args.i c.before.if1.true
+returns-then-i-lt2 : tie.Need-returns-then-i-lt2
+returns-then-i-lt2 c =
+    c.get32.ensures ∙ field_of-low c.args.file.now c.args.i c.if-i-lt2.true
 
-returns-2 : tie.Need-returns-2
-returns-2 c =
-    let s = c.before.before.before in
-    c.get64.ensures ∙ field_of-high s.args.file.now s.args.i c.before.if1.false
+returns-else-i-lt2 : tie.Need-returns-else-i-lt2
+returns-else-i-lt2 c =
+    c.get64.ensures ∙ field_of-high c.args.file.now c.args.i c.if-i-lt2.false
 
-pub field-of-spec : {M : Type 1} → statement M
-field-of-spec =
+pub field_of_spec : {M : Type 1} → statement M
+field_of_spec =
     tie.close
     (tie.spec
-    mul-get32
+    overflow_mul-i
     get32-requires
-    cast-result
-    sub-get64
-    mul-get64
+    overflow_cast-result
+    overflow_sub-i
+    overflow_mul-i-else-i-lt2
     get64-requires
-    returns
-    returns-2)
+    returns-then-i-lt2
+    returns-else-i-lt2)

@@ -13,100 +13,91 @@ use borrow.Author.Rules.{rules}
 use Rattle.pciv_repair.proofs.lines.put_block.Statement.{statement}
 use Rattle.pciv_repair.proofs.lines.put_block.Tie as tie
 
-abbrev invariant-loop : tie.invariant-loop
-invariant-loop file new start to list₀ from line₀ i₀ list line i =
+abbrev invariant-loop-i : tie.invariant-loop-i
+invariant-loop-i file new start to list₀ from line₀ i₀ list line i =
     Listing set_line (was_set file new) to (positions (was_set file new) start (to - start)) from list₀ i line list
 
-abbrev decreases-loop : tie.decreases-loop
-decreases-loop file new start to list₀ from line₀ i₀ list line i = to - i
+abbrev decreases-loop-i : tie.decreases-loop-i
+decreases-loop-i file new start to list₀ from line₀ i₀ list line i = to - i
 
-loop-holds : tie.Need-loop-init invariant-loop decreases-loop
-loop-holds c = listing-from _ _ _ _ _ _ c.before.before.before.requires.0.0
+loop-i-init : tie.Need-loop-i-init invariant-loop-i decreases-loop-i
+loop-i-init c = listing-from _ _ _ _ _ _ c.requires.0.0
 
-add_at : tie.Need-overflow-add-at invariant-loop decreases-loop
-add_at c = search rules
+overflow_add-at : tie.Need-overflow_add-at invariant-loop-i decreases-loop-i
+overflow_add-at c = search rules
 
-add-i : tie.Need-overflow-add-i invariant-loop decreases-loop
-add-i c = search rules
+overflow_add-i : tie.Need-overflow_add-i invariant-loop-i decreases-loop-i
+overflow_add-i c = search rules
 
-shared-slice-read-if1 : tie.Need-shared-slice-read-if1 invariant-loop decreases-loop
-shared-slice-read-if1 c = search rules
+bounds-file-at : tie.Need-bounds-file-at invariant-loop-i decreases-loop-i
+bounds-file-at c = search rules
 
-shared-slice-read-if2 : tie.Need-shared-slice-read-if2 invariant-loop decreases-loop
-shared-slice-read-if2 c = search rules
+bounds-new-at : tie.Need-bounds-new-at invariant-loop-i decreases-loop-i
+bounds-new-at c = search rules
 
-cast-put-line : tie.Need-overflow-cast-put-line invariant-loop decreases-loop
-cast-put-line c = search rules
+overflow_cast-put_line : tie.Need-overflow_cast-put_line invariant-loop-i decreases-loop-i
+overflow_cast-put_line c = search rules
 
-cast-put-line-2 : tie.Need-overflow-cast-put-line-2 invariant-loop decreases-loop
-cast-put-line-2 c = search rules
+overflow_cast-put_line-then-new-at : tie.Need-overflow_cast-put_line-then-new-at invariant-loop-i decreases-loop-i
+overflow_cast-put_line-then-new-at c = search rules
 
 -- the byte of slot i is set
-set_here : (c : tie.Then2 invariant-loop decreases-loop)
-    → (let l = c.before.before.before.before.before in
-    let a = l.before.before.before.before.args in
-    was_set a.file.now a.new.now l.loop.i ≡ true)
-set_here c = rw (eq-eqb _ _ c.before.before.if1.true, ne_eqb _ _ c.if2.true)
+set_here : (c : tie.Then-new-at invariant-loop-i decreases-loop-i)
+    → (let a = c.args in
+    was_set a.file.now a.new.now c.loop-i.i ≡ true)
+set_here c = rw (eq-eqb _ _ c.if-file-at.true, ne_eqb _ _ c.if-new-at.true)
 
-put-line-requires : tie.Need-put-line-requires invariant-loop decreases-loop
-put-line-requires c κs =
-    let t = c.before in
-    let l = t.before.before.before.before.before in
-    let s = l.before.before.before.before in
-    listing-room l.loop.invariant s.requires.1 (omega arith) (set_here t)
+put_line-line-requires : tie.Need-put_line-line-requires invariant-loop-i decreases-loop-i
+put_line-line-requires c κs =
+    listing-room c.loop-i.invariant c.requires.1 (omega arith) (set_here c.before)
 
-loop-less : tie.Need-loop-smaller invariant-loop decreases-loop
-loop-less c = search rules
+loop-i-smaller-then-new-at : tie.Need-loop-i-smaller-then-new-at invariant-loop-i decreases-loop-i
+loop-i-smaller-then-new-at c = search rules
 
-loop-again : tie.Need-loop-preserved invariant-loop decreases-loop
-loop-again c =
-    let put = c.before.before in
-    let t = put.before.before in
-    let l = t.before.before.before.before.before in
-    listing-more l.loop.invariant (omega arith) (set_here t) refl put.put-line.ensures
+loop-i-preserved-then-new-at : tie.Need-loop-i-preserved-then-new-at invariant-loop-i decreases-loop-i
+loop-i-preserved-then-new-at c =
+    listing-more c.loop-i.invariant (omega arith) (set_here c.before.before.before.before) refl c.put_line-line.ensures
 
-loop-less-2 : tie.Need-loop-smaller-2 invariant-loop decreases-loop
-loop-less-2 c = search rules
+loop-i-smaller-else-new-at : tie.Need-loop-i-smaller-else-new-at invariant-loop-i decreases-loop-i
+loop-i-smaller-else-new-at c = search rules
 
-loop-again-2 : tie.Need-loop-preserved-2 invariant-loop decreases-loop
-loop-again-2 c =
-    let l = c.before.before.before.before.before in
-    listing-skip l.loop.invariant (omega arith)
-    (rw (eq-eqb _ _ c.before.before.if1.true, eq-eqb _ _ c.if2.false))
+loop-i-preserved-else-new-at : tie.Need-loop-i-preserved-else-new-at invariant-loop-i decreases-loop-i
+loop-i-preserved-else-new-at c =
+    listing-skip c.loop-i.invariant (omega arith)
+    (rw (eq-eqb _ _ c.if-file-at.true, eq-eqb _ _ c.if-new-at.false))
 
-loop-less-3 : tie.Need-loop-smaller-3 invariant-loop decreases-loop
-loop-less-3 c = search rules
+loop-i-smaller : tie.Need-loop-i-smaller invariant-loop-i decreases-loop-i
+loop-i-smaller c = search rules
 
-loop-again-3 : tie.Need-loop-preserved-3 invariant-loop decreases-loop
-loop-again-3 c =
-    let l = c.before.before.before in
-    listing-skip l.loop.invariant (omega arith) (rw (ne_eqb _ _ c.if1.false))
+loop-i-preserved : tie.Need-loop-i-preserved invariant-loop-i decreases-loop-i
+loop-i-preserved c =
+    listing-skip c.loop-i.invariant (omega arith) (rw (ne_eqb _ _ c.if-file-at.false))
 
-same_length : tie.Need-same-length invariant-loop decreases-loop
-same_length c = search rules
+shape_of-list : tie.Need-shape_of-list invariant-loop-i decreases-loop-i
+shape_of-list c = search rules
 
-returns : tie.Need-returns invariant-loop decreases-loop
-returns c = listing-end c.before.loop.invariant c.loop-test.false
+returns : tie.Need-returns invariant-loop-i decreases-loop-i
+returns c = listing-end c.loop-i.invariant c.loop-i-test.false
 
-pub put-block-spec : {M : Type 1} → statement M
-put-block-spec =
+pub put_block_spec : {M : Type 1} → statement M
+put_block_spec =
     tie.close
     (tie.spec
-    invariant-loop
-    decreases-loop
-    loop-holds
-    add_at
-    add-i
-    shared-slice-read-if1
-    shared-slice-read-if2
-    cast-put-line
-    cast-put-line-2
-    put-line-requires
-    loop-less
-    loop-again
-    loop-less-2
-    loop-again-2
-    loop-less-3
-    loop-again-3
-    same_length
+    invariant-loop-i
+    decreases-loop-i
+    loop-i-init
+    overflow_add-at
+    overflow_add-i
+    bounds-file-at
+    bounds-new-at
+    overflow_cast-put_line
+    overflow_cast-put_line-then-new-at
+    put_line-line-requires
+    loop-i-smaller-then-new-at
+    loop-i-preserved-then-new-at
+    loop-i-smaller-else-new-at
+    loop-i-preserved-else-new-at
+    loop-i-smaller
+    loop-i-preserved
+    shape_of-list
     returns)

@@ -19,123 +19,110 @@ use borrow.Author.Rules.{rules}
 use Rattle.pciv_repair.proofs.lines.put_dropped.Statement.{statement}
 use Rattle.pciv_repair.proofs.lines.put_dropped.Tie as tie
 
-abbrev invariant-loop : tie.invariant-loop
-invariant-loop file n k list₀ from line₀ lowest₀ j₀ list line lowest j =
+abbrev invariant-loop-j : tie.invariant-loop-j
+invariant-loop-j file n k list₀ from line₀ lowest₀ j₀ list line lowest j =
     let P : Parts = file_parts file n k in
     let drop : ℕ → Bool = λ t. not (is_kept P t) in
     Listing (dropped_line file n k) drop k (positions drop 0 k) from list₀ j line list × (lowest ≡ lowest_kept P j)
 
-abbrev decreases-loop : tie.decreases-loop
-decreases-loop file n k list₀ from line₀ lowest₀ j₀ list line lowest j = k - j
+abbrev decreases-loop-j : tie.decreases-loop-j
+decreases-loop-j file n k list₀ from line₀ lowest₀ j₀ list line lowest j = k - j
 
-loop-holds : tie.Need-loop-init invariant-loop decreases-loop
+loop-j-init : tie.Need-loop-j-init invariant-loop-j decreases-loop-j
 unfolding lowest_kept
-loop-holds c = (listing_start _ _ _ _ _, refl)
+loop-j-init c = (listing_start _ _ _ _ _, refl)
 
 -- the least slot after entry j
-next : (c : tie.After-lowest-after invariant-loop decreases-loop)
-    → (let l = c.before.before in
-    let a = l.before.before.before.args in
-    c.lowest-after.result ≡ lowest_kept (file_parts a.file.now a.n a.k) (l.loop.j + 1))
+next : (c : tie.After-lowest_after-lowest invariant-loop-j decreases-loop-j)
+    → (let a = c.args in
+    c.lowest_after-lowest.result ≡ lowest_kept (file_parts a.file.now a.n a.k) (c.loop-j.j + 1))
 next c =
-    let l = c.before.before in
-    let a = l.before.before.before.args in
+    let a = c.args in
     let P : Parts = file_parts a.file.now a.n a.k in
-    c.lowest-after.ensures
-    ∙ ap (λ (x : ℕ). lowest_after P x l.loop.j) l.loop.invariant.1
-    ∙ rw (add-one l.loop.j) (sym (lowest_kept-next P l.loop.j))
+    c.lowest_after-lowest.ensures
+    ∙ ap (λ (x : ℕ). lowest_after P x c.loop-j.j) c.loop-j.invariant.1
+    ∙ rw (add-one c.loop-j.j) (sym (lowest_kept-next P c.loop-j.j))
 
 -- entry j is dropped where it does not go up
-tested : (c : tie.After-lowest-after invariant-loop decreases-loop)
-    → (let l = c.before.before in
-    let a = l.before.before.before.args in
-    not (is_kept (file_parts a.file.now a.n a.k) l.loop.j)
-    ≡ not (ltb l.loop.lowest c.lowest-after.result))
+tested : (c : tie.After-lowest_after-lowest invariant-loop-j decreases-loop-j)
+    → (let a = c.args in
+    not (is_kept (file_parts a.file.now a.n a.k) c.loop-j.j)
+    ≡ not (ltb c.loop-j.lowest c.lowest_after-lowest.result))
 tested c =
-    let l = c.before.before in
-    let a = l.before.before.before.args in
-    rw (next c, l.loop.invariant.1, add-one l.loop.j)
-    (ap not (is_kept-next (file_parts a.file.now a.n a.k) l.loop.j))
+    let a = c.args in
+    rw (next c, c.loop-j.invariant.1, add-one c.loop-j.j)
+    (ap not (is_kept-next (file_parts a.file.now a.n a.k) c.loop-j.j))
 
-lowest-after-requires : tie.Need-lowest-after-requires invariant-loop decreases-loop
-lowest-after-requires c κs = search rules
+lowest_after-lowest-requires : tie.Need-lowest_after-lowest-requires invariant-loop-j decreases-loop-j
+lowest_after-lowest-requires c κs = search rules
 
-add-j : tie.Need-overflow-add-j invariant-loop decreases-loop
-add-j c = search rules
+overflow_add-j : tie.Need-overflow_add-j invariant-loop-j decreases-loop-j
+overflow_add-j c = search rules
 
-add-get64 : tie.Need-overflow-add-get64 invariant-loop decreases-loop
-add-get64 c = search rules
+overflow_add-n : tie.Need-overflow_add-n invariant-loop-j decreases-loop-j
+overflow_add-n c = search rules
 
-mul-get64 : tie.Need-overflow-mul-get64 invariant-loop decreases-loop
-mul-get64 c = search rules
+overflow_mul-entry : tie.Need-overflow_mul-entry invariant-loop-j decreases-loop-j
+overflow_mul-entry c = search rules
 
-add-get64-2 : tie.Need-overflow-add-get64-2 invariant-loop decreases-loop
-add-get64-2 c = search rules
+overflow_add-n-then-lowest-free : tie.Need-overflow_add-n-then-lowest-free invariant-loop-j decreases-loop-j
+overflow_add-n-then-lowest-free c = search rules
 
-get64-requires : tie.Need-get64-requires invariant-loop decreases-loop
-get64-requires c κs = search rules
+get64-slot-requires : tie.Need-get64-slot-requires invariant-loop-j decreases-loop-j
+get64-slot-requires c κs = search rules
 
 -- entry j is dropped
-dropped : (c : tie.Then1 invariant-loop decreases-loop)
-    → (let l = c.before.before.before in
-    let a = l.before.before.before.args in
-    not (is_kept (file_parts a.file.now a.n a.k) l.loop.j) ≡ true)
-dropped c = tested c.before ∙ ap not (le-ltb _ _ c.if1.true)
+dropped : (c : tie.Then-lowest-free invariant-loop-j decreases-loop-j)
+    → (let a = c.args in
+    not (is_kept (file_parts a.file.now a.n a.k) c.loop-j.j) ≡ true)
+dropped c = tested c.before ∙ ap not (le-ltb _ _ c.if-lowest-free.true)
 
-put-line-requires : tie.Need-put-line-requires invariant-loop decreases-loop
-put-line-requires c κs =
-    let t = c.before.before in
-    let l = t.before.before.before in
-    let s = l.before.before.before in
-    listing-room l.loop.invariant.0 s.requires.1 (omega arith) (dropped t)
+put_line-line-requires : tie.Need-put_line-line-requires invariant-loop-j decreases-loop-j
+put_line-line-requires c κs =
+    listing-room c.loop-j.invariant.0 c.requires.1 (omega arith) (dropped c.before.before)
 
-loop-less : tie.Need-loop-smaller invariant-loop decreases-loop
-loop-less c = search rules
+loop-j-smaller-then-lowest-free : tie.Need-loop-j-smaller-then-lowest-free invariant-loop-j decreases-loop-j
+loop-j-smaller-then-lowest-free c = search rules
 
-loop-again : tie.Need-loop-preserved invariant-loop decreases-loop
-loop-again c =
-    let put = c.before.before in
-    let read = put.before.before in
-    let t = read.before in
-    let l = t.before.before.before in (
-      listing-more l.loop.invariant.0 (omega arith) (dropped t)
-          (ap (λ (slot : ℕ). correction 2 l.loop.j slot 0) (sym read.get64.ensures)) put.put-line.ensures,
-      next t.before,
-    )
+loop-j-preserved-then-lowest-free : tie.Need-loop-j-preserved-then-lowest-free invariant-loop-j decreases-loop-j
+loop-j-preserved-then-lowest-free c = (
+  listing-more c.loop-j.invariant.0 (omega arith) (dropped c.before.before.before.before.before)
+      (ap (λ (slot : ℕ). correction 2 c.loop-j.j slot 0) (sym c.get64-slot.ensures)) c.put_line-line.ensures,
+  next c.before.before.before.before.before.before,
+)
 
-loop-less-2 : tie.Need-loop-smaller-2 invariant-loop decreases-loop
-loop-less-2 c = search rules
+loop-j-smaller : tie.Need-loop-j-smaller invariant-loop-j decreases-loop-j
+loop-j-smaller c = search rules
 
-loop-again-2 : tie.Need-loop-preserved-2 invariant-loop decreases-loop
-loop-again-2 c =
-    let l = c.before.before.before in (
-      listing-skip l.loop.invariant.0 (omega arith) (tested c.before ∙ ap not (lt-ltb _ _ c.if1.false)),
-      next c.before,
-    )
+loop-j-preserved : tie.Need-loop-j-preserved invariant-loop-j decreases-loop-j
+loop-j-preserved c = (
+  listing-skip c.loop-j.invariant.0 (omega arith) (tested c.before ∙ ap not (lt-ltb _ _ c.if-lowest-free.false)),
+  next c.before,
+)
 
-same_length : tie.Need-same-length invariant-loop decreases-loop
-same_length c = search rules
+shape_of-list : tie.Need-shape_of-list invariant-loop-j decreases-loop-j
+shape_of-list c = search rules
 
-returns : tie.Need-returns invariant-loop decreases-loop
-returns c = listing-end c.before.loop.invariant.0 c.loop-test.false
+returns : tie.Need-returns invariant-loop-j decreases-loop-j
+returns c = listing-end c.loop-j.invariant.0 c.loop-j-test.false
 
-pub put-dropped-spec : {M : Type 1} → statement M
-put-dropped-spec =
+pub put_dropped_spec : {M : Type 1} → statement M
+put_dropped_spec =
     tie.close
     (tie.spec
-    invariant-loop
-    decreases-loop
-    loop-holds
-    lowest-after-requires
-    add-j
-    add-get64
-    mul-get64
-    add-get64-2
-    get64-requires
-    put-line-requires
-    loop-less
-    loop-again
-    loop-less-2
-    loop-again-2
-    same_length
+    invariant-loop-j
+    decreases-loop-j
+    loop-j-init
+    lowest_after-lowest-requires
+    overflow_add-j
+    overflow_add-n
+    overflow_mul-entry
+    overflow_add-n-then-lowest-free
+    get64-slot-requires
+    put_line-line-requires
+    loop-j-smaller-then-lowest-free
+    loop-j-preserved-then-lowest-free
+    loop-j-smaller
+    loop-j-preserved
+    shape_of-list
     returns)

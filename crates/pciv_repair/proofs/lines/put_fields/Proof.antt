@@ -14,86 +14,77 @@ use borrow.Author.Rules.{rules}
 use Rattle.pciv_repair.proofs.lines.put_fields.Statement.{statement}
 use Rattle.pciv_repair.proofs.lines.put_fields.Tie as tie
 
-abbrev invariant-loop : tie.invariant-loop
-invariant-loop file new list₀ line₀ i₀ list line i =
+abbrev invariant-loop-i : tie.invariant-loop-i
+invariant-loop-i file new list₀ line₀ i₀ list line i =
     Listing (field_line file new) (other_field file new) 6 (positions (other_field file new) 0 6) 0 list₀ i line list
 
-abbrev decreases-loop : tie.decreases-loop
-decreases-loop file new list₀ line₀ i₀ list line i = 6 - i
+abbrev decreases-loop-i : tie.decreases-loop-i
+decreases-loop-i file new list₀ line₀ i₀ list line i = 6 - i
 
-loop-holds : tie.Need-loop-init invariant-loop decreases-loop
-loop-holds c = listing_start _ _ _ _ _
+loop-i-init : tie.Need-loop-i-init invariant-loop-i decreases-loop-i
+loop-i-init c = listing_start _ _ _ _ _
 
-field-at-requires : tie.Need-field-at-requires invariant-loop decreases-loop
-field-at-requires c κs = search rules
+field_at-place-requires : tie.Need-field_at-place-requires invariant-loop-i decreases-loop-i
+field_at-place-requires c κs = search rules
 
-field-of-requires : tie.Need-field-of-requires invariant-loop decreases-loop
-field-of-requires c κs = search rules
+field_of-before-requires : tie.Need-field_of-before-requires invariant-loop-i decreases-loop-i
+field_of-before-requires c κs = search rules
 
-field-of-requires-2 : tie.Need-field-of-requires-2 invariant-loop decreases-loop
-field-of-requires-2 c κs = search rules
+field_of-after-requires : tie.Need-field_of-after-requires invariant-loop-i decreases-loop-i
+field_of-after-requires c κs = search rules
 
-add-i : tie.Need-overflow-add-i invariant-loop decreases-loop
-add-i c = search rules
+overflow_add-i : tie.Need-overflow_add-i invariant-loop-i decreases-loop-i
+overflow_add-i c = search rules
 
 -- field i differs
-other : (c : tie.Then1 invariant-loop decreases-loop)
-    → (let l = c.before.before.before.before.before in
-    let a = l.before.before.before.before.args in
-    other_field a.file.now a.new.now l.loop.i ≡ true)
+other : (c : tie.Then-before-after invariant-loop-i decreases-loop-i)
+    → (let a = c.args in
+    other_field a.file.now a.new.now c.loop-i.i ≡ true)
 other c =
-    rw (← c.before.before.field_of.ensures, ← c.before.field-of2.ensures, ne_eqb _ _ c.if1.true)
+    rw (← c.field_of-before.ensures, ← c.field_of-after.ensures, ne_eqb _ _ c.if-before-after.true)
 
-put-line-requires : tie.Need-put-line-requires invariant-loop decreases-loop
-put-line-requires c κs =
-    let l = c.before.before.before.before.before.before in
-    let s = l.before.before.before.before in
-    listing-room l.loop.invariant (omega (arith, s.requires.1)) (omega arith) (other c.before)
+put_line-line-requires : tie.Need-put_line-line-requires invariant-loop-i decreases-loop-i
+put_line-line-requires c κs =
+    listing-room c.loop-i.invariant (omega (arith, c.requires.1)) (omega arith) (other c.before)
 
-loop-less : tie.Need-loop-smaller invariant-loop decreases-loop
-loop-less c = search rules
+loop-i-smaller-then-before-after : tie.Need-loop-i-smaller-then-before-after invariant-loop-i decreases-loop-i
+loop-i-smaller-then-before-after c = search rules
 
-loop-again : tie.Need-loop-preserved invariant-loop decreases-loop
-loop-again c =
-    let put = c.before.before in
-    let t = put.before.before in
-    let after = t.before in
-    let before = after.before in
-    let l = before.before.before.before in
-    listing-more l.loop.invariant (omega arith) (other t)
-    (rw (before.before.field_at.ensures, before.field_of.ensures, after.field-of2.ensures))
-    put.put-line.ensures
+loop-i-preserved-then-before-after : tie.Need-loop-i-preserved-then-before-after invariant-loop-i decreases-loop-i
+loop-i-preserved-then-before-after c =
+    listing-more c.loop-i.invariant (omega arith) (other c.before.before.before.before)
+    (rw (c.field_at-place.ensures, c.field_of-before.ensures, c.field_of-after.ensures))
+    c.put_line-line.ensures
 
-loop-less-2 : tie.Need-loop-smaller-2 invariant-loop decreases-loop
-loop-less-2 c = search rules
+loop-i-smaller : tie.Need-loop-i-smaller invariant-loop-i decreases-loop-i
+loop-i-smaller c = search rules
 
-loop-again-2 : tie.Need-loop-preserved-2 invariant-loop decreases-loop
-loop-again-2 c =
-    let l = c.before.before.before.before.before in
-    listing-skip l.loop.invariant (omega arith)
-    (rw (← c.before.before.field_of.ensures, ← c.before.field-of2.ensures, eq-eqb _ _ c.if1.false))
+loop-i-preserved : tie.Need-loop-i-preserved invariant-loop-i decreases-loop-i
+loop-i-preserved c =
+    listing-skip c.loop-i.invariant (omega arith)
+    (rw (← c.field_of-before.ensures, ← c.field_of-after.ensures, eq-eqb _ _ c.if-before-after.false))
 
-same_length : tie.Need-same-length invariant-loop decreases-loop
-same_length c = search rules
+shape_of-list : tie.Need-shape_of-list invariant-loop-i decreases-loop-i
+shape_of-list c = search rules
 
-returns : tie.Need-returns invariant-loop decreases-loop
-returns c = rw zero-add at (listing-end c.before.loop.invariant c.loop-test.false)
+returns : tie.Need-returns invariant-loop-i decreases-loop-i
+returns c = rw zero-add at (listing-end c.loop-i.invariant c.loop-i-test.false)
 
-pub put-fields-spec : {M : Type 1} → statement M
-put-fields-spec =
+pub put_fields_spec : {M : Type 1} → statement M
+put_fields_spec =
     tie.close
     (tie.spec
-    invariant-loop
-    decreases-loop
-    loop-holds
-    field-at-requires
-    field-of-requires
-    field-of-requires-2
-    add-i
-    put-line-requires
-    loop-less
-    loop-again
-    loop-less-2
-    loop-again-2
-    same_length
+    invariant-loop-i
+    decreases-loop-i
+    loop-i-init
+    field_at-place-requires
+    field_of-before-requires
+    field_of-after-requires
+    overflow_add-i
+    put_line-line-requires
+    loop-i-smaller-then-before-after
+    loop-i-preserved-then-before-after
+    loop-i-smaller
+    loop-i-preserved
+    shape_of-list
     returns)

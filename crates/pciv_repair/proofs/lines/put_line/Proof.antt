@@ -8,69 +8,69 @@ use borrow.Author.Rules.{rules}
 use Rattle.pciv_repair.proofs.lines.put_line.Statement.{statement}
 use Rattle.pciv_repair.proofs.lines.put_line.Tie as tie
 
-mul_at : tie.Need-overflow-mul-at
-mul_at c = search rules
+overflow_mul-at : tie.Need-overflow_mul-at
+overflow_mul-at c = search rules
 
-mul-list : tie.Need-overflow-mul-list
-mul-list c = search rules
+offset_bounds-list-at : tie.Need-offset_bounds-list-at
+offset_bounds-list-at c = search rules
 
-slice-write-list : tie.Need-slice-write-list
-slice-write-list c = search rules
+bounds-list-at : tie.Need-bounds-list-at
+bounds-list-at c = search rules
 
-add-list : tie.Need-overflow-add-list
-add-list c = search rules
+overflow_add-list : tie.Need-overflow_add-list
+overflow_add-list c = search rules
 
-mul-list-2 : tie.Need-overflow-mul-list-2
-mul-list-2 c = search rules
+offset_bounds-list-at-2 : tie.Need-offset_bounds-list-at-2
+offset_bounds-list-at-2 c = search rules
 
-slice-write-list-2 : tie.Need-slice-write-list-2
-slice-write-list-2 c = simp length-set (omega arith)
+bounds-list-at-2 : tie.Need-bounds-list-at-2
+bounds-list-at-2 c = simp length-set (omega arith)
 
-add-list-2 : tie.Need-overflow-add-list-2
-add-list-2 c = search rules
+overflow_add-list-2 : tie.Need-overflow_add-list-2
+overflow_add-list-2 c = search rules
 
-mul-list-3 : tie.Need-overflow-mul-list-3
-mul-list-3 c = search rules
+offset_bounds-list-at-3 : tie.Need-offset_bounds-list-at-3
+offset_bounds-list-at-3 c = search rules
 
-slice-write-list-3 : tie.Need-slice-write-list-3
-slice-write-list-3 c = simp length-set (omega arith)
+bounds-list-at-3 : tie.Need-bounds-list-at-3
+bounds-list-at-3 c = simp length-set (omega arith)
 
-add-list-3 : tie.Need-overflow-add-list-3
-add-list-3 c = search rules
+overflow_add-list-3 : tie.Need-overflow_add-list-3
+overflow_add-list-3 c = search rules
 
-mul-list-4 : tie.Need-overflow-mul-list-4
-mul-list-4 c = search rules
+offset_bounds-list-at-4 : tie.Need-offset_bounds-list-at-4
+offset_bounds-list-at-4 c = search rules
 
-slice-write-list-4 : tie.Need-slice-write-list-4
-slice-write-list-4 c = simp length-set (omega arith)
+bounds-list-at-4 : tie.Need-bounds-list-at-4
+bounds-list-at-4 c = simp length-set (omega arith)
 
-add-result : tie.Need-overflow-add-result
-add-result c = search rules
+overflow_add-result : tie.Need-overflow_add-result
+overflow_add-result c = search rules
 
-same_length : tie.Need-same-length
-same_length c = search rules
+shape_of-list : tie.Need-shape_of-list
+shape_of-list c = search rules
 
 returns : tie.Need-returns
 returns c =
     let a = c.args in
     (refl, set-quad a.list.now (4 * a.line) a.kind a.place a.before a.after)
 
-pub put-line-spec : {M : Type 1} → statement M
-put-line-spec =
+pub put_line_spec : {M : Type 1} → statement M
+put_line_spec =
     tie.close
     (tie.spec
-    mul_at
-    mul-list
-    slice-write-list
-    add-list
-    mul-list-2
-    slice-write-list-2
-    add-list-2
-    mul-list-3
-    slice-write-list-3
-    add-list-3
-    mul-list-4
-    slice-write-list-4
-    add-result
-    same_length
+    overflow_mul-at
+    offset_bounds-list-at
+    bounds-list-at
+    overflow_add-list
+    offset_bounds-list-at-2
+    bounds-list-at-2
+    overflow_add-list-2
+    offset_bounds-list-at-3
+    bounds-list-at-3
+    overflow_add-list-3
+    offset_bounds-list-at-4
+    bounds-list-at-4
+    overflow_add-result
+    shape_of-list
     returns)

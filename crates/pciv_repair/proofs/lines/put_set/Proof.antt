@@ -15,95 +15,86 @@ use borrow.Author.Rules.{rules}
 use Rattle.pciv_repair.proofs.lines.put_set.Statement.{statement}
 use Rattle.pciv_repair.proofs.lines.put_set.Tie as tie
 
-abbrev invariant-loop : tie.invariant-loop
-invariant-loop file n new list₀ from line₀ i₀ list line i =
+abbrev invariant-loop-i : tie.invariant-loop-i
+invariant-loop-i file n new list₀ from line₀ i₀ list line i =
     Listing set_line (was_set file new) n (positions (was_set file new) 0 n) from list₀ i line list
 
-abbrev decreases-loop : tie.decreases-loop
-decreases-loop file n new list₀ from line₀ i₀ list line i = n - i
+abbrev decreases-loop-i : tie.decreases-loop-i
+decreases-loop-i file n new list₀ from line₀ i₀ list line i = n - i
 
-loop-holds : tie.Need-loop-init invariant-loop decreases-loop
-loop-holds c = listing_start _ _ _ _ _
+loop-i-init : tie.Need-loop-i-init invariant-loop-i decreases-loop-i
+loop-i-init c = listing_start _ _ _ _ _
 
-sub-smaller : tie.Need-overflow-sub-smaller invariant-loop decreases-loop
-sub-smaller c = search rules
+overflow_sub-n : tie.Need-overflow_sub-n invariant-loop-i decreases-loop-i
+overflow_sub-n c = search rules
 
-smaller-requires : tie.Need-smaller-requires invariant-loop decreases-loop
-smaller-requires c κs = search rules
+smaller-i-requires : tie.Need-smaller-i-requires invariant-loop-i decreases-loop-i
+smaller-i-requires c κs = search rules
 
 -- the block ends within the n slots
-inside : (c : tie.After-smaller invariant-loop decreases-loop)
-    → (let l = c.before.before in
-    let a = l.before.before.before.before.args in
-    l.loop.i + c.smaller.result ≤ a.n)
-inside c = omega (arith, c.smaller.ensures)
+inside : (c : tie.After-smaller-i invariant-loop-i decreases-loop-i)
+    → (let a = c.args in
+    c.loop-i.i + c.smaller-i.result ≤ a.n)
+inside c = omega (arith, c.smaller-i.ensures)
 
-add-i : tie.Need-overflow-add-i invariant-loop decreases-loop
-add-i c = search rules
+overflow_add-i : tie.Need-overflow_add-i invariant-loop-i decreases-loop-i
+overflow_add-i c = search rules
 
-add-any-other : tie.Need-overflow-add-any-other invariant-loop decreases-loop
-add-any-other c = search rules
+overflow_add-start : tie.Need-overflow_add-start invariant-loop-i decreases-loop-i
+overflow_add-start c = search rules
 
-add-any-other-2 : tie.Need-overflow-add-any-other-2 invariant-loop decreases-loop
-add-any-other-2 c = search rules
+overflow_add-i-in-loop-i : tie.Need-overflow_add-i-in-loop-i invariant-loop-i decreases-loop-i
+overflow_add-i-in-loop-i c = search rules
 
-any-other-requires : tie.Need-any-other-requires invariant-loop decreases-loop
-any-other-requires c κs = search rules
+any_other-requires : tie.Need-any_other-requires invariant-loop-i decreases-loop-i
+any_other-requires c κs = search rules
 
-put-block-requires : tie.Need-put-block-requires invariant-loop decreases-loop
-put-block-requires c κs =
-    let k = c.before.before.before in
-    let l = k.before.before in
-    let s = l.before.before.before.before in
-    let room = listing-part-room l.loop.invariant s.requires.1 _ (omega arith) (inside k) in
+put_block-line-requires : tie.Need-put_block-line-requires invariant-loop-i decreases-loop-i
+put_block-line-requires c κs =
+    let room = listing-part-room c.loop-i.invariant c.requires.1 _ (omega arith) (inside c.before.before.before) in
     ((search rules, search rules, search rules), room)
 
-loop-less : tie.Need-loop-smaller invariant-loop decreases-loop
-loop-less c = search rules
+loop-i-smaller-then-any_other : tie.Need-loop-i-smaller-then-any_other invariant-loop-i decreases-loop-i
+loop-i-smaller-then-any_other c = search rules
 
-loop-again : tie.Need-loop-preserved invariant-loop decreases-loop
-loop-again c =
-    let put = c.before.before in
-    let k = put.before.before.before.before in
-    let l = k.before.before in
-    listing-part l.loop.invariant _ (omega arith) (inside k) put.put-block.ensures
+loop-i-preserved-then-any_other : tie.Need-loop-i-preserved-then-any_other invariant-loop-i decreases-loop-i
+loop-i-preserved-then-any_other c =
+    listing-part c.loop-i.invariant _ (omega arith) (inside c.before.before.before.before.before.before) c.put_block-line.ensures
 
-loop-less-2 : tie.Need-loop-smaller-2 invariant-loop decreases-loop
-loop-less-2 c = search rules
+loop-i-smaller : tie.Need-loop-i-smaller invariant-loop-i decreases-loop-i
+loop-i-smaller c = search rules
 
-loop-again-2 : tie.Need-loop-preserved-2 invariant-loop decreases-loop
-loop-again-2 c =
-    let k = c.before.before in
-    let l = k.before.before in
-    let a = l.before.before.before.before.args in
-    listing-gap l.loop.invariant _ (omega arith) (inside k)
+loop-i-preserved : tie.Need-loop-i-preserved invariant-loop-i decreases-loop-i
+loop-i-preserved c =
+    let a = c.args in
+    listing-gap c.loop-i.invariant _ (omega arith) (inside c.before.before)
     (λ t h₁ h₂. was_set-same a.file.now a.new.now t
     (any_from-none (λ (j : ℕ). not (eqb (byte_at a.file.now j) (byte_at a.new.now j))) _ _
-    (sym c.before.any-other.ensures ∙ c.if1.false) (40 + t) (omega arith) (omega arith)))
+    (sym c.any_other.ensures ∙ c.if-any_other.false) (40 + t) (omega arith) (omega arith)))
 
-same_length : tie.Need-same-length invariant-loop decreases-loop
-same_length c = search rules
+shape_of-list : tie.Need-shape_of-list invariant-loop-i decreases-loop-i
+shape_of-list c = search rules
 
-returns : tie.Need-returns invariant-loop decreases-loop
-returns c = listing-end c.before.loop.invariant c.loop-test.false
+returns : tie.Need-returns invariant-loop-i decreases-loop-i
+returns c = listing-end c.loop-i.invariant c.loop-i-test.false
 
-pub put-set-spec : {M : Type 1} → statement M
-put-set-spec =
+pub put_set_spec : {M : Type 1} → statement M
+put_set_spec =
     tie.close
     (tie.spec
-    invariant-loop
-    decreases-loop
-    loop-holds
-    sub-smaller
-    smaller-requires
-    add-i
-    add-any-other
-    add-any-other-2
-    any-other-requires
-    put-block-requires
-    loop-less
-    loop-again
-    loop-less-2
-    loop-again-2
-    same_length
+    invariant-loop-i
+    decreases-loop-i
+    loop-i-init
+    overflow_sub-n
+    smaller-i-requires
+    overflow_add-i
+    overflow_add-start
+    overflow_add-i-in-loop-i
+    any_other-requires
+    put_block-line-requires
+    loop-i-smaller-then-any_other
+    loop-i-preserved-then-any_other
+    loop-i-smaller
+    loop-i-preserved
+    shape_of-list
     returns)

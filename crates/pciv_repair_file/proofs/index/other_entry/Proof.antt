@@ -12,29 +12,26 @@ use Rattle.pciv_repair_file.proofs.index.other_entry.Tie as tie
 get64-requires : tie.Need-get64-requires
 get64-requires c κs = search rules
 
-returns : tie.Need-returns
-returns c =
-    let g = c.before in
-    let a = g.before.before.args in
+returns-then-get64-slot : tie.Need-returns-then-get64-slot
+returns-then-get64-slot c =
+    let a = c.args in
     sym
     (ap (λ (t : Bool). t || not (eqb (get 8 a.file.now (a.at + 8)) a.entry))
-    (neb-not (get 8 a.file.now a.at) a.slot (λ e. c.if1.true (g.get64.ensures ∙ e))))
+    (neb-not (get 8 a.file.now a.at) a.slot (λ e. c.if-get64-slot.true (c.get64.ensures ∙ e))))
 
-add-get64 : tie.Need-overflow-add-get64
-add-get64 c = search rules
+overflow_add-at : tie.Need-overflow_add-at
+overflow_add-at c = search rules
 
 get64-requires-2 : tie.Need-get64-requires-2
 get64-requires-2 c κs = search rules
 
-returns-2 : tie.Need-returns-2
-returns-2 c =
-    let t = c.before in
-    let g = t.before in
-    let a = g.before.before.args in
-    ap (λ (x : ℕ). not (eqb x a.entry)) c.get642.ensures
+returns : tie.Need-returns
+returns c =
+    let a = c.args in
+    ap (λ (x : ℕ). not (eqb x a.entry)) c.get64-2.ensures
     ∙ sym
     (ap (λ (t : Bool). t || not (eqb (get 8 a.file.now (a.at + 8)) a.entry))
-    (eqb-not (get 8 a.file.now a.at) a.slot (sym g.get64.ensures ∙ t.if1.false)))
+    (eqb-not (get 8 a.file.now a.at) a.slot (sym c.get64.ensures ∙ c.if-get64-slot.false)))
 
-pub other-entry-spec : {M : Type 1} → statement M
-other-entry-spec = tie.close (tie.spec get64-requires returns add-get64 get64-requires-2 returns-2)
+pub other_entry_spec : {M : Type 1} → statement M
+other_entry_spec = tie.close (tie.spec get64-requires returns-then-get64-slot overflow_add-at get64-requires-2 returns)

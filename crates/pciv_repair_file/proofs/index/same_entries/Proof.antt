@@ -17,224 +17,196 @@ use Rattle.pciv_repair_file.proofs.IndexLaws.{comparing-inside, comparing-end, k
 use Rattle.pciv_repair_file.proofs.index.same_entries.Statement.{statement}
 use Rattle.pciv_repair_file.proofs.index.same_entries.Tie as tie
 
-abbrev invariant-loop : tie.invariant-loop
-invariant-loop file n k kept index step m i₀ entry₀ lowest₀ j₀ i entry lowest j = Comparing file n k i entry lowest j
+abbrev invariant-loop-i : tie.invariant-loop-i
+invariant-loop-i file n k kept index step m i₀ entry₀ lowest₀ j₀ i entry lowest j = Comparing file n k i entry lowest j
 
-abbrev decreases-loop : tie.decreases-loop
-decreases-loop file n k kept index step m i₀ entry₀ lowest₀ j₀ i entry lowest j = k - j
+abbrev decreases-loop-i : tie.decreases-loop-i
+decreases-loop-i file n k kept index step m i₀ entry₀ lowest₀ j₀ i entry lowest j = k - j
 
-abbrev known : tie.At-loop invariant-loop decreases-loop → tie.After-shared-slice-known invariant-loop decreases-loop
+abbrev known : tie.At-loop-i invariant-loop-i decreases-loop-i → tie.After-shared_slice_known-1 invariant-loop-i decreases-loop-i
 known l = l.before.before.before
 
 -- the bytes of the file
-bytes : (q : tie.After-shared-slice-known invariant-loop decreases-loop) → Bytes q.before.args.file.now
-bytes q i = (q.shared-slice-known.given i).fits
+bytes : (q : tie.After-shared_slice_known-1 invariant-loop-i decreases-loop-i) → Bytes q.args.file.now
+bytes q i = (q.shared_slice_known-1.given i).fits
 
 -- how many entries are kept
-abbrev kept : tie.At-loop invariant-loop decreases-loop → ℕ
-kept l = let a = (known l).before.args in length (kept_entries (file_parts a.file.now a.n a.k))
+abbrev kept : tie.At-loop-i invariant-loop-i decreases-loop-i → ℕ
+kept l = let a = (known l).args in length (kept_entries (file_parts a.file.now a.n a.k))
 
-step_is : (l : tie.At-loop invariant-loop decreases-loop) → l.before.before.index-step.result ≡ index_step (kept l)
-step_is l = l.before.before.index-step.ensures ∙ ap index_step (known l).before.requires.1.0
+step_is : (l : tie.At-loop-i invariant-loop-i decreases-loop-i) → l.index_step-step.result ≡ index_step (kept l)
+step_is l = l.index_step-step.ensures ∙ ap index_step (known l).requires.1.0
 
-len_is : (l : tie.At-loop invariant-loop decreases-loop) → l.before.index-len.result ≡ index_len (kept l)
-len_is l = l.before.index-len.ensures ∙ ap index_len (known l).before.requires.1.0
+len_is : (l : tie.At-loop-i invariant-loop-i decreases-loop-i) → l.index_len-m.result ≡ index_len (kept l)
+len_is l = l.index_len-m.ensures ∙ ap index_len (known l).requires.1.0
 
 -- an index entry is left
-left : (c : tie.In-loop invariant-loop decreases-loop) → c.before.loop.i < index_len (kept c.before)
-left c = omega (arith, c.loop-test.true, len_is c.before)
+left : (c : tie.In-loop-i invariant-loop-i decreases-loop-i) → c.loop-i.i < index_len (kept c.before)
+left c = omega (arith, c.loop-i-test.true, len_is c.before)
 
-inside : (c : tie.In-loop invariant-loop decreases-loop) → c.before.loop.j < (known c.before).before.args.k
+inside : (c : tie.In-loop-i invariant-loop-i decreases-loop-i) → c.loop-i.j < (known c.before).args.k
 inside c =
-    let l = c.before in
-    comparing-inside _ _ _ (bytes (known l)) (known l).before.requires.0 _ _ _ _ l.loop.invariant (left c)
+    comparing-inside _ _ _ (bytes (known c.before)) (known c.before).requires.0 _ _ _ _ c.loop-i.invariant (left c)
 
 -- as many bytes as the index has
-long : (q : tie.After-shared-slice-known invariant-loop decreases-loop)
-    → (let a = q.before.args in
+long : (q : tie.After-shared_slice_known-1 invariant-loop-i decreases-loop-i)
+    → (let a = q.args in
     length (bytes_after a.file.now a.n a.k) ≡ 16 * index_len (length (kept_entries (file_parts a.file.now a.n a.k))))
-long q = q.before.requires.1.1 ∙ ap (λ (x : ℕ). 16 * index_len x) q.before.requires.1.0
+long q = q.requires.1.1 ∙ ap (λ (x : ℕ). 16 * index_len x) q.requires.1.0
 
-small : (q : tie.After-shared-slice-known invariant-loop decreases-loop) → q.before.args.kept ≤ max_slots
-small q = omega (arith, q.before.requires.1.0, kept_small _ _ _ (bytes q) q.before.requires.0)
+small : (q : tie.After-shared_slice_known-1 invariant-loop-i decreases-loop-i) → q.args.kept ≤ max_slots
+small q = omega (arith, q.requires.1.0, kept_small _ _ _ (bytes q) q.requires.0)
 
 -- where index entry i lies
-space : (c : tie.In-loop invariant-loop decreases-loop)
-    → (let a = (known c.before).before.args in
-    (40 + a.n + 12 * a.k + 16 * c.before.loop.i + 16 ≤ length a.file.now) × (c.before.loop.i < 2 * max_slots))
+space : (c : tie.In-loop-i invariant-loop-i decreases-loop-i)
+    → (let a = (known c.before).args in
+    (40 + a.n + 12 * a.k + 16 * c.loop-i.i + 16 ≤ length a.file.now) × (c.loop-i.i < 2 * max_slots))
 space c =
     let q = known c.before in
-    index-space _ _ _ (bytes q) q.before.pre.0 (long q) _ (left c)
+    index-space _ _ _ (bytes q) q.requires.0 (long q) _ (left c)
 
 -- the kept entry has index entry i
-here : (u : tie.Then2 invariant-loop decreases-loop)
-    → (let l = u.before.before.before.before in l.loop.entry ≡ l.loop.i * index_step (kept l))
+here : (u : tie.Then-number-i invariant-loop-i decreases-loop-i)
+    → (u.loop-i.entry ≡ u.loop-i.i * index_step (kept u.before.before.before.before))
 here u =
-    let l = u.before.before.before.before in
-    u.if2.true ∙ ap (λ (s : ℕ). l.loop.i * s) (step_is l)
+    u.if-number-i.true ∙ ap (λ (s : ℕ). u.loop-i.i * s) (step_is u.before.before.before.before)
 
-add-index : tie.Need-overflow-add-index invariant-loop decreases-loop
-add-index c = omega (arith, c.before.requires.0.small)
+overflow_add-index : tie.Need-overflow_add-index invariant-loop-i decreases-loop-i
+overflow_add-index c = omega (arith, c.requires.0.small)
 
-mul-index : tie.Need-overflow-mul-index invariant-loop decreases-loop
-mul-index c = let p = c.before.requires.0 in omega (arith, p.few, p.small)
+overflow_mul-index : tie.Need-overflow_mul-index invariant-loop-i decreases-loop-i
+overflow_mul-index c = let p = c.requires.0 in omega (arith, p.few, p.small)
 
-add-index-2 : tie.Need-overflow-add-index-2 invariant-loop decreases-loop
-add-index-2 c = let p = c.before.requires.0 in omega (arith, p.few, p.small)
+overflow_add-index-2 : tie.Need-overflow_add-index-2 invariant-loop-i decreases-loop-i
+overflow_add-index-2 c = let p = c.requires.0 in omega (arith, p.few, p.small)
 
-index-step-requires : tie.Need-index-step-requires invariant-loop decreases-loop
-index-step-requires c κs = small c
+index_step-step-requires : tie.Need-index_step-step-requires invariant-loop-i decreases-loop-i
+index_step-step-requires c κs = small c
 
-index-len-requires : tie.Need-index-len-requires invariant-loop decreases-loop
-index-len-requires c κs = small c.before
+index_len-m-requires : tie.Need-index_len-m-requires invariant-loop-i decreases-loop-i
+index_len-m-requires c κs = small c.before
 
-loop-holds : tie.Need-loop-init invariant-loop decreases-loop
-loop-holds c =
-    let q = c.before.before in
-    comparing-start _ _ _ (bytes q) q.before.requires.0
+loop-i-init : tie.Need-loop-i-init invariant-loop-i decreases-loop-i
+loop-i-init c =
+    comparing-start _ _ _ (bytes c.before.before) c.requires.0
 
-lowest-after-requires : tie.Need-lowest-after-requires invariant-loop decreases-loop
-lowest-after-requires c κs =
-    let p = (known c.before).before.pre.0 in
+lowest_after-lowest-requires : tie.Need-lowest_after-lowest-requires invariant-loop-i decreases-loop-i
+lowest_after-lowest-requires c κs =
+    let p = (known c.before).requires.0 in
     (p.small, omega (arith, p.inside, inside c))
 
-add-j : tie.Need-overflow-add-j invariant-loop decreases-loop
-add-j c =
-    let p = (known c.before.before).before.pre.0 in
+overflow_add-j : tie.Need-overflow_add-j invariant-loop-i decreases-loop-i
+overflow_add-j c =
+    let p = (known c.before.before).requires.0 in
     omega (arith, inside c.before, p.few, p.small)
 
-add-entry : tie.Need-overflow-add-entry invariant-loop decreases-loop
-add-entry c =
-    let i = c.before.before in
-    let l = i.before in
+overflow_add-entry : tie.Need-overflow_add-entry invariant-loop-i decreases-loop-i
+overflow_add-entry c =
     omega (
       arith,
-      l.loop.invariant.low,
-      comparing-small _ _ _ (bytes (known l)) (known l).before.requires.0 _ _ _ _ l.loop.invariant (left i),
-      kept_small _ _ _ (bytes (known l)) (known l).before.requires.0,
+      c.loop-i.invariant.low,
+      comparing-small _ _ _ (bytes (known c.before.before.before)) (known c.before.before.before).requires.0 _ _ _ _ c.loop-i.invariant (left c.before.before),
+      kept_small _ _ _ (bytes (known c.before.before.before)) (known c.before.before.before).requires.0,
     )
 
-mul-if2 : tie.Need-overflow-mul-if2 invariant-loop decreases-loop
-mul-if2 c =
-    let i = c.before.before in
-    let l = i.before in
-    rw (step_is l)
+overflow_mul-i : tie.Need-overflow_mul-i invariant-loop-i decreases-loop-i
+overflow_mul-i c =
+    rw (step_is c.before.before.before)
     (omega (
       arith,
-      comparing-small _ _ _ (bytes (known l)) (known l).before.requires.0 _ _ _ _ l.loop.invariant (left i),
-      kept_small _ _ _ (bytes (known l)) (known l).before.requires.0,
+      comparing-small _ _ _ (bytes (known c.before.before.before)) (known c.before.before.before).requires.0 _ _ _ _ c.loop-i.invariant (left c.before.before),
+      kept_small _ _ _ (bytes (known c.before.before.before)) (known c.before.before.before).requires.0,
     ))
 
-mul_at : tie.Need-overflow-mul-at invariant-loop decreases-loop
-mul_at c = omega (arith, (space c.before.before.before).1)
+overflow_mul-at : tie.Need-overflow_mul-at invariant-loop-i decreases-loop-i
+overflow_mul-at c = omega (arith, (space c.before.before.before).1)
 
-add_at : tie.Need-overflow-add-at invariant-loop decreases-loop
-add_at c =
-    let i = c.before.before.before in
-    let p = (known i.before).before.pre.0 in
-    omega (arith, (space i).1, p.few, p.small)
+overflow_add-at : tie.Need-overflow_add-at invariant-loop-i decreases-loop-i
+overflow_add-at c =
+    let p = (known c.before.before.before.before).requires.0 in
+    omega (arith, (space c.before.before.before).1, p.few, p.small)
 
-add-i : tie.Need-overflow-add-i invariant-loop decreases-loop
-add-i c = omega (arith, (space c.before.before.before).1)
+overflow_add-i : tie.Need-overflow_add-i invariant-loop-i decreases-loop-i
+overflow_add-i c = omega (arith, (space c.before.before.before).1)
 
-sub-other-entry : tie.Need-overflow-sub-other-entry invariant-loop decreases-loop
-sub-other-entry c = omega (arith, c.before.if1.true)
+overflow_sub-lowest : tie.Need-overflow_sub-lowest invariant-loop-i decreases-loop-i
+overflow_sub-lowest c = omega (arith, c.if-free-lowest.true)
 
-other-entry-requires : tie.Need-other-entry-requires invariant-loop decreases-loop
-other-entry-requires c κs = (space c.before.before.before).0
+other_entry-requires : tie.Need-other_entry-requires invariant-loop-i decreases-loop-i
+other_entry-requires c κs = (space c.before.before.before).0
 
-returns : tie.Need-returns invariant-loop decreases-loop
-returns c =
-    let o = c.before in
-    let u = o.before in
-    let t = u.before in
-    let r = t.before in
-    let i = r.before in
-    let l = i.before in
+returns-then-other_entry : tie.Need-returns-then-other_entry invariant-loop-i decreases-loop-i
+returns-then-other_entry c =
     sym
-    (comparing-wrong _ _ _ (bytes (known l)) (known l).before.requires.0 _ _ _ _ l.loop.invariant (left i)
-    r.lowest-after.result r.lowest-after.ensures t.if1.true (here u)
+    (comparing-wrong _ _ _ (bytes (known c.before.before.before.before.before.before)) (known c.before.before.before.before.before.before).requires.0 _ _ _ _ c.loop-i.invariant (left c.before.before.before.before.before)
+    c.lowest_after-lowest.result c.lowest_after-lowest.ensures c.if-free-lowest.true (here c.before.before)
     (λ slot number.
     true-false
-    (sym c.if3.true
-    ∙ o.other-entry.ensures
+    (sym c.if-other_entry.true
+    ∙ c.other_entry.ensures
     ∙ ap₂ (λ (x y : Bool). x || y) (eqb-not _ _ slot) (eqb-not _ _ number))))
 
-loop-less : tie.Need-loop-smaller invariant-loop decreases-loop
-loop-less c = omega (arith, inside c.before.before.before.before.before)
+loop-i-smaller-else-other_entry : tie.Need-loop-i-smaller-else-other_entry invariant-loop-i decreases-loop-i
+loop-i-smaller-else-other_entry c = omega (arith, inside c.before.before.before.before.before)
 
-loop-again : tie.Need-loop-preserved invariant-loop decreases-loop
-loop-again c =
-    let o = c.before in
-    let u = o.before in
-    let t = u.before in
-    let r = t.before in
-    let i = r.before in
-    let l = i.before in
-    let same = or-false _ _ (sym o.other-entry.ensures ∙ c.if3.false) in
-    let right = comparing-right _ _ _ (bytes (known l)) (known l).before.requires.0 _ _ _ _ l.loop.invariant (left i)
-    r.lowest-after.result r.lowest-after.ensures t.if1.true (here u) (not_eqb _ _ same.0)
+loop-i-preserved-else-other_entry : tie.Need-loop-i-preserved-else-other_entry invariant-loop-i decreases-loop-i
+loop-i-preserved-else-other_entry c =
+    let same = or-false _ _ (sym c.other_entry.ensures ∙ c.if-other_entry.false) in
+    let right = comparing-right _ _ _ (bytes (known c.before.before.before.before.before.before)) (known c.before.before.before.before.before.before).requires.0 _ _ _ _ c.loop-i.invariant (left c.before.before.before.before.before)
+    c.lowest_after-lowest.result c.lowest_after-lowest.ensures c.if-free-lowest.true (here c.before.before) (not_eqb _ _ same.0)
     (not_eqb _ _ same.1) in
-    comparing-take _ _ _ (bytes (known l)) (known l).before.requires.0 _ _ _ _ l.loop.invariant (left i)
-    r.lowest-after.result r.lowest-after.ensures t.if1.true (here u) right
+    comparing-take _ _ _ (bytes (known c.before.before.before.before.before.before)) (known c.before.before.before.before.before.before).requires.0 _ _ _ _ c.loop-i.invariant (left c.before.before.before.before.before)
+    c.lowest_after-lowest.result c.lowest_after-lowest.ensures c.if-free-lowest.true (here c.before.before) right
 
-loop-less-2 : tie.Need-loop-smaller-2 invariant-loop decreases-loop
-loop-less-2 c = omega (arith, inside c.before.before.before)
+loop-i-smaller-else-number-i : tie.Need-loop-i-smaller-else-number-i invariant-loop-i decreases-loop-i
+loop-i-smaller-else-number-i c = omega (arith, inside c.before.before.before)
 
-loop-again-2 : tie.Need-loop-preserved-2 invariant-loop decreases-loop
-loop-again-2 c =
-    let t = c.before in
-    let r = t.before in
-    let i = r.before in
-    let l = i.before in
-    comparing-pass _ _ _ (bytes (known l)) (known l).before.requires.0 _ _ _ _ l.loop.invariant (left i)
-    r.lowest-after.result r.lowest-after.ensures t.if1.true
-    (λ q. c.if2.false (q ∙ ap (λ (s : ℕ). l.loop.i * s) (sym (step_is l))))
+loop-i-preserved-else-number-i : tie.Need-loop-i-preserved-else-number-i invariant-loop-i decreases-loop-i
+loop-i-preserved-else-number-i c =
+    comparing-pass _ _ _ (bytes (known c.before.before.before.before)) (known c.before.before.before.before).requires.0 _ _ _ _ c.loop-i.invariant (left c.before.before.before)
+    c.lowest_after-lowest.result c.lowest_after-lowest.ensures c.if-free-lowest.true
+    (λ q. c.if-number-i.false (q ∙ ap (λ (s : ℕ). c.loop-i.i * s) (sym (step_is c.before.before.before.before))))
 
-loop-less-3 : tie.Need-loop-smaller-3 invariant-loop decreases-loop
-loop-less-3 c = omega (arith, inside c.before.before)
+loop-i-smaller : tie.Need-loop-i-smaller invariant-loop-i decreases-loop-i
+loop-i-smaller c = omega (arith, inside c.before.before)
 
-loop-again-3 : tie.Need-loop-preserved-3 invariant-loop decreases-loop
-loop-again-3 c =
-    let r = c.before in
-    let i = r.before in
-    let l = i.before in
-    comparing-skip _ _ _ (bytes (known l)) (known l).before.requires.0 _ _ _ _ l.loop.invariant (left i)
-    r.lowest-after.result r.lowest-after.ensures c.if1.false
+loop-i-preserved : tie.Need-loop-i-preserved invariant-loop-i decreases-loop-i
+loop-i-preserved c =
+    comparing-skip _ _ _ (bytes (known c.before.before.before)) (known c.before.before.before).requires.0 _ _ _ _ c.loop-i.invariant (left c.before.before)
+    c.lowest_after-lowest.result c.lowest_after-lowest.ensures c.if-free-lowest.false
 
-returns-2 : tie.Need-returns-2 invariant-loop decreases-loop
-returns-2 c =
-    let l = c.before in
+returns : tie.Need-returns invariant-loop-i decreases-loop-i
+returns c =
     sym
-    (comparing-end _ _ _ (bytes (known l)) (known l).before.requires.0 _ _ _ _ l.loop.invariant (long (known l))
-    (omega (arith, c.loop-test.false, len_is l)))
+    (comparing-end _ _ _ (bytes (known c.before)) (known c.before).requires.0 _ _ _ _ c.loop-i.invariant (long (known c.before))
+    (omega (arith, c.loop-i-test.false, len_is c.before)))
 
-pub same-entries-spec : {M : Type 1} → statement M
-same-entries-spec =
+pub same_entries_spec : {M : Type 1} → statement M
+same_entries_spec =
     tie.close
     (tie.spec
-    invariant-loop
-    decreases-loop
-    add-index
-    mul-index
-    add-index-2
-    index-step-requires
-    index-len-requires
-    loop-holds
-    lowest-after-requires
-    add-j
-    add-entry
-    mul-if2
-    mul_at
-    add_at
-    add-i
-    sub-other-entry
-    other-entry-requires
-    returns
-    loop-less
-    loop-again
-    loop-less-2
-    loop-again-2
-    loop-less-3
-    loop-again-3
-    returns-2)
+    invariant-loop-i
+    decreases-loop-i
+    overflow_add-index
+    overflow_mul-index
+    overflow_add-index-2
+    index_step-step-requires
+    index_len-m-requires
+    loop-i-init
+    lowest_after-lowest-requires
+    overflow_add-j
+    overflow_add-entry
+    overflow_mul-i
+    overflow_mul-at
+    overflow_add-at
+    overflow_add-i
+    overflow_sub-lowest
+    other_entry-requires
+    returns-then-other_entry
+    loop-i-smaller-else-other_entry
+    loop-i-preserved-else-other_entry
+    loop-i-smaller-else-number-i
+    loop-i-preserved-else-number-i
+    loop-i-smaller
+    loop-i-preserved
+    returns)

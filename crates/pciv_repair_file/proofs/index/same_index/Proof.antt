@@ -13,70 +13,67 @@ use borrow.Author.Rules.{rules}
 use Rattle.pciv_repair_file.proofs.index.same_index.Statement.{statement}
 use Rattle.pciv_repair_file.proofs.index.same_index.Tie as tie
 
-bytes : (q : tie.After-shared-slice-known) → Bytes q.before.args.file.now
-bytes q i = (q.shared-slice-known.given i).fits
+bytes : (q : tie.After-shared_slice_known-1) → Bytes q.args.file.now
+bytes q i = (q.shared_slice_known-1.given i).fits
 
-small : (q : tie.After-shared-slice-known) → q.before.args.kept ≤ max_slots
-small q = omega (arith, q.before.requires.1, kept_small _ _ _ (bytes q) q.before.requires.0)
+small : (q : tie.After-shared_slice_known-1) → q.args.kept ≤ max_slots
+small q = omega (arith, q.requires.1, kept_small _ _ _ (bytes q) q.requires.0)
 
 -- how many bytes there are, and how many the index has
-behind : (q : tie.After-shared-slice-known)
-    → (let a = q.before.args in
+behind : (q : tie.After-shared_slice_known-1)
+    → (let a = q.args in
     length (bytes_after a.file.now a.n a.k) ≡ length a.file.now - (40 + a.n + 12 * a.k))
-behind q = length-after _ _ _ (bytes q) q.before.requires.0
+behind q = length-after _ _ _ (bytes q) q.requires.0
 
-len_is : (c : tie.After-index-len)
-    → (let a = c.before.before.args in
-    c.index-len.result ≡ index_len (length (kept_entries (file_parts a.file.now a.n a.k))))
-len_is c = c.index-len.ensures ∙ ap index_len c.before.before.requires.1
+len_is : (c : tie.After-index_len)
+    → (let a = c.args in
+    c.index_len.result ≡ index_len (length (kept_entries (file_parts a.file.now a.n a.k))))
+len_is c = c.index_len.ensures ∙ ap index_len c.requires.1
 
-add-index : tie.Need-overflow-add-index
-add-index c = search rules
+overflow_add-index : tie.Need-overflow_add-index
+overflow_add-index c = search rules
 
-mul-index : tie.Need-overflow-mul-index
-mul-index c = search rules
+overflow_mul-index : tie.Need-overflow_mul-index
+overflow_mul-index c = search rules
 
-add-index-2 : tie.Need-overflow-add-index-2
-add-index-2 c = search rules
+overflow_add-index-2 : tie.Need-overflow_add-index-2
+overflow_add-index-2 c = search rules
 
-sub-if1 : tie.Need-overflow-sub-if1
-sub-if1 c = search rules
+overflow_sub-file : tie.Need-overflow_sub-file
+overflow_sub-file c = search rules
 
-index-len-requires : tie.Need-index-len-requires
-index-len-requires c κs = small c
+index_len-requires : tie.Need-index_len-requires
+index_len-requires c κs = small c
 
-mul-if1 : tie.Need-overflow-mul-if1
-mul-if1 c =
-    let kept : ℕ = c.before.before.args.kept in
-    omega (arith, c.index-len.ensures, index_len-le kept, index_step-le kept, small c.before)
+overflow_mul-index_len : tie.Need-overflow_mul-index_len
+overflow_mul-index_len c =
+    let kept : ℕ = c.args.kept in
+    omega (arith, c.index_len.ensures, index_len-le kept, index_step-le kept, small c.before)
+
+returns-then-file-index : tie.Need-returns-then-file-index
+returns-then-file-index c =
+    let a = c.args in
+    sym
+    (index-other a.file.now a.n a.k (bytes c.before.before) c.requires.0
+    (λ e. c.if-file-index.true (sym (behind c.before.before) ∙ e ∙ ap (λ (x : ℕ). 16 * x) (sym (len_is c.before)))))
+
+same_entries-requires : tie.Need-same_entries-requires
+same_entries-requires c κs =
+    (c.requires.0, (c.requires.1, behind c.before.before ∙ c.if-file-index.false ∙ ap (λ (x : ℕ). 16 * x) c.index_len.ensures))
 
 returns : tie.Need-returns
-returns c =
-    let i = c.before in
-    let q = i.before in
-    let a = q.before.args in
-    sym
-    (index-other a.file.now a.n a.k (bytes q) q.before.requires.0
-    (λ e. c.if1.true (sym (behind q) ∙ e ∙ ap (λ (x : ℕ). 16 * x) (sym (len_is i)))))
+returns c = search rules
 
-same-entries-requires : tie.Need-same-entries-requires
-same-entries-requires c κs =
-    let q = c.before.before in
-    (q.before.requires.0, (q.before.requires.1, behind q ∙ c.if1.false ∙ ap (λ (x : ℕ). 16 * x) c.before.index-len.ensures))
-
-returns-2 : tie.Need-returns-2
-returns-2 c = search rules
-
-pub same-index-spec : {M : Type 1} → statement M
-same-index-spec =
+pub same_index_spec : {M : Type 1} → statement M
+same_index_spec =
     tie.close
     (tie.spec
-    add-index
-    mul-index
-    add-index-2
-    sub-if1
-    index-len-requires
-    mul-if1
-    returns
-    same-entries-requires
-    returns-2)
+    overflow_add-index
+    overflow_mul-index
+    overflow_add-index-2
+    overflow_sub-file
+    index_len-requires
+    overflow_mul-index_len
+    returns-then-file-index
+    same_entries-requires
+    returns)

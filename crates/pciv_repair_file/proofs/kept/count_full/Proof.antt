@@ -7,33 +7,33 @@ use borrow.Author.Rules.{rules}
 use Rattle.pciv_repair_file.proofs.kept.count_full.Statement.{statement}
 use Rattle.pciv_repair_file.proofs.kept.count_full.Tie as tie
 
-add-count-byte : tie.Need-overflow-add-count-byte
-add-count-byte c = search rules
+overflow_add-n : tie.Need-overflow_add-n
+overflow_add-n c = search rules
 
-sub-count-byte : tie.Need-overflow-sub-count-byte
-sub-count-byte c = search rules
+slice_bounds-count_byte-count : tie.Need-slice_bounds-count_byte-count
+slice_bounds-count_byte-count c = search rules
 
-part-count-byte-start : tie.Need-slice-bounds-count-byte-start
-part-count-byte-start c = search rules
+slice_bounds-count_byte-start : tie.Need-slice_bounds-count_byte-start
+slice_bounds-count_byte-start c = search rules
 
-part-count-byte-end : tie.Need-slice-bounds-count-byte-end
-part-count-byte-end c = search rules
+slice_bounds-count_byte-end : tie.Need-slice_bounds-count_byte-end
+slice_bounds-count_byte-end c = search rules
 
-count-byte-requires : tie.Need-count-byte-requires
-count-byte-requires c κs = search rules
+count_byte-requires : tie.Need-count_byte-requires
+count_byte-requires c κs = search rules
 
 returns : tie.Need-returns
 returns c =
-    let a = c.before.before.before.args in
-    c.count-byte.ensures ∙ part_count a.file.now a.n 0 (omega arith) ∙ sym (full_count-is a.file.now a.n 0)
+    let a = c.args in
+    c.count_byte.ensures ∙ part_count a.file.now a.n 0 (omega arith) ∙ sym (full_count-is a.file.now a.n 0)
 
-pub count-full-spec : {M : Type 1} → statement M
-count-full-spec =
+pub count_full_spec : {M : Type 1} → statement M
+count_full_spec =
     tie.close
     (tie.spec
-    add-count-byte
-    sub-count-byte
-    part-count-byte-start
-    part-count-byte-end
-    count-byte-requires
+    overflow_add-n
+    slice_bounds-count_byte-count
+    slice_bounds-count_byte-start
+    slice_bounds-count_byte-end
+    count_byte-requires
     returns)

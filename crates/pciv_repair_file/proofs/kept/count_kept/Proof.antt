@@ -15,74 +15,71 @@ use borrow.Author.Rules.{rules}
 use Rattle.pciv_repair_file.proofs.kept.count_kept.Statement.{statement}
 use Rattle.pciv_repair_file.proofs.kept.count_kept.Tie as tie
 
-abbrev invariant-loop : tie.invariant-loop
-invariant-loop file n k kept₀ lowest₀ j₀ kept lowest j =
+abbrev invariant-loop-j : tie.invariant-loop-j
+invariant-loop-j file n k kept₀ lowest₀ j₀ kept lowest j =
     Judged (file_parts file n k) j lowest × (kept ≡ kept_count (file_parts file n k) j)
 
-abbrev decreases-loop : tie.decreases-loop
-decreases-loop file n k kept₀ lowest₀ j₀ kept lowest j = k - j
+abbrev decreases-loop-j : tie.decreases-loop-j
+decreases-loop-j file n k kept₀ lowest₀ j₀ kept lowest j = k - j
 
 -- from the loop: the parts
-abbrev parts : tie.At-loop invariant-loop decreases-loop → Parts
-parts l = let a = l.before.before.args in file_parts a.file.now a.n a.k
+abbrev parts : tie.At-loop-j invariant-loop-j decreases-loop-j → Parts
+parts l = let a = l.args in file_parts a.file.now a.n a.k
 
-loop-holds : tie.Need-loop-init invariant-loop decreases-loop
-loop-holds c =
-    let a = c.before.args in
+loop-j-init : tie.Need-loop-j-init invariant-loop-j decreases-loop-j
+loop-j-init c =
+    let a = c.args in
     let P : Parts = file_parts a.file.now a.n a.k in
     (judged-start P, sym (kept_count-none P))
 
-lowest-after-requires : tie.Need-lowest-after-requires invariant-loop decreases-loop
-lowest-after-requires c κs =
-    let p = c.before.before.before.requires in
-    (p.small, omega (arith, p.inside, c.loop-test.true))
+lowest_after-next-requires : tie.Need-lowest_after-next-requires invariant-loop-j decreases-loop-j
+lowest_after-next-requires c κs =
+    let p = c.requires in
+    (p.small, omega (arith, p.inside, c.loop-j-test.true))
 
-cast-kept : tie.Need-overflow-cast-kept invariant-loop decreases-loop
-cast-kept c = search rules
+overflow_cast-kept : tie.Need-overflow_cast-kept invariant-loop-j decreases-loop-j
+overflow_cast-kept c = search rules
 
-loop-again : tie.Need-loop-preserved invariant-loop decreases-loop
-loop-again c =
-    let l = c.before.before in
-    let inv = l.loop.invariant in
-    let r : ℕ = c.lowest-after.result in (
-      judged-more inv.0 r c.lowest-after.ensures c.before.loop-test.true,
-      ap (λ (x : ℕ). l.loop.auto + x)
-          (bool_byte-flag (ltb l.loop.lowest r) ∙ ap flag (sym (judged-kept inv.0 r c.lowest-after.ensures)))
-          ∙ ap (λ (x : ℕ). x + flag (is_kept (parts l) l.loop.j)) inv.1
-          ∙ sym (kept_count-more (parts l) l.loop.j),
+loop-j-preserved : tie.Need-loop-j-preserved invariant-loop-j decreases-loop-j
+loop-j-preserved c =
+    let inv = c.loop-j.invariant in
+    let r : ℕ = c.lowest_after-next.result in (
+      judged-more inv.0 r c.lowest_after-next.ensures c.loop-j-test.true,
+      ap (λ (x : ℕ). c.loop-j.kept + x)
+          (bool_byte-flag (ltb c.loop-j.lowest r) ∙ ap flag (sym (judged-kept inv.0 r c.lowest_after-next.ensures)))
+          ∙ ap (λ (x : ℕ). x + flag (is_kept (parts c.before.before) c.loop-j.j)) inv.1
+          ∙ sym (kept_count-more (parts c.before.before) c.loop-j.j),
     )
 
-add_kept : tie.Need-overflow-add-kept invariant-loop decreases-loop
-add_kept c =
-    let l = c.before.before in
-    let p = l.before.before.requires in
-    omega (arith, (loop-again c).1, kept_count-le (parts l) (l.loop.j + 1), c.before.loop-test.true, p.few, p.small)
+overflow_add-kept : tie.Need-overflow_add-kept invariant-loop-j decreases-loop-j
+overflow_add-kept c =
+    let p = c.requires in
+    omega (arith, (loop-j-preserved c).1, kept_count-le (parts c.before.before) (c.loop-j.j + 1), c.loop-j-test.true, p.few, p.small)
 
-add-j : tie.Need-overflow-add-j invariant-loop decreases-loop
-add-j c =
-    let p = c.before.before.before.before.requires in
-    omega (arith, c.before.loop-test.true, p.few, p.small)
+overflow_add-j : tie.Need-overflow_add-j invariant-loop-j decreases-loop-j
+overflow_add-j c =
+    let p = c.requires in
+    omega (arith, c.loop-j-test.true, p.few, p.small)
 
-loop-less : tie.Need-loop-smaller invariant-loop decreases-loop
-loop-less c = search rules
+loop-j-smaller : tie.Need-loop-j-smaller invariant-loop-j decreases-loop-j
+loop-j-smaller c = search rules
 
-returns : tie.Need-returns invariant-loop decreases-loop
+returns : tie.Need-returns invariant-loop-j decreases-loop-j
 returns c =
-    let l = c.before in
-    let end : l.loop.j ≡ (parts l).k = omega (arith, c.loop-test.false, l.loop.invariant.0.inside) in
-    l.loop.invariant.1 ∙ ap (kept_count (parts l)) end ∙ sym (kept_count-all (parts l))
+    let end : c.loop-j.j ≡ (parts c.before).k = omega (arith, c.loop-j-test.false, c.loop-j.invariant.0.inside) in
+    c.loop-j.invariant.1 ∙ ap (kept_count (parts c.before)) end ∙ sym (kept_count-all (parts c.before))
 
-pub count-kept-spec : {M : Type 1} → statement M
-count-kept-spec =
+pub count_kept_spec : {M : Type 1} → statement M
+count_kept_spec =
     tie.close
     (tie.spec
-    invariant-loop
-    decreases-loop
-    loop-holds
-    lowest-after-requires
-    cast-kept
-    add_kept
-    add-j
-    loop-less
-    loop-again
+    invariant-loop-j
+    decreases-loop-j
+    loop-j-init
+    lowest_after-next-requires
+    overflow_cast-kept
+    overflow_add-kept
+    overflow_add-j
+    loop-j-smaller
+    loop-j-preserved
     returns)

@@ -16,86 +16,77 @@ abbrev parts : tie.Start → Parts
 parts s = let a = s.args in file_parts a.file.now a.n (a.j + 1)
 
 -- what the test says
-tested : (c : tie.After-wrong-entry)
-    → (let s = c.before.before.before.before.before in
-    wrong_at (parts s) s.args.lowest s.args.j ≡ c.wrong-entry.result)
+tested : (c : tie.After-wrong_entry)
+    → (wrong_at (parts c.before.before.before.before.before) c.args.lowest c.args.j ≡ c.wrong_entry.result)
 tested c =
-    let d = c.before.before in
-    let g = d.before in
-    let s = g.before.before in
-    let a = s.args in
-    rw (← g.get64.ensures, ← d.get32.ensures)
-    (sym (part-wrong a.file.now a.n (a.j + 1) (omega (arith, s.requires.1)) a.lowest g.get64.result d.get32.result)
-    ∙ sym c.wrong-entry.ensures)
+    let a = c.args in
+    rw (← c.get64-slot.ensures, ← c.get32-distance.ensures)
+    (sym (part-wrong a.file.now a.n (a.j + 1) (omega (arith, c.requires.1)) a.lowest c.get64-slot.result c.get32-distance.result)
+    ∙ sym c.wrong_entry.ensures)
 
 -- the least slot after it, by that test
-next : (c : tie.After-wrong-entry) (b : Bool)
-    → c.wrong-entry.result ≡ b
-    → (let s = c.before.before.before.before.before in
-    cond b s.args.lowest ((parts s).slot s.args.j + 1) ≡ lowest_after (parts s) s.args.lowest s.args.j)
+next : (c : tie.After-wrong_entry) (b : Bool)
+    → c.wrong_entry.result ≡ b
+    → (cond b c.args.lowest ((parts c.before.before.before.before.before).slot c.args.j + 1) ≡ lowest_after (parts c.before.before.before.before.before) c.args.lowest c.args.j)
 next c b e =
-    let s = c.before.before.before.before.before in
-    ap (λ (t : Bool). cond t s.args.lowest ((parts s).slot s.args.j + 1)) (sym (tested c ∙ e))
+    ap (λ (t : Bool). cond t c.args.lowest ((parts c.before.before.before.before.before).slot c.args.j + 1)) (sym (tested c ∙ e))
 
-add-end : tie.Need-overflow-add-end
-add-end c = search rules
+overflow_add-end : tie.Need-overflow_add-end
+overflow_add-end c = search rules
 
-mul_at : tie.Need-overflow-mul-at
-mul_at c = search rules
+overflow_mul-at : tie.Need-overflow_mul-at
+overflow_mul-at c = search rules
 
-add_at : tie.Need-overflow-add-at
-add_at c = search rules
+overflow_add-at : tie.Need-overflow_add-at
+overflow_add-at c = search rules
 
-get64-requires : tie.Need-get64-requires
-get64-requires c κs = search rules
+get64-slot-requires : tie.Need-get64-slot-requires
+get64-slot-requires c κs = search rules
 
-add-get32 : tie.Need-overflow-add-get32
-add-get32 c = search rules
+overflow_add-at-2 : tie.Need-overflow_add-at-2
+overflow_add-at-2 c = search rules
 
-get32-requires : tie.Need-get32-requires
-get32-requires c κs = search rules
+get32-distance-requires : tie.Need-get32-distance-requires
+get32-distance-requires c κs = search rules
 
-sub-wrong-entry : tie.Need-overflow-sub-wrong-entry
-sub-wrong-entry c = search rules
+slice_bounds-wrong_entry-count : tie.Need-slice_bounds-wrong_entry-count
+slice_bounds-wrong_entry-count c = search rules
 
-part-wrong-entry-start : tie.Need-slice-bounds-wrong-entry-start
-part-wrong-entry-start c = search rules
+slice_bounds-wrong_entry-start : tie.Need-slice_bounds-wrong_entry-start
+slice_bounds-wrong_entry-start c = search rules
 
-part-wrong-entry-end : tie.Need-slice-bounds-wrong-entry-end
-part-wrong-entry-end c = search rules
+slice_bounds-wrong_entry-end : tie.Need-slice_bounds-wrong_entry-end
+slice_bounds-wrong_entry-end c = search rules
 
-wrong-entry-requires : tie.Need-wrong-entry-requires
-wrong-entry-requires c κs = search rules
+wrong_entry-requires : tie.Need-wrong_entry-requires
+wrong_entry-requires c κs = search rules
+
+returns-then-wrong_entry : tie.Need-returns-then-wrong_entry
+returns-then-wrong_entry c = next c.before _ c.if-wrong_entry.true
+
+overflow_add-result : tie.Need-overflow_add-result
+overflow_add-result c =
+    let right = right_entry-of-test _ _ _ _ _ (tested c.before ∙ c.if-wrong_entry.false) in
+    omega (arith, right.inside, c.get64-slot.ensures, c.requires.0)
 
 returns : tie.Need-returns
-returns c = next c.before _ c.if1.true
+returns c =
+    ap (λ (x : ℕ). x + 1) c.get64-slot.ensures ∙ next c.before _ c.if-wrong_entry.false
 
-add-result : tie.Need-overflow-add-result
-add-result c =
-    let w = c.before in
-    let s = w.before.before.before.before.before in
-    let right = right_entry-of-test _ _ _ _ _ (tested w ∙ c.if1.false) in
-    omega (arith, right.inside, w.before.before.before.get64.ensures, s.requires.0)
-
-returns-2 : tie.Need-returns-2
-returns-2 c =
-    let w = c.before in
-    ap (λ (x : ℕ). x + 1) w.before.before.before.get64.ensures ∙ next w _ c.if1.false
-
-pub lowest-after-spec : {M : Type 1} → statement M
-lowest-after-spec =
+pub lowest_after_spec : {M : Type 1} → statement M
+lowest_after_spec =
     tie.close
     (tie.spec
-    add-end
-    mul_at
-    add_at
-    get64-requires
-    add-get32
-    get32-requires
-    sub-wrong-entry
-    part-wrong-entry-start
-    part-wrong-entry-end
-    wrong-entry-requires
-    returns
-    add-result
-    returns-2)
+    overflow_add-end
+    overflow_mul-at
+    overflow_add-at
+    get64-slot-requires
+    overflow_add-at-2
+    get32-distance-requires
+    slice_bounds-wrong_entry-count
+    slice_bounds-wrong_entry-start
+    slice_bounds-wrong_entry-end
+    wrong_entry-requires
+    returns-then-wrong_entry
+    overflow_add-result
+    returns)

@@ -9,66 +9,62 @@ use borrow.Author.Rules.{rules}
 use Rattle.pciv_repair_file.proofs.kept.put_kept.Statement.{statement}
 use Rattle.pciv_repair_file.proofs.kept.put_kept.Tie as tie
 
-add_start : tie.Need-overflow-add-start
-add_start c = search rules
+overflow_add-start : tie.Need-overflow_add-start
+overflow_add-start c = search rules
 
-mul-copy-bytes : tie.Need-overflow-mul-copy-bytes
-mul-copy-bytes c = search rules
+overflow_mul-k : tie.Need-overflow_mul-k
+overflow_mul-k c = search rules
 
-add-copy-bytes : tie.Need-overflow-add-copy-bytes
-add-copy-bytes c = search rules
+overflow_add-start-then-kept-k : tie.Need-overflow_add-start-then-kept-k
+overflow_add-start-then-kept-k c = search rules
 
-sub-copy-bytes : tie.Need-overflow-sub-copy-bytes
-sub-copy-bytes c = search rules
+slice_bounds-copy_bytes-count : tie.Need-slice_bounds-copy_bytes-count
+slice_bounds-copy_bytes-count c = search rules
 
-part-copy-bytes-start : tie.Need-slice-bounds-copy-bytes-start
-part-copy-bytes-start c = search rules
+slice_bounds-copy_bytes-start : tie.Need-slice_bounds-copy_bytes-start
+slice_bounds-copy_bytes-start c = search rules
 
-part-copy-bytes-end : tie.Need-slice-bounds-copy-bytes-end
-part-copy-bytes-end c = search rules
+slice_bounds-copy_bytes-end : tie.Need-slice_bounds-copy_bytes-end
+slice_bounds-copy_bytes-end c = search rules
 
-copy-bytes-requires : tie.Need-copy-bytes-requires
-copy-bytes-requires c κs = search rules
+copy_bytes-requires : tie.Need-copy_bytes-requires
+copy_bytes-requires c κs = search rules
 
-put-some-requires : tie.Need-put-some-requires
-put-some-requires c κs = search rules
+put_some-requires : tie.Need-put_some-requires
+put_some-requires c κs = search rules
 
-same_length : tie.Need-same-length
-same_length c = search rules
+shape_of-out-then-kept-k : tie.Need-shape_of-out-then-kept-k
+shape_of-out-then-kept-k c = search rules
 
-returns : tie.Need-returns
-returns c =
-    let y = c.before.before in
-    let t = y.before.before.before in
-    let q = t.before.before in
-    let s = q.before in
-    let a = s.args in
+returns-then-kept-k : tie.Need-returns-then-kept-k
+returns-then-kept-k c =
+    let a = c.args in
     let size : 40 + a.n + 12 * a.k - (40 + a.n) ≡ 12 * a.k = omega arith in
-    y.copy-bytes.ensures
+    c.copy_bytes.ensures
     ∙ ap (sets a.out.now (40 + a.n))
     (ap (λ (x : ℕ). take x (drop (40 + a.n) a.file.now)) size
-    ∙ sym (kept-copy a.file.now a.n a.k (λ i. (q.shared-slice-known.given i).fits) s.requires.0.inside
-    (sym s.requires.1.0 ∙ t.if1.true)))
+    ∙ sym (kept-copy a.file.now a.n a.k (λ i. (c.shared_slice_known-1.given i).fits) c.requires.0.inside
+    (sym c.requires.1.0 ∙ c.if-kept-k.true)))
 
-same-length-2 : tie.Need-same-length-2
-same-length-2 c = search rules
+shape_of-out-else-kept-k : tie.Need-shape_of-out-else-kept-k
+shape_of-out-else-kept-k c = search rules
 
-returns-2 : tie.Need-returns-2
-returns-2 c = search rules
+returns-else-kept-k : tie.Need-returns-else-kept-k
+returns-else-kept-k c = search rules
 
-pub put-kept-spec : {M : Type 1} → statement M
-put-kept-spec =
+pub put_kept_spec : {M : Type 1} → statement M
+put_kept_spec =
     tie.close
     (tie.spec
-    add_start
-    mul-copy-bytes
-    add-copy-bytes
-    sub-copy-bytes
-    part-copy-bytes-start
-    part-copy-bytes-end
-    copy-bytes-requires
-    put-some-requires
-    same_length
-    returns
-    same-length-2
-    returns-2)
+    overflow_add-start
+    overflow_mul-k
+    overflow_add-start-then-kept-k
+    slice_bounds-copy_bytes-count
+    slice_bounds-copy_bytes-start
+    slice_bounds-copy_bytes-end
+    copy_bytes-requires
+    put_some-requires
+    shape_of-out-then-kept-k
+    returns-then-kept-k
+    shape_of-out-else-kept-k
+    returns-else-kept-k)

@@ -19,146 +19,127 @@ use borrow.Author.Rules.{rules}
 use Rattle.pciv_repair_file.proofs.kept.put_some.Statement.{statement}
 use Rattle.pciv_repair_file.proofs.kept.put_some.Tie as tie
 
-abbrev invariant-loop : tie.invariant-loop
-invariant-loop file n k out₀ place₀ lowest₀ j₀ out place lowest j =
+abbrev invariant-loop-j : tie.invariant-loop-j
+invariant-loop-j file n k out₀ place₀ lowest₀ j₀ out place lowest j =
     Judged (file_parts file n k) j lowest × Putting (file_parts file n k) (40 + n) out₀ j place out
 
-abbrev decreases-loop : tie.decreases-loop
-decreases-loop file n k out₀ place₀ lowest₀ j₀ out place lowest j = k - j
+abbrev decreases-loop-j : tie.decreases-loop-j
+decreases-loop-j file n k out₀ place₀ lowest₀ j₀ out place lowest j = k - j
 
 -- from the loop: the parts
-abbrev parts : tie.At-loop invariant-loop decreases-loop → Parts
-parts l = let a = l.before.before.before.args in file_parts a.file.now a.n a.k
+abbrev parts : tie.At-loop-j invariant-loop-j decreases-loop-j → Parts
+parts l = let a = l.args in file_parts a.file.now a.n a.k
 
-add-place : tie.Need-overflow-add-place invariant-loop decreases-loop
-add-place c =
-    let p = c.before.before.requires.0 in
+overflow_add-place : tie.Need-overflow_add-place invariant-loop-j decreases-loop-j
+overflow_add-place c =
+    let p = c.requires.0 in
     omega (arith, p.small)
 
-loop-holds : tie.Need-loop-init invariant-loop decreases-loop
-loop-holds c = (judged-start _, putting-start _ _ _)
+loop-j-init : tie.Need-loop-j-init invariant-loop-j decreases-loop-j
+loop-j-init c = (judged-start _, putting-start _ _ _)
 
 -- the entry lies within the file
-within : (c : tie.In-loop invariant-loop decreases-loop)
-    → (let s = c.before.before.before.before in
-    40 + s.args.n + 12 * (c.before.loop.j + 1) ≤ length s.args.file.now)
+within : (c : tie.In-loop-j invariant-loop-j decreases-loop-j)
+    → (40 + c.args.n + 12 * (c.loop-j.j + 1) ≤ length c.args.file.now)
 within c =
-    let p = c.before.before.before.before.requires.0 in
-    omega (arith, p.inside, c.loop-test.true)
+    let p = c.requires.0 in
+    omega (arith, p.inside, c.loop-j-test.true)
 
-add-get32 : tie.Need-overflow-add-get32 invariant-loop decreases-loop
-add-get32 c = omega (arith, c.before.before.before.before.requires.0.small)
+overflow_add-n : tie.Need-overflow_add-n invariant-loop-j decreases-loop-j
+overflow_add-n c = omega (arith, c.requires.0.small)
 
-mul-get32 : tie.Need-overflow-mul-get32 invariant-loop decreases-loop
-mul-get32 c =
-    let p = c.before.before.before.before.requires.0 in
-    omega (arith, c.loop-test.true, p.few, p.small)
+overflow_mul-j : tie.Need-overflow_mul-j invariant-loop-j decreases-loop-j
+overflow_mul-j c =
+    let p = c.requires.0 in
+    omega (arith, c.loop-j-test.true, p.few, p.small)
 
-add-get32-2 : tie.Need-overflow-add-get32-2 invariant-loop decreases-loop
-add-get32-2 c =
-    let p = c.before.before.before.before.requires.0 in
-    omega (arith, c.loop-test.true, p.few, p.small)
+overflow_add-n-in-loop-j : tie.Need-overflow_add-n-in-loop-j invariant-loop-j decreases-loop-j
+overflow_add-n-in-loop-j c =
+    let p = c.requires.0 in
+    omega (arith, c.loop-j-test.true, p.few, p.small)
 
-add-get32-3 : tie.Need-overflow-add-get32-3 invariant-loop decreases-loop
-add-get32-3 c =
-    let p = c.before.before.before.before.requires.0 in
-    omega (arith, c.loop-test.true, p.few, p.small)
+overflow_add-n-in-loop-j-2 : tie.Need-overflow_add-n-in-loop-j-2 invariant-loop-j decreases-loop-j
+overflow_add-n-in-loop-j-2 c =
+    let p = c.requires.0 in
+    omega (arith, c.loop-j-test.true, p.few, p.small)
 
-get32-requires : tie.Need-get32-requires invariant-loop decreases-loop
-get32-requires c κs = omega (arith, within c)
+get32-distance-requires : tie.Need-get32-distance-requires invariant-loop-j decreases-loop-j
+get32-distance-requires c κs = omega (arith, within c)
 
-lowest-after-requires : tie.Need-lowest-after-requires invariant-loop decreases-loop
-lowest-after-requires c κs = (c.before.before.before.before.before.requires.0.small, within c.before)
+lowest_after-lowest-requires : tie.Need-lowest_after-lowest-requires invariant-loop-j decreases-loop-j
+lowest_after-lowest-requires c κs = (c.requires.0.small, within c.before)
 
-add-j : tie.Need-overflow-add-j invariant-loop decreases-loop
-add-j c =
-    let i = c.before.before in
-    let p = i.before.before.before.before.requires.0 in
-    omega (arith, i.loop-test.true, p.few, p.small)
+overflow_add-j : tie.Need-overflow_add-j invariant-loop-j decreases-loop-j
+overflow_add-j c =
+    let p = c.requires.0 in
+    omega (arith, c.loop-j-test.true, p.few, p.small)
 
 -- a kept entry
-entry : (c : tie.Then1 invariant-loop decreases-loop)
-    → (let r = c.before in
-    let l = r.before.before.before in
-    (is_kept (parts l) l.loop.j ≡ true) × KeptEntry (parts l) l.loop.j
-    × (r.lowest-after.result ≡ (parts l).slot l.loop.j + 1))
+entry : (c : tie.Then-free-lowest invariant-loop-j decreases-loop-j)
+    → ((is_kept (parts c.before.before.before.before) c.loop-j.j ≡ true) × KeptEntry (parts c.before.before.before.before) c.loop-j.j
+    × (c.lowest_after-lowest.result ≡ (parts c.before.before.before.before).slot c.loop-j.j + 1))
 entry c =
-    let r = c.before in
-    let l = r.before.before.before in
-    judged-entry l.loop.invariant.0 r.lowest-after.result r.lowest-after.ensures c.if1.true
+    judged-entry c.loop-j.invariant.0 c.lowest_after-lowest.result c.lowest_after-lowest.ensures c.if-free-lowest.true
 
-sub-put-entry : tie.Need-overflow-sub-put-entry invariant-loop decreases-loop
-sub-put-entry c = omega (arith, (entry c.before).2)
+overflow_sub-lowest : tie.Need-overflow_sub-lowest invariant-loop-j decreases-loop-j
+overflow_sub-lowest c = omega (arith, (entry c.before).2)
 
-put-entry-requires : tie.Need-put-entry-requires invariant-loop decreases-loop
-put-entry-requires c κs =
-    let t = c.before in
-    let i = t.before.before.before in
-    let l = i.before in
-    putting-room _ _ _ l.loop.j l.loop.place l.loop.out l.loop.invariant.1 i.loop-test.true
-    (entry t).0 l.before.before.before.requires.1
+put_entry-place-requires : tie.Need-put_entry-place-requires invariant-loop-j decreases-loop-j
+put_entry-place-requires c κs =
+    putting-room _ _ _ c.loop-j.j c.loop-j.place c.loop-j.out c.loop-j.invariant.1 c.loop-j-test.true
+    (entry c.before).0 c.requires.1
 
-loop-less : tie.Need-loop-smaller invariant-loop decreases-loop
-loop-less c = search rules
+loop-j-smaller-then-free-lowest : tie.Need-loop-j-smaller-then-free-lowest invariant-loop-j decreases-loop-j
+loop-j-smaller-then-free-lowest c = search rules
 
-loop-again : tie.Need-loop-preserved invariant-loop decreases-loop
-loop-again c =
-    let q = c.before.before in
-    let t = q.before.before in
-    let r = t.before in
-    let g = r.before in
-    let i = g.before in
-    let l = i.before in (
-      judged-more l.loop.invariant.0 r.lowest-after.result r.lowest-after.ensures i.loop-test.true,
-      putting-more _ _ _ l.loop.j l.loop.place l.loop.out l.loop.invariant.1 i.loop-test.true (entry t).0
-          _ _ q.put-entry.ensures.0
-          (q.put-entry.ensures.1
-          ∙ ap₂ (λ (s x : ℕ). sets l.loop.out l.loop.place (le 8 s ++ le 4 x)) (omega (arith, (entry t).2))
-          g.get32.ensures),
-    )
+loop-j-preserved-then-free-lowest : tie.Need-loop-j-preserved-then-free-lowest invariant-loop-j decreases-loop-j
+loop-j-preserved-then-free-lowest c = (
+  judged-more c.loop-j.invariant.0 c.lowest_after-lowest.result c.lowest_after-lowest.ensures c.loop-j-test.true,
+  putting-more _ _ _ c.loop-j.j c.loop-j.place c.loop-j.out c.loop-j.invariant.1 c.loop-j-test.true (entry c.before.before.before.before).0
+      _ _ c.put_entry-place.ensures.0
+      (c.put_entry-place.ensures.1
+      ∙ ap₂ (λ (s x : ℕ). sets c.loop-j.out c.loop-j.place (le 8 s ++ le 4 x)) (omega (arith, (entry c.before.before.before.before).2))
+      c.get32-distance.ensures),
+)
 
-loop-less-2 : tie.Need-loop-smaller-2 invariant-loop decreases-loop
-loop-less-2 c = search rules
+loop-j-smaller : tie.Need-loop-j-smaller invariant-loop-j decreases-loop-j
+loop-j-smaller c = search rules
 
-loop-again-2 : tie.Need-loop-preserved-2 invariant-loop decreases-loop
-loop-again-2 c =
-    let r = c.before in
-    let i = r.before.before in
-    let l = i.before in (
-      judged-more l.loop.invariant.0 r.lowest-after.result r.lowest-after.ensures i.loop-test.true,
-      putting-skip _ _ _ l.loop.j l.loop.place l.loop.out l.loop.invariant.1
-          (judged-dropped l.loop.invariant.0 r.lowest-after.result r.lowest-after.ensures c.if1.false),
-    )
+loop-j-preserved : tie.Need-loop-j-preserved invariant-loop-j decreases-loop-j
+loop-j-preserved c = (
+  judged-more c.loop-j.invariant.0 c.lowest_after-lowest.result c.lowest_after-lowest.ensures c.loop-j-test.true,
+  putting-skip _ _ _ c.loop-j.j c.loop-j.place c.loop-j.out c.loop-j.invariant.1
+      (judged-dropped c.loop-j.invariant.0 c.lowest_after-lowest.result c.lowest_after-lowest.ensures c.if-free-lowest.false),
+)
 
-same_length : tie.Need-same-length invariant-loop decreases-loop
-same_length c = search rules
+shape_of-out : tie.Need-shape_of-out invariant-loop-j decreases-loop-j
+shape_of-out c = search rules
 
-returns : tie.Need-returns invariant-loop decreases-loop
+returns : tie.Need-returns invariant-loop-j decreases-loop-j
 returns c =
-    let l = c.before in
-    putting-end _ _ _ l.loop.j l.loop.place l.loop.out l.loop.invariant.1
-    (omega (arith, c.loop-test.false, l.loop.invariant.0.inside))
+    putting-end _ _ _ c.loop-j.j c.loop-j.place c.loop-j.out c.loop-j.invariant.1
+    (omega (arith, c.loop-j-test.false, c.loop-j.invariant.0.inside))
 
-pub put-some-spec : {M : Type 1} → statement M
-put-some-spec =
+pub put_some_spec : {M : Type 1} → statement M
+put_some_spec =
     tie.close
     (tie.spec
-    invariant-loop
-    decreases-loop
-    add-place
-    loop-holds
-    add-get32
-    mul-get32
-    add-get32-2
-    add-get32-3
-    get32-requires
-    lowest-after-requires
-    add-j
-    sub-put-entry
-    put-entry-requires
-    loop-less
-    loop-again
-    loop-less-2
-    loop-again-2
-    same_length
+    invariant-loop-j
+    decreases-loop-j
+    overflow_add-place
+    loop-j-init
+    overflow_add-n
+    overflow_mul-j
+    overflow_add-n-in-loop-j
+    overflow_add-n-in-loop-j-2
+    get32-distance-requires
+    lowest_after-lowest-requires
+    overflow_add-j
+    overflow_sub-lowest
+    put_entry-place-requires
+    loop-j-smaller-then-free-lowest
+    loop-j-preserved-then-free-lowest
+    loop-j-smaller
+    loop-j-preserved
+    shape_of-out
     returns)

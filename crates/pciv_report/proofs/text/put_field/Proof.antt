@@ -7,32 +7,32 @@ use Rattle.pciv_report.proofs.TextLaws.{put_then}
 use Rattle.pciv_report.proofs.text.put_field.Statement.{statement}
 use Rattle.pciv_report.proofs.text.put_field.Tie as tie
 
-put-word-requires : tie.Need-put-word-requires
-put-word-requires c κs = search rules
+put_word-at-requires : tie.Need-put_word-at-requires
+put_word-at-requires c κs = search rules
 
-put-byte-requires : tie.Need-put-byte-requires
-put-byte-requires c κs = search rules
+put_byte-at-requires : tie.Need-put_byte-at-requires
+put_byte-at-requires c κs = search rules
 
-put-decimal-requires : tie.Need-put-decimal-requires
-put-decimal-requires c κs =
-    let start = c.before.before.before.before.before.before.before.before.before.before.before in
-    omega (arith, length-decimal-le start.args.x)
+put_decimal-requires : tie.Need-put_decimal-requires
+put_decimal-requires c κs =
+    omega (arith, length-decimal-le c.args.x)
 
-same_length : tie.Need-same-length
-same_length c = search rules
+shape_of-out : tie.Need-shape_of-out
+shape_of-out c = search rules
 
 returns : tie.Need-returns
 unfolding field
-returns c =
-    let third = c.before.before in
-    let second = third.before.before.before.before in
-    let first = second.before.before.before.before in
-    let start = first.before.before.before.before in (
-      put_then first.put_word.ensures (put_then second.put_byte.ensures third.put-decimal.ensures),
-      omega (arith, length-decimal-le start.args.x, third.put-decimal.ensures.next),
-    )
+returns c = (
+  put_then c.put_word-at.ensures (put_then c.put_byte-at.ensures c.put_decimal.ensures),
+  omega (arith, length-decimal-le c.args.x, c.put_decimal.ensures.next),
+)
 
-pub put-field-spec : {M : Type 1} → statement M
-put-field-spec =
+pub put_field_spec : {M : Type 1} → statement M
+put_field_spec =
     tie.close
-    (tie.spec put-word-requires put-byte-requires put-decimal-requires same_length returns)
+    (tie.spec
+    put_word-at-requires
+    put_byte-at-requires
+    put_decimal-requires
+    shape_of-out
+    returns)

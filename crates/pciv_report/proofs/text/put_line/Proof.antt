@@ -5,21 +5,19 @@ use Rattle.pciv_report.proofs.TextLaws.{put_then}
 use Rattle.pciv_report.proofs.text.put_line.Statement.{statement}
 use Rattle.pciv_report.proofs.text.put_line.Tie as tie
 
-put-field-requires : tie.Need-put-field-requires
-put-field-requires c κs = search rules
+put_field-at-requires : tie.Need-put_field-at-requires
+put_field-at-requires c κs = search rules
 
-put-byte-requires : tie.Need-put-byte-requires
-put-byte-requires c κs = search rules
+put_byte-requires : tie.Need-put_byte-requires
+put_byte-requires c κs = search rules
 
-same_length : tie.Need-same-length
-same_length c = search rules
+shape_of-out : tie.Need-shape_of-out
+shape_of-out c = search rules
 
 returns : tie.Need-returns
 unfolding line
 returns c =
-    let second = c.before.before in
-    let first = second.before.before.before.before in
-    (put_then first.put-field.ensures.0 second.put_byte.ensures, search rules)
+    (put_then c.put_field-at.ensures.0 c.put_byte.ensures, search rules)
 
-pub put-line-spec : {M : Type 1} → statement M
-put-line-spec = tie.close (tie.spec put-field-requires put-byte-requires same_length returns)
+pub put_line_spec : {M : Type 1} → statement M
+put_line_spec = tie.close (tie.spec put_field-at-requires put_byte-requires shape_of-out returns)

@@ -5,48 +5,44 @@ use borrow.Author.Rules.{rules}
 use Rattle.pciv_slot.proofs.change.change_entries.Statement.{statement}
 use Rattle.pciv_slot.proofs.change.change_entries.Tie as tie
 
-cast-if1 : tie.Need-overflow-cast-if1
-cast-if1 c = search rules
+overflow_cast-t-7 : tie.Need-overflow_cast-t-7
+overflow_cast-t-7 c = search rules
 
-take-out-requires : tie.Need-take-out-requires
-take-out-requires c κs =
-    let entry = c.before.before.before in
-    let inline = c.before.if1.true in
-    let space = entry.requires.leaves inline in
-    ((entry.requires.inside, space.0, space.1), inline)
+take_out-requires : tie.Need-take_out-requires
+take_out-requires c κs =
+    let inline = c.if-distance.true in
+    let space = c.requires.leaves inline in
+    ((c.requires.inside, space.0, space.1), inline)
 
-put-in-requires : tie.Need-put-in-requires
-put-in-requires c κs =
-    let entry = c.before.before.before in
-    let space = entry.requires.enters c.before.if1.false in
-    (entry.requires.inside, space.0, space.1)
+put_in-requires : tie.Need-put_in-requires
+put_in-requires c κs =
+    let space = c.requires.enters c.if-distance.false in
+    (c.requires.inside, space.0, space.1)
 
-same_length : tie.Need-same-length
-same_length c = search rules
+shape_of-buffer-then-distance : tie.Need-shape_of-buffer-then-distance
+shape_of-buffer-then-distance c = search rules
 
-returns : tie.Need-returns
+returns-then-distance : tie.Need-returns-then-distance
 unfolding changed
-returns c =
-    let out = c.before.before in
-    rw (lt-ltb _ _ out.before.before.if1.true) out.take_out.ensures
+returns-then-distance c =
+    rw (lt-ltb _ _ c.if-distance.true) c.take_out.ensures
 
-same-length-2 : tie.Need-same-length-2
-same-length-2 c = search rules
+shape_of-buffer-else-distance : tie.Need-shape_of-buffer-else-distance
+shape_of-buffer-else-distance c = search rules
 
-returns-2 : tie.Need-returns-2
+returns-else-distance : tie.Need-returns-else-distance
 unfolding changed
-returns-2 c =
-    let into = c.before.before in
-    rw (le-ltb _ _ into.before.before.if1.false) into.put-in.ensures
+returns-else-distance c =
+    rw (le-ltb _ _ c.if-distance.false) c.put_in.ensures
 
-pub change-entries-spec : {M : Type 1} → statement M
-change-entries-spec =
+pub change_entries_spec : {M : Type 1} → statement M
+change_entries_spec =
     tie.close
     (tie.spec
-    cast-if1
-    take-out-requires
-    put-in-requires
-    same_length
-    returns
-    same-length-2
-    returns-2)
+    overflow_cast-t-7
+    take_out-requires
+    put_in-requires
+    shape_of-buffer-then-distance
+    returns-then-distance
+    shape_of-buffer-else-distance
+    returns-else-distance)

@@ -5,17 +5,17 @@ use borrow.Author.Rules.{rules}
 use Rattle.pciv_slot.proofs.change.clear_freed.Statement.{statement}
 use Rattle.pciv_slot.proofs.change.clear_freed.Tie as tie
 
-fill-zero-requires : tie.Need-fill-zero-requires
-fill-zero-requires c κs = search rules
+fill_zero-requires : tie.Need-fill_zero-requires
+fill_zero-requires c κs = search rules
 
-same_length : tie.Need-same-length
-same_length c = search rules
+shape_of-buffer : tie.Need-shape_of-buffer
+shape_of-buffer c = search rules
 
-returns : tie.Need-returns
-returns c = search rules
+returns-then-len-old : tie.Need-returns-then-len-old
+returns-then-len-old c = search rules
 
-returns-2 : tie.Need-returns-2
-returns-2 c = sym (sets-same-end 0 _ _ _ c.if1.false)
+returns-else-len-old : tie.Need-returns-else-len-old
+returns-else-len-old c = sym (sets-same-end 0 _ _ _ c.if-len-old.false)
 
-pub clear-freed-spec : {M : Type 1} → statement M
-clear-freed-spec = tie.close (tie.spec fill-zero-requires same_length returns returns-2)
+pub clear_freed_spec : {M : Type 1} → statement M
+clear_freed_spec = tie.close (tie.spec fill_zero-requires shape_of-buffer returns-then-len-old returns-else-len-old)

@@ -8,59 +8,55 @@ use borrow.Author.Rules.{rules}
 use Rattle.pciv_slot.proofs.change.put_in.Statement.{statement}
 use Rattle.pciv_slot.proofs.change.put_in.Tie as tie
 
-add-buffer : tie.Need-overflow-add-buffer
-add-buffer c = search rules
+overflow_add-buffer : tie.Need-overflow_add-buffer
+overflow_add-buffer c = search rules
 
-slice-write-buffer : tie.Need-slice-write-buffer
-slice-write-buffer c = search rules
+bounds-buffer-slot : tie.Need-bounds-buffer-slot
+bounds-buffer-slot c = search rules
 
-add-entries : tie.Need-overflow-add-entries
-add-entries c = search rules
+overflow_add-entries : tie.Need-overflow_add-entries
+overflow_add-entries c = search rules
 
-mul_at : tie.Need-overflow-mul-at
-mul_at c = search rules
+overflow_mul-at : tie.Need-overflow_mul-at
+overflow_mul-at c = search rules
 
-add_at : tie.Need-overflow-add-at
-add_at c = search rules
+overflow_add-at : tie.Need-overflow_add-at
+overflow_add-at c = search rules
 
-mul-move-up : tie.Need-overflow-mul-move-up
-mul-move-up c = search rules
+overflow_mul-k : tie.Need-overflow_mul-k
+overflow_mul-k c = search rules
 
-add-move-up : tie.Need-overflow-add-move-up
-add-move-up c = search rules
+overflow_add-entries-2 : tie.Need-overflow_add-entries-2
+overflow_add-entries-2 c = search rules
 
-move-up-requires : tie.Need-move-up-requires
-move-up-requires c κs = simp length-set (omega arith)
+move_up-requires : tie.Need-move_up-requires
+move_up-requires c κs = simp length-set (omega arith)
 
-put-entry-requires : tie.Need-put-entry-requires
-put-entry-requires c κs = omega (arith, simp length-set at c.before.before.before.move_up.auto.0)
+put_entry-requires : tie.Need-put_entry-requires
+put_entry-requires c κs = omega (arith, simp length-set at c.move_up.auto.out)
 
-same_length : tie.Need-same-length
-same_length c =
-    let put = c.before.before in
-    let moved = put.before.before.before.before in
-    put.put-entry.auto.0 ∙ moved.move_up.auto.0 ∙ simp length-set
+shape_of-buffer : tie.Need-shape_of-buffer
+shape_of-buffer c =
+    c.put_entry.auto.out ∙ c.move_up.auto.out ∙ simp length-set
 
 returns : tie.Need-returns
 unfolding put_in
 returns c =
-    let put = c.before.before in
-    let moved = put.before.before.before.before in
-    let a = moved.before.before.before.args in
-    put-in _ _ _ _ a.slot a.distance _ moved.move_up.ensures put.put-entry.ensures.1
+    let a = c.args in
+    put-in _ _ _ _ a.slot a.distance _ c.move_up.ensures c.put_entry.ensures.1
 
-pub put-in-spec : {M : Type 1} → statement M
-put-in-spec =
+pub put_in_spec : {M : Type 1} → statement M
+put_in_spec =
     tie.close
     (tie.spec
-    add-buffer
-    slice-write-buffer
-    add-entries
-    mul_at
-    add_at
-    mul-move-up
-    add-move-up
-    move-up-requires
-    put-entry-requires
-    same_length
+    overflow_add-buffer
+    bounds-buffer-slot
+    overflow_add-entries
+    overflow_mul-at
+    overflow_add-at
+    overflow_mul-k
+    overflow_add-entries-2
+    move_up-requires
+    put_entry-requires
+    shape_of-buffer
     returns)

@@ -7,56 +7,56 @@ use borrow.Author.Rules.{rules}
 use Rattle.pciv_slot.proofs.change.take_out.Statement.{statement}
 use Rattle.pciv_slot.proofs.change.take_out.Tie as tie
 
-cast-buffer : tie.Need-overflow-cast-buffer
-cast-buffer c = search rules
+overflow_cast-buffer : tie.Need-overflow_cast-buffer
+overflow_cast-buffer c = search rules
 
-add-buffer : tie.Need-overflow-add-buffer
-add-buffer c = search rules
+overflow_add-buffer : tie.Need-overflow_add-buffer
+overflow_add-buffer c = search rules
 
-slice-write-buffer : tie.Need-slice-write-buffer
-slice-write-buffer c = search rules
+bounds-buffer-slot : tie.Need-bounds-buffer-slot
+bounds-buffer-slot c = search rules
 
-add-entries : tie.Need-overflow-add-entries
-add-entries c = search rules
+overflow_add-entries : tie.Need-overflow_add-entries
+overflow_add-entries c = search rules
 
-mul-move-down : tie.Need-overflow-mul-move-down
-mul-move-down c = search rules
+overflow_mul-j : tie.Need-overflow_mul-j
+overflow_mul-j c = search rules
 
-add-move-down : tie.Need-overflow-add-move-down
-add-move-down c = search rules
+overflow_add-entries-2 : tie.Need-overflow_add-entries-2
+overflow_add-entries-2 c = search rules
 
-sub-move-down : tie.Need-overflow-sub-move-down
-sub-move-down c = search rules
+overflow_sub-k : tie.Need-overflow_sub-k
+overflow_sub-k c = search rules
 
-mul-move-down-2 : tie.Need-overflow-mul-move-down-2
-mul-move-down-2 c = search rules
+overflow_mul-k : tie.Need-overflow_mul-k
+overflow_mul-k c = search rules
 
-add-move-down-2 : tie.Need-overflow-add-move-down-2
-add-move-down-2 c = search rules
+overflow_add-entries-3 : tie.Need-overflow_add-entries-3
+overflow_add-entries-3 c = search rules
 
-move-down-requires : tie.Need-move-down-requires
-move-down-requires c κs = simp length-set (omega arith)
+move_down-requires : tie.Need-move_down-requires
+move_down-requires c κs = simp length-set (omega arith)
 
-same_length : tie.Need-same-length
-same_length c = c.before.before.move_down.auto.0 ∙ simp length-set
+shape_of-buffer : tie.Need-shape_of-buffer
+shape_of-buffer c = c.move_down.auto.out ∙ simp length-set
 
 returns : tie.Need-returns
 unfolding taken_out
-returns c = c.before.before.move_down.ensures
+returns c = c.move_down.ensures
 
-pub take-out-spec : {M : Type 1} → statement M
-take-out-spec =
+pub take_out_spec : {M : Type 1} → statement M
+take_out_spec =
     tie.close
     (tie.spec
-    cast-buffer
-    add-buffer
-    slice-write-buffer
-    add-entries
-    mul-move-down
-    add-move-down
-    sub-move-down
-    mul-move-down-2
-    add-move-down-2
-    move-down-requires
-    same_length
+    overflow_cast-buffer
+    overflow_add-buffer
+    bounds-buffer-slot
+    overflow_add-entries
+    overflow_mul-j
+    overflow_add-entries-2
+    overflow_sub-k
+    overflow_mul-k
+    overflow_add-entries-3
+    move_down-requires
+    shape_of-buffer
     returns)

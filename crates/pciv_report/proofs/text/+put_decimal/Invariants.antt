@@ -1,0 +1,5 @@
+-- Falls: the number x.
+use Rattle.pciv_report.proofs.text.+put_decimal.Given as goal
+
+abbrev pub decreases-put_decimal : goal.decreases-put_decimal
+decreases-put_decimal l = l.x
