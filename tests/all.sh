@@ -1,6 +1,6 @@
 #!/bin/sh
-# The whole test (make test): the layout of the sources, every proof with the must-fail edits and the programs
-# (rt ci), then the C and Rust side on the archive and the program that were built. The last line is rt ci's own.
+# The whole test (make test): every proof with the layout of the sources, the must-fail edits and the programs (rt ci), then
+# the C and Rust side on the archive and the program that are built of what was proved. The last line is rt ci's own.
 set -u
 
 cd "$(dirname "$0")/.." || exit 1
@@ -19,11 +19,17 @@ part() {
     fi
 }
 
-part format build/fmt.log rt fmt --check
+# edits LOG: rt ci says that all is well, and counts no must-fail edit that no longer fits its text; such a one passes rt ci.
+edits() {
+    grep '^rt: ok' "$1" && ! grep -E '^rt: ok.*, [1-9][0-9]* bad' "$1"
+}
+
 # rt's progress is shown as it comes; a failed run's whole log too
 echo '== proofs'
 sh packaging/progress.sh build/rt-ci.log rt ci 2>&1 || failed="$failed proofs"
-part archive build/rt-staticlib.log rt staticlib pciv_c
+part edits build/edits.log edits build/rt-ci.log
+part archive build/rt-lib.log sh -c 'cd crates/pciv_c && rt lib'
+part program build/rt-run.log sh -c 'cd crates/report && rt run'
 part comparison build/run.log sh tests/run.sh
 cat build/run.log
 

@@ -27,9 +27,18 @@ for pair in $(tr '\n' ' ' <$doc | grep -oE '`[a-z0-9_]+` +\(`pciv_[a-z_]+`\)' | 
 done
 
 # Laws, the names with a hyphen inside; a suffix such as `-done` stands for a further law of the name before it.
-for law in $(grep -oE '`[A-Za-z][A-Za-z0-9]*(-[A-Za-z0-9]+)+`' $doc | tr -d '`' | grep -vx must-fail | sort -u); do
+for law in $(grep -oE '`[A-Za-z][A-Za-z0-9_]*(-[A-Za-z0-9_]+)+`' $doc | tr -d '`' | grep -vx must-fail | sort -u); do
     grep -rqE "^ *(pub )?$law :" crates/*/proofs --include='*.antt' && found=yes || found=no
     want $found "there is no law $law"
+done
+
+# All other names of several words: definitions, laws, routines, crates, edits, or functions of C.
+cat include/pciv.h $(find crates -path '*/out' -prune -o \( -name '*.antt' -o -name '*.rt' -o -name '*.edit' \) -print) |
+    grep -oE '[A-Za-z][A-Za-z0-9_]*_[A-Za-z0-9_]+' | cat - crates.txt | tr -s ' :' '\n' | sort -u >build/words.txt
+find crates -name '*.edit' | sed 's/.*\///; s/\.edit$//' | sort -u >>build/words.txt
+for name in $(grep -oE '`[a-z][A-Za-z0-9]*(_[A-Za-z0-9]+)+`' $doc | tr -d '`' | sort -u); do
+    grep -qxF -e "$name" build/words.txt && found=yes || found=no
+    want $found "there is no $name"
 done
 
 for file in $(grep -oE '[A-Za-z]+\.antt' $doc | sort -u); do

@@ -5,7 +5,10 @@ use crate::{words::Kernel, Routine};
 const COUNT: Kernel = Kernel::blocks("count of bytes", "pcmpeqb psubb|paddb|psadbw load16 !byte");
 const SUM: Kernel = Kernel::blocks("sum of bytes", "paddw|psadbw load8 !pcmpeqb !byte");
 const COPY: Kernel = Kernel::new("copy", "load16 store16 !byte");
-const WIDEN: Kernel = Kernel::new("bytes to distances", "punpcklbw|punpckhbw store16 !byte");
+const WIDEN: Kernel = Kernel::new(
+    "bytes to distances",
+    "punpcklbw|punpckhbw|pmovzxbw|pmovzxbd store16 !byte",
+);
 
 // Which slots are in overflow, where the primary bytes stand in the buffer.
 const SLOTS: Kernel = Kernel::new(
@@ -51,11 +54,11 @@ const COUNT_SUMS: Kernel = Kernel::blocks(
 // Differences of bytes in 16 bits, then in 64.
 const DIFFERENCES: Kernel = Kernel::new(
     "differences of bytes",
-    "punpcklbw|punpckhbw psubw|paddw load8 !byte",
+    "punpcklbw|punpckhbw|pmovzxbw psubw|paddw load8 !byte",
 );
 const WIDEN_DIFFERENCES: Kernel = Kernel::new(
     "differences widened",
-    "punpckldq|punpckhdq|punpcklwd|punpckhwd|pshufd psubq|paddq store16",
+    "punpckldq|punpckhdq|punpcklwd|punpckhwd|pshufd|pmovzxdq|pmovzxwq|pmovsxwq psubq|paddq store16",
 );
 
 // The test of the near mask, which takes 1 off each byte first, is in the same loop beside the other
@@ -73,7 +76,7 @@ const NOT: Kernel = Kernel::new(
 );
 const BITS: Kernel = Kernel::new(
     "count of bits",
-    "psrlw|psrld|psrlq|pshufb pand|andps paddb|paddq|psadbw load16",
+    "popcnt|psrlw|psrld|psrlq|pshufb popcnt|pand|andps popcnt|paddb|paddq|psadbw popcnt|load16",
 );
 
 // Eight bytes at once through a table.
@@ -97,7 +100,7 @@ const JACCARD: Kernel = Kernel::blocks(
 const NEARER: Kernel = Kernel::new("smaller bytes but for 0", "pminub psubb|paddb load16 !byte");
 const RAISE_BLOCK: Kernel = Kernel::new(
     "block to distances",
-    "psubb|paddb pcmpeqb|pcmpeqd punpcklbw|punpckhbw store16 !byte",
+    "psubb|paddb pcmpeqb|pcmpeqd punpcklbw|punpckhbw|pmovzxbw|pmovzxbd store16 !byte",
 );
 
 /// The exported routines and the loops that each has to have. Loops over overflow entries are not
@@ -144,5 +147,7 @@ pub const ROUTINES: &[Routine] = &[
     ("pciv_bundle_row", &[COUNT]),
     ("pciv_bundle_nearest", &[COUNT, NEARER, RAISE_BLOCK]),
     ("pciv_bundle_write", &[COUNT, COPY]),
+    ("pciv_fill_table", &[]),
+    ("pciv_map_of_frame", &[COUNT]),
     ("pciv_report", &[COUNT, SUM]),
 ];

@@ -8,6 +8,7 @@
 //! | `load16`, `store16` | 16 bytes are loaded at once, or stored |
 //! | `load8`, `store8` | 8 bytes or more are loaded to a packed register, or stored from any |
 //! | `byte` | a single byte is loaded: the loop works on one at a time |
+//! | `popcnt` | the bits of a whole word are counted at once |
 //! | `own` | the check of a file does not reach the loop |
 //! | `a\|b` | a word of several holds |
 //! | `!a` | the word does not hold |
@@ -99,6 +100,8 @@ fn holds(word: &str, candidate: &Loop) -> bool {
 
 /// Moves of 16 bytes.
 const WIDE: [&str; 6] = ["movdqu", "movdqa", "movups", "movaps", "movupd", "movapd"];
+/// Loads of 8 bytes to a packed register that also widen them.
+const WIDENING: [&str; 3] = ["pmovzxbw", "pmovzxwd", "pmovzxdq"];
 /// Moves of 8 bytes between memory and a packed register.
 const HALF: [&str; 5] = ["movq", "movsd", "movlps", "movhps", "movhpd"];
 
@@ -113,12 +116,14 @@ fn is(word: &str, instruction: &Instruction) -> bool {
     let (loads, stores) = (is_memory(from), is_memory(to));
     let wide = WIDE.contains(&mnemonic);
     let half = HALF.contains(&mnemonic);
+    let widening = WIDENING.contains(&mnemonic);
     let whole = mnemonic == "mov" && is_whole(from);
     match word {
         "load16" => instruction.copies() || loads && wide,
-        "load8" => instruction.copies() || loads && (wide || half),
+        "load8" => instruction.copies() || loads && (wide || half || widening),
         "store16" => instruction.copies() || stores && wide,
         "store8" => instruction.copies() || stores && (wide || half || whole),
+        "popcnt" => mnemonic == "popcnt",
         "byte" => loads && (mnemonic.starts_with("movzb") || mnemonic.starts_with("movsb")),
         _ => mnemonic == word && operands.iter().any(|operand| is_packed(operand)),
     }
