@@ -22,7 +22,7 @@ CAMEL = re.compile(r"[a-z][a-z0-9₀-₉]*(?:[A-Z][a-z0-9₀-₉]*)+'?")
 
 # Names whose new form is not that of the rule: facts, and names that are built on one of the library's.
 PARTS = {"getD": "get_or", "limitsBy": "LimitsBy"}
-WHOLE = {"get_d_sets": "get_or-sets"}
+WHOLE = {"get_d_sets": "get_or-sets", "get_d_map": "get_or-map_inside", "get_d_front": "get_or-front"}
 
 # Words of the pages that name no definition.
 KEPT = {"libFuzzer", "camelCase"}

@@ -92,7 +92,8 @@ fn which_way(by: i32) -> Direction
     ensures { result ≡ direction_of by }
 {
     let d = by as i64;
-    if d < 0 {
+    let is_down = d < 0;
+    if is_down {
         return Direction::Down((0 - d) as u32);
     }
     Direction::Up(d as u32)

@@ -64,7 +64,8 @@ fn most_in(file: &[u8], n: usize, k: usize) -> u32
     while j < k {
         let x = entry_distance(file, n, j);
         j += 1;
-        if most < x {
+        let is_larger = most < x;
+        if is_larger {
             most = x;
         }
     }

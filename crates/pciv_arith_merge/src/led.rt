@@ -136,7 +136,8 @@ pub fn put_led(
         let entry = combine_entry(op, a, b, n, ka, kb, j, t);
         t = entry.next;
         j += 1;
-        if 255 <= entry.distance {
+        let is_far = 255 <= entry.distance;
+        if is_far {
             at = put_entry(out, at, entry.slot, entry.distance);
         }
     }

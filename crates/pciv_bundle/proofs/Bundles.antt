@@ -17,7 +17,7 @@ use mathlib.Core.List.{List, [], ◌∷◌, ◌++◌, map}
 use lib.ListN.{length, get_or, take, drop, length-map, get_or-eq_default}
 use lib.Seq.{take_at, drop_at, get_or-take}
 use Rattle.pciv_bytes.specs.Ranges.{table}
-use Rattle.pciv_bytes.proofs.RangesLaws.{get_d_map, get_or-table, table-cong}
+use Rattle.pciv_bytes.proofs.RangesLaws.{get_or-map_inside, get_or-table, table-cong}
 use Rattle.pciv_format.specs.Layout.{at, file_of, Limits}
 use Rattle.pciv_format.specs.Refusals.{done, refuse, written}
 use Rattle.pciv_format.specs.Check.{n_field}
@@ -98,7 +98,7 @@ module _ (xss : List (List ℕ)) (n : ℕ) (l : Bundled xss n) where
   count = length-map xss file_of
 
   file-at : (f : ℕ) → f < length xss → get_or files f [] ≡ file_of (get_or xss f [])
-  file-at f h = get_d_map file_of xss f [] [] h
+  file-at f h = get_or-map_inside file_of xss f [] [] h
 
   frame-file : (f : ℕ) → f < length files → FrameFile n (get_or files f [])
   frame-file f h =

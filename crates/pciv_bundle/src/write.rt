@@ -93,7 +93,8 @@ pub fn write(frames: &[&[u8]; 8], count: usize, out: &mut [u8]) -> NumberAnswer
     if count < 1 {
         return refuse_number(BAD_BUNDLE, 0, 0);
     }
-    if MAX_FRAMES < count {
+    let has_many = MAX_FRAMES < count;
+    if has_many {
         return refuse_number(BAD_BUNDLE, 0, 0);
     }
     let first = lent[0];

@@ -23,7 +23,7 @@ use lib.Seq.{take_at, drop_at, drop-drop, drop-cons, take-suc, take-length}
 use lib.Dec.{eqb, eqb-suc-zero, lit<}
 use borrow.Author.Tests.{ne_eqb}
 use Rattle.pciv_bytes.specs.LittleEndian.{le, get}
-use Rattle.pciv_bytes.proofs.RangesLaws.{get_d_map}
+use Rattle.pciv_bytes.proofs.RangesLaws.{get_or-map_inside}
 use Rattle.pciv_bytes.proofs.LittleEndianLaws.{length-le, get_at}
 use Rattle.pciv_format.specs.Refusals.{done}
 use Rattle.pciv_bundle_records.specs.Records.{record_at, record_len, record_kind, record_payload, record_count}
@@ -324,7 +324,7 @@ module _ (n c : ℕ) (rest : List Record) (sound : SoundRest c rest) where
 
 frame-record : (fs : List (List ℕ)) (i : ℕ) → i < length fs
     → get_or (map (record_of 1) fs) i no_record ≡ record_of 1 (get_or fs i [])
-frame-record fs i h = get_d_map (record_of 1) fs i [] no_record h
+frame-record fs i h = get_or-map_inside (record_of 1) fs i [] no_record h
 
 pub bundle_of-slot_count : (n : ℕ) (fs : List (List ℕ)) → n < 4294967296 → slot_count (bundle_of n fs) ≡ n
 unfolding bundle_of bundle_records

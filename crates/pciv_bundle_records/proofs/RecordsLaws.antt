@@ -32,7 +32,7 @@ use borrow.Author.Tests.{lt-ltb, le-ltb, le-leb, lt-leb, eq-eqb, ne_eqb}
 use borrow.Author.Tests.{ltb-false, leb-false, leb-true, eqb-true, eqb-false, not-false}
 use Rattle.pciv_bytes.specs.Ranges.{first_below, positions, keep_if}
 use Rattle.pciv_bytes.specs.LittleEndian.{get, Bytes}
-use Rattle.pciv_bytes.proofs.RangesLaws.{true-false, get_d_map, first_below-at, first_below-none, first_below-has}
+use Rattle.pciv_bytes.proofs.RangesLaws.{true-false, get_or-map_inside, first_below-at, first_below-none, first_below-has}
 use Rattle.pciv_bytes.proofs.LittleEndianLaws.{bytes_drop, bytes_take}
 use Rattle.pciv_bytes.proofs.PositionsLaws.{positions-append, rises}
 use Rattle.pciv_format.specs.Refusals.{Outcome, done, refused, refuse, refuse_if}
@@ -129,7 +129,7 @@ module _ (b : List ℕ) where
   frames-bytes bytes f h =
       let ps : List ℕ = positions (is_frame b) 0 (record_count b) in
       let r : ℕ = get_or ps f 0 in
-      rw (get_d_map (record_payload b) ps f 0 [] (omega (arith, length-map ps (record_payload b))))
+      rw (get_or-map_inside (record_payload b) ps f 0 [] (omega (arith, length-map ps (record_payload b))))
       (bytes_take (record_len b r - 2) (drop (record_at b r + 6) b) (bytes_drop (record_at b r + 6) b bytes))
 
   pub frames_to-zero : frames_to 0 ≡ []

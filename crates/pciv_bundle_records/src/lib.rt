@@ -104,7 +104,8 @@ fn wrong_record(bundle: &[u8], at: usize, found: usize, count: usize) -> bool
     if len < KIND_LEN {
         return true;
     }
-    if kind == HEADER_KIND {
+    let is_header = kind == HEADER_KIND;
+    if is_header {
         return true;
     }
     if kind != FRAME_KIND {

@@ -3,7 +3,7 @@
 --   flag-le, -zero, -not      a flag is at most 1; where it is 0, the test fails; a test and its negation
 --   bool_byte-flag             a test, cast to a number
 --   get_or-inside               inside a list the default does not matter
---   get_d_map                  an element of a list to which a function is applied
+--   get_or-map_inside                  an element of a list to which a function is applied
 --   map-cong                  functions that agree on the elements of a list
 --   first_below-none, -at      its value, from what holds of each number
 --   first_below-le, -clear, -has, -all, -lt    what holds of each number, from its value
@@ -57,9 +57,9 @@ get_or-inside [] j a b h = absurd (omega arith)
 get_or-inside (x ∷ xs) zero a b h = refl
 get_or-inside (x ∷ xs) (suc j) a b h = get_or-inside xs j a b (omega arith)
 
-pub get_d_map : {A B : Type 0} (f : A → B) (xs : List A) (i : ℕ) (e : A) (d : B) → i < length xs
+pub get_or-map_inside : {A B : Type 0} (f : A → B) (xs : List A) (i : ℕ) (e : A) (d : B) → i < length xs
     → get_or (map f xs) i d ≡ f (get_or xs i e)
-get_d_map f xs i e d h = get_or-inside (map f xs) i d (f e) (rw length-map h) ∙ ListN.get_or-map f xs i e
+get_or-map_inside f xs i e d h = get_or-inside (map f xs) i d (f e) (rw length-map h) ∙ ListN.get_or-map f xs i e
 
 pub map-cong : (f g : ℕ → ℕ) (xs : List ℕ) → ((i : ℕ) → i < length xs → f (get_or xs i 0) ≡ g (get_or xs i 0))
     → map f xs ≡ map g xs

@@ -27,14 +27,18 @@ use pciv_map::totals::summary_of;
 fn check_header(file: &[u8], map: usize) -> CountsAnswer
     ensures { result ≡ counts_answer (check_header map file.now) }
 {
-    if file.len() < HEADER_LEN {
+    let is_short = file.len() < HEADER_LEN;
+    if is_short {
         return refuse_counts(TRUNCATED_HEADER, map, 0);
     }
-    if get64(file, 0) != MAGIC {
+    let magic = get64(file, 0);
+    let n = get64(file, 8);
+    let is_other = magic != MAGIC;
+    let is_large = MAX_SLOTS < n;
+    if is_other {
         return refuse_counts(BAD_MAGIC, map, 0);
     }
-    let n = get64(file, 8);
-    if MAX_SLOTS < n {
+    if is_large {
         return refuse_counts(TOO_MANY_SLOTS, map, 0);
     }
     let k = get64(file, 16);
@@ -105,7 +109,10 @@ fn with_sum(file: &[u8], counted: CountsAnswer) -> FileAnswer
 {
     match counted {
         CountsAnswer::Refused(r) => FileAnswer::Refused(r),
-        CountsAnswer::Counted(c) => FileAnswer::Done(summary_of(file, c)),
+        CountsAnswer::Counted(c) => {
+            let told = summary_of(file, c);
+            FileAnswer::Done(told)
+        }
     }
 }
 

@@ -92,7 +92,8 @@ fn first_bad_index_entry(file: &[u8], n: usize, k: usize) -> usize
         if get64(file, at) != get64(file, HEADER_LEN + n + 12 * j) {
             return i;
         }
-        if get64(file, at + 8) != j {
+        let is_wrong = get64(file, at + 8) != j;
+        if is_wrong {
             return i;
         }
         i += 1;

@@ -126,7 +126,8 @@ pub fn close(primary: &[u8], slots: &[usize], distances: &[u32], out: &mut [u8])
         return refuse_file(BAD_OVERFLOW_ENTRY, 1, entry);
     }
     let slot = first_bad_slot(primary, slots);
-    if slot < n {
+    let is_missing = slot < n;
+    if is_missing {
         return refuse_file(MISSING_OVERFLOW_ENTRY, 1, slot);
     }
     put_file(out, primary, slots, distances)

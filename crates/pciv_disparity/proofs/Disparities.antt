@@ -20,7 +20,7 @@ use lib.ListN.{length, replicate, length-map, length-replicate, get_or-eq_defaul
 use lib.Ieee.Nearest.{div_mono}
 use Rattle.pciv_bytes.specs.LittleEndian.{Bytes}
 use Rattle.pciv_bytes.specs.ByteAt.{byte_at}
-use Rattle.pciv_bytes.proofs.RangesLaws.{length-table, get_or-table, get_d_map, map-cong}
+use Rattle.pciv_bytes.proofs.RangesLaws.{length-table, get_or-table, get_or-map_inside, map-cong}
 use Rattle.pciv_format.specs.Layout.{max_slots, max_distance, at}
 use Rattle.pciv_format.specs.Refusals.{done}
 use Rattle.pciv_format.specs.Write.{write_outcome, write_buffer}
@@ -126,7 +126,7 @@ disparity-falls F d e order here there =
 
 module _ (T bytes : List ℕ) where
   list_at : (i : ℕ) → i < length bytes → frame_distance T bytes i ≡ at (map (at T) bytes) i
-  list_at i h = sym (get_d_map (at T) bytes i 0 0 h)
+  list_at i h = sym (get_or-map_inside (at T) bytes i 0 0 h)
 
   list_length : length (map (at T) bytes) ≡ length bytes
   list_length = rw length-map

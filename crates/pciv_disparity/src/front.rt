@@ -81,7 +81,8 @@ fn put_primary(out: &mut [u8], frame: &[u8], bytes: &[u8; 256])
 fn count_at_least(frame: &[u8], d: usize) -> usize
     ensures { result ≡ sum_from (byte_from frame.now d) 0 (length frame.now) }
 {
-    if 255 < d {
+    let is_past = 255 < d;
+    if is_past {
         return 0;
     }
     count_from(frame, d as u8)

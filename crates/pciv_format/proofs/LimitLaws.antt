@@ -46,8 +46,8 @@ use Rattle.pciv_format.proofs.EditLaws.{count-below, count-inside, below-count}
 
 -- ---- bytes of three joined stretches
 
-get_d_front : (xs ys : List ℕ) (i : ℕ) → i < length xs → get_or (xs ++ ys) i 0 ≡ get_or xs i 0
-get_d_front xs ys i h = get_or-append xs ys 0 i h
+get_or-front : (xs ys : List ℕ) (i : ℕ) → i < length xs → get_or (xs ++ ys) i 0 ≡ get_or xs i 0
+get_or-front xs ys i h = get_or-append xs ys 0 i h
 
 get_or-behind : (xs ys : List ℕ) (i : ℕ) → length xs ≤ i → get_or (xs ++ ys) i 0 ≡ get_or ys (i - length xs) 0
 get_or-behind xs ys i h =
@@ -66,12 +66,12 @@ module _ (n : ℕ) (v w : ℕ → ℕ) (s : ℕ) (inside : s < n) (same : (i : �
       let go : (c : ℕ) → get_or (a ++ (le 8 n ++ counts c)) i 0 ≡ get_or (a ++ le 8 n) i 0 =
       λ c.
       ap (λ (l : List ℕ). get_or l i 0) (sym (append_assoc a (le 8 n) (counts c)))
-      ∙ get_d_front (a ++ le 8 n) _ i (simp length-append (omega (arith, length-le 8 magic, length-le 8 n))) in
+      ∙ get_or-front (a ++ le 8 n) _ i (simp length-append (omega (arith, length-le 8 magic, length-le 8 n))) in
       go k ∙ sym (go k')
 
   file-header : (u : ℕ → ℕ) (i : ℕ) → i < 40 → get_or (file n u) i 0 ≡ get_or (header n (overflow_count n u)) i 0
   unfolding file
-  file-header u i h = get_d_front (header n (overflow_count n u)) _ i (rw length-header h)
+  file-header u i h = get_or-front (header n (overflow_count n u)) _ i (rw length-header h)
 
   file-primary : (u : ℕ → ℕ) (i : ℕ) → i < n → get_or (file n u) (40 + i) 0 ≡ get_or (primary n u) i 0
   unfolding file
@@ -81,7 +81,7 @@ module _ (n : ℕ) (v w : ℕ → ℕ) (s : ℕ) (inside : s < n) (same : (i : �
       let L : length hd ≡ 40 = length-header n (overflow_count n u) in
       ap (λ (a : ℕ). get_or (hd ++ (primary n u ++ q)) (a + i) 0) (sym L)
       ∙ get_or-append-add hd (primary n u ++ q) i 0
-      ∙ get_d_front (primary n u) q i (rw length-primary h)
+      ∙ get_or-front (primary n u) q i (rw length-primary h)
 
   file-entries : (u : ℕ → ℕ) (i : ℕ) → i < 12 * overflow_count n u
       → get_or (file n u) (40 + n + i) 0 ≡ get_or (overflow_part n u) i 0
@@ -94,7 +94,7 @@ module _ (n : ℕ) (v w : ℕ → ℕ) (s : ℕ) (inside : s < n) (same : (i : �
       ap (λ (a : ℕ). get_or (hd ++ (primary n u ++ q)) a 0) place
       ∙ get_or-append-add hd (primary n u ++ q) (length (primary n u) + i) 0
       ∙ get_or-append-add (primary n u) q i 0
-      ∙ get_d_front (overflow_part n u) (index_part (overflow_slots n u)) i (rw length-overflow_part h)
+      ∙ get_or-front (overflow_part n u) (index_part (overflow_slots n u)) i (rw length-overflow_part h)
 
   -- the bytes that a move into or out of overflow leaves alone
   module _ (prefix : (i : ℕ) → i < 12 * overflow_count s v → get_or (overflow_part n w) i 0 ≡ get_or (overflow_part n v) i 0)
@@ -235,7 +235,7 @@ module _ (x t : List ℕ) (l : Limits x) (e : Edit) (sm : Summary)
       let free : ℕ = length (file_of x) - Ly in
       byte-is i
       ∙ get_or-behind (file_of (edited x e)) _ i low
-      ∙ get_d_front (replicate free 0) _ (i - Ly) (rw length-replicate (omega arith))
+      ∙ get_or-front (replicate free 0) _ (i - Ly) (rw length-replicate (omega arith))
       ∙ get_or-replicate free (i - Ly) 0 0 (omega arith)
 
   pub edit-past : (i : ℕ) → length (file_of x) ≤ i → length (file_of (edited x e)) ≤ i
@@ -283,7 +283,7 @@ module _ (x t : List ℕ) (l : Limits x) (e : Edit) (sm : Summary)
         let old : List ℕ = overflow_part (length x) (at x) in
         let fits : q ≤ length old = omega (arith, before-old, length-overflow_part (length x) (at x)) in
         ap (λ (b : List ℕ). get_or b i 0) part
-        ∙ get_d_front (take q old) X i (omega (arith, length-take-le q old fits))
+        ∙ get_or-front (take q old) X i (omega (arith, length-take-le q old fits))
         ∙ get_or-take q old i 0 h
 
     moved-kept : (i : ℕ) → i < entry_place x e.slot → (16 ≤ i → i < 40 → ⊥) → (i ≡ 40 + e.slot → ⊥)
@@ -302,11 +302,11 @@ module _ (x t : List ℕ) (l : Limits x) (e : Edit) (sm : Summary)
         ) in
         let in_old : i < length (file_of x) = omega (arith, length-old, file_len-is (length x) k) in
         byte-is i
-        ∙ get_d_front (file_of (edited x e)) _ i in_new
+        ∙ get_or-front (file_of (edited x e)) _ i in_new
         ∙ ap (λ (b : List ℕ). get_or b i 0) (file-edited x e)
         ∙ kept (length x) (at x) (at (edited x e)) e.slot slot-inside (edited-other x e) prefix few few' i low
         counts other
-        ∙ sym (get_d_front (file_of x) t i in_old)
+        ∙ sym (get_or-front (file_of x) t i in_old)
 
     moved-limits : (i : ℕ) → (get_or (edit_buffer (file_of x ++ t) e) i 0 ≡ get_or (file_of x ++ t) i 0 → ⊥)
         → ((16 ≤ i) × (i < 40)) ⊎ ((i ≡ 40 + e.slot) ⊎ (entry_place x e.slot ≤ i))

@@ -35,7 +35,7 @@ use lib.IntN.{ℤ}
 use borrow.Author.Tests.{ltb-false, le-ltb}
 use Rattle.pciv_bytes.specs.Ranges.{table}
 use Rattle.pciv_bytes.specs.LittleEndian.{Bytes}
-use Rattle.pciv_bytes.proofs.RangesLaws.{get_or-inside, get_d_map, map-cong}
+use Rattle.pciv_bytes.proofs.RangesLaws.{get_or-inside, get_or-map_inside, map-cong}
 use Rattle.pciv_format.specs.Layout.{max_slots, max_distance, primary, overflow_slots}
 use Rattle.pciv_format.specs.Layout.{overflow_count, header, file, counts_of, summary, at, file_of}
 use Rattle.pciv_format.specs.Layout.{summary_of, Limits}
@@ -452,7 +452,7 @@ module _ (n : ℕ) (v : ℕ → ℕ) (few : n ≤ max_slots) (each : (i : ℕ) �
         k_same = rw (length-map ss v) (omega arith);
         byte_same = λ i h. primary-byte n v i h ∙ sym (file-byte n v few each i h);
         slot_same = λ j h. get_or-inside ss j _ 0 h ∙ sym (file-slot n v few each j h);
-        distance_same = λ j h. get_d_map v ss j 0 0 h ∙ sym (file-distance n v few each j h);
+        distance_same = λ j h. get_or-map_inside v ss j 0 0 h ∙ sym (file-distance n v few each j h);
       }
 
   sound : SoundParts parts

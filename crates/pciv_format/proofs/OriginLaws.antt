@@ -27,7 +27,7 @@ use lib.ListN.{length, get_or, drop, length-map, get_or-append, get_or-eq_defaul
 use lib.Dec.{leb, eqb}
 use borrow.Author.Tests.{lt-ltb, le-ltb, le-leb, lt-leb, leb-false, eqb-true}
 use Rattle.pciv_bytes.specs.LittleEndian.{get, Bytes}
-use Rattle.pciv_bytes.proofs.RangesLaws.{get_d_map, first_below-le, first_below-has}
+use Rattle.pciv_bytes.proofs.RangesLaws.{get_or-map_inside, first_below-le, first_below-has}
 use Rattle.pciv_format.specs.Layout.{in_overflow, overflow_count, at, file_of, Limits}
 use Rattle.pciv_format.specs.Refusals.{Outcome, done, refused, refuse, refuse_if, refuse_first, and_then, written}
 use Rattle.pciv_format.specs.Parts.{Parts, entry_of, value_of, SoundParts}
@@ -297,7 +297,7 @@ module _ (b slots distances entries : List ℕ) (c : ℕ)
       → get_or (written (done c) (map f slots) out) i 0 ≡ f (at slots i)
   element f out i h =
       get_or-append (map f slots) (drop (length (map f slots)) out) 0 i (rw length-map h)
-      ∙ get_d_map f slots i 0 0 h
+      ∙ get_or-map_inside f slots i 0 0 h
 
   found : (i : ℕ) → i < length slots
       → (let slot = at slots i in

@@ -97,7 +97,8 @@ pub fn locate(file: &[u8], n: usize, k: usize, slot: usize) -> Located
         k (entry_of (file_parts file.now n k) slot) }
 {
     let byte = file[HEADER_LEN + slot];
-    if byte < SENTINEL {
+    let is_inline = byte < SENTINEL;
+    if is_inline {
         return Located {
             distance: byte as u32,
             origin: Origin::Inline,

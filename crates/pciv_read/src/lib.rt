@@ -123,10 +123,12 @@ pub fn lookup_list(
             let outside = first_outside(slots, n);
             let short = either_short(distances.len(), entries.len(), slots.len());
             if outside < slots.len() {
-                return refuse_number(SLOT_OUT_OF_RANGE, 0, outside);
+                let no_slot = refuse_number(SLOT_OUT_OF_RANGE, 0, outside);
+                return no_slot;
             }
             if short {
-                return refuse_number(BUFFER_TOO_SMALL, 0, 0);
+                let no_room = refuse_number(BUFFER_TOO_SMALL, 0, 0);
+                return no_room;
             }
             locate_into(file, n, k, slots, distances, entries);
             NumberAnswer::Number(slots.len())

@@ -16,7 +16,7 @@ use lib.ListN.{length, get_or, length-map}
 use borrow.Author.Tests.{eqb-false, not-true}
 use Rattle.pciv_bytes.specs.Ranges.{positions}
 use Rattle.pciv_bytes.specs.LittleEndian.{Bytes}
-use Rattle.pciv_bytes.proofs.RangesLaws.{true-false, get_d_map}
+use Rattle.pciv_bytes.proofs.RangesLaws.{true-false, get_or-map_inside}
 use Rattle.pciv_bytes.proofs.PositionsLaws.{rises, positions-at, positions-rise}
 use Rattle.pciv_format.specs.Layout.{overflow_count}
 use Rattle.pciv_format.specs.Parts.{Parts}
@@ -104,8 +104,8 @@ module _ (line : ℕ → Correction) (kind : ℕ) (kind_is : (j : ℕ) → (line
   lines-ordered l m d h₁ h₂ =
       let js : List ℕ = positions p 0 c in
       let inside : m < length js = omega (arith, length-map js line) in
-      let e : get_or (map line js) l d ≡ line (get_or js l 0) = get_d_map line js l 0 d (omega arith) in
-      let e' : get_or (map line js) m d ≡ line (get_or js m 0) = get_d_map line js m 0 d inside in
+      let e : get_or (map line js) l d ≡ line (get_or js l 0) = get_or-map_inside line js l 0 d (omega arith) in
+      let e' : get_or (map line js) m d ≡ line (get_or js m 0) = get_or-map_inside line js m 0 d inside in
       let place : Correction → ℕ = λ c. c.place in
       let rises-here : get_or js l 0 < get_or js m 0 =
       rises (λ (i : ℕ). get_or js i 0) (length js) (positions-rise p 0 c) l m h₁ inside in

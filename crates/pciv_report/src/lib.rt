@@ -79,7 +79,8 @@ fn put_report(out: &mut [u8], input: &[u8]) -> usize
     ensures text { Put out.old 0 (report_text input.now) out.new result }
     ensures most { result ≤ max_text }
 {
-    if MAX_INPUT < input.len() {
+    let is_long = MAX_INPUT < input.len();
+    if is_long {
         return put_refusal(out, TOO_LONG);
     }
     match check(input) {

@@ -149,7 +149,8 @@ fn move_slot(
     ensures buffer { buffer.new ≡ edit_buffer buffer.old (record { slot = slot; distance = distance }) }
 {
     if buffer.len() < file_len(n, count) {
-        return refused(BUFFER_TOO_SMALL);
+        let told = refused(BUFFER_TOO_SMALL);
+        return told;
     }
     let j = entry_of(buffer, n, k, slot);
     let old = old_distance(buffer, n, k, j, slot);

@@ -81,7 +81,8 @@ pub fn write(distances: &[u32], out: &mut [u8]) -> FileAnswer
     ensures buffer { out.new ≡ write_buffer distances.now out.old }
 {
     let n = distances.len();
-    if MAX_SLOTS < n {
+    let is_large = MAX_SLOTS < n;
+    if is_large {
         return refuse_file(TOO_MANY_SLOTS, 1, 0);
     }
     let k = count_overflow(distances);

@@ -16,13 +16,13 @@ wide : (s : tie.Start) → SFits w64 s.args.by
 wide s = record { sfits = omega (arith, s.ranges.by.sfits) }
 
 -- what the test says of it
-below : (c : tie.Then-d-lt0) → Opposite c.args.by
+below : (c : tie.Then-is_down) → Opposite c.args.by
 below c =
-    opposite c.args.by c.ranges.by (rw (narrow c.before, to_z-of_z (wide c.before)) at c.if-d-lt0.true)
+    opposite c.args.by c.ranges.by (rw (narrow c.before, to_z-of_z (wide c.before)) at c.if-is_down.true)
 
-above : (c : tie.Else-d-lt0) → Itself c.args.by
+above : (c : tie.Else-is_down) → Itself c.args.by
 above c =
-    itself c.args.by c.ranges.by (rw (narrow c.before, to_z-of_z (wide c.before)) at c.if-d-lt0.false)
+    itself c.args.by c.ranges.by (rw (narrow c.before, to_z-of_z (wide c.before)) at c.if-is_down.false)
 
 overflow_cast-d : tie.Need-overflow_cast-d
 overflow_cast-d c = rw (narrow c) (wide c)
@@ -35,8 +35,8 @@ overflow_cast-result : tie.Need-overflow_cast-result
 overflow_cast-result c =
     rw (narrow c.before, to_z-of_z (wide c.before), to_z-of_z (below c).fits) ((below c).sign, (below c).small)
 
-returns-then-d-lt0 : tie.Need-returns-then-d-lt0
-returns-then-d-lt0 c =
+returns-then-is_down : tie.Need-returns-then-is_down
+returns-then-is_down c =
     rw (narrow c.before, to_z-of_z (wide c.before), to_z-of_z (below c).fits) (below c).is
 
 overflow_cast-result-2 : tie.Need-overflow_cast-result-2
@@ -54,6 +54,6 @@ which_way_spec =
     overflow_cast-d
     overflow_sub-result
     overflow_cast-result
-    returns-then-d-lt0
+    returns-then-is_down
     overflow_cast-result-2
     returns)

@@ -12,21 +12,21 @@ use borrow.Author.Rules.{rules}
 use Rattle.pciv_bundle_records.proofs.wrong_record.Statement.{statement}
 use Rattle.pciv_bundle_records.proofs.wrong_record.Tie as tie
 
-abbrev start : tie.Else-kind-eq-HEADER_KIND → tie.Start
+abbrev start : tie.Else-is_header → tie.Start
 start p = p.before.before.before.before.before.before.before
 
-abbrev bundle : tie.Else-kind-eq-HEADER_KIND → List ℕ
+abbrev bundle : tie.Else-is_header → List ℕ
 bundle p = (start p).args.bundle.now
 
 -- the record ends inside, its length counts its kind, and it is no second header
-inside : (p : tie.Else-kind-eq-HEADER_KIND) → behind_record (bundle p) (start p).args.at ≤ length (bundle p)
+inside : (p : tie.Else-is_header) → behind_record (bundle p) (start p).args.at ≤ length (bundle p)
 inside p = omega (arith, p.get32-len.ensures, p.if-left-len.false)
 
-long : (p : tie.Else-kind-eq-HEADER_KIND) → 2 ≤ get 4 (bundle p) (start p).args.at
+long : (p : tie.Else-is_header) → 2 ≤ get 4 (bundle p) (start p).args.at
 long p = omega (arith, p.get32-len.ensures, p.if-len-lt-KIND_LEN.false)
 
-later : (p : tie.Else-kind-eq-HEADER_KIND) → get 2 (bundle p) ((start p).args.at + 4) ≡ 0 → ⊥
-later p e = omega (arith, p.get16-kind.ensures, p.if-kind-eq-HEADER_KIND.false)
+later : (p : tie.Else-is_header) → get 2 (bundle p) ((start p).args.at + 4) ≡ 0 → ⊥
+later p e = omega (arith, p.get16-kind.ensures, p.if-is_header.false)
 
 overflow_sub-left : tie.Need-overflow_sub-left
 overflow_sub-left c = search rules
@@ -55,8 +55,8 @@ returns-then-left-len c = sym (wrong-cut _ _ _ _ (omega (arith, c.get32-len.ensu
 returns-then-len-lt-KIND_LEN : tie.Need-returns-then-len-lt-KIND_LEN
 returns-then-len-lt-KIND_LEN c = sym (wrong-short _ _ _ _ (omega (arith, c.get32-len.ensures)))
 
-returns-then-kind-eq-HEADER_KIND : tie.Need-returns-then-kind-eq-HEADER_KIND
-returns-then-kind-eq-HEADER_KIND c = sym (wrong-kind _ _ _ _ (omega (arith, c.get16-kind.ensures, c.if-kind-eq-HEADER_KIND.true)))
+returns-then-is_header : tie.Need-returns-then-is_header
+returns-then-is_header c = sym (wrong-kind _ _ _ _ (omega (arith, c.get16-kind.ensures, c.if-is_header.true)))
 
 returns-then-kind-ne-FRAME_KIND : tie.Need-returns-then-kind-ne-FRAME_KIND
 returns-then-kind-ne-FRAME_KIND c =
@@ -83,6 +83,6 @@ wrong_record_spec =
     overflow_sub-left-2
     returns-then-left-len
     returns-then-len-lt-KIND_LEN
-    returns-then-kind-eq-HEADER_KIND
+    returns-then-is_header
     returns-then-kind-ne-FRAME_KIND
     returns)

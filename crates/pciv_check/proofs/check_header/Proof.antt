@@ -18,13 +18,13 @@ use Rattle.pciv_check.proofs.check_header.Statement.{statement}
 use Rattle.pciv_check.proofs.check_header.Tie as tie
 
 -- what is known once n is read and small enough
-opened : (c : tie.Else-n-gt-MAX_SLOTS)
+opened : (c : tie.Else-is_large)
     → (let b = c.args.file.now in
     (40 ≤ length b) × (get 8 b 0 ≡ magic) × (n_field b ≤ max_slots))
 opened c =
-    (omega arith, sym c.get64.ensures ∙ c.if-get64-ne-MAGIC.false, omega (arith, c.get64-n.ensures))
+    (omega arith, omega (arith, c.get64-magic.ensures), omega (arith, c.get64-n.ensures))
 
-counts-refused : (c : tie.Else-n-gt-MAX_SLOTS)
+counts-refused : (c : tie.Else-is_large)
     → (let a = c.args in
     let b = a.file.now in
     bad_counts (n_field b) (k_field b) (m_field b) (step_field b) ≡ true
@@ -46,36 +46,36 @@ len_is c = ap (λ (s : Counts). s.m) c.counts_of-counts.ensures
 refuse_counts-requires : tie.Need-refuse_counts-requires
 refuse_counts-requires c κs = search rules
 
-returns-then-file-lt-HEADER_LEN : tie.Need-returns-then-file-lt-HEADER_LEN
-returns-then-file-lt-HEADER_LEN c =
+returns-then-is_short : tie.Need-returns-then-is_short
+returns-then-is_short c =
     let a = c.args in
     c.refuse_counts.ensures ∙ ap counts_answer (sym (header-short a.map a.file.now (omega arith)))
 
-get64-requires : tie.Need-get64-requires
-get64-requires c κs = search rules
+get64-magic-requires : tie.Need-get64-magic-requires
+get64-magic-requires c κs = search rules
 
-refuse_counts-requires-then-get64-ne-MAGIC : tie.Need-refuse_counts-requires-then-get64-ne-MAGIC
-refuse_counts-requires-then-get64-ne-MAGIC c κs = search rules
+refuse_counts-requires-then-is_other : tie.Need-refuse_counts-requires-then-is_other
+refuse_counts-requires-then-is_other c κs = search rules
 
-returns-then-get64-ne-MAGIC : tie.Need-returns-then-get64-ne-MAGIC
-returns-then-get64-ne-MAGIC c =
+returns-then-is_other : tie.Need-returns-then-is_other
+returns-then-is_other c =
     let a = c.args in
-    let other : get 8 a.file.now 0 ≡ magic → ⊥ = λ e. c.if-get64-ne-MAGIC.true (c.get64.ensures ∙ e) in
-    c.refuse_counts-then-get64-ne-MAGIC.ensures ∙ ap counts_answer (sym (header-mark a.map a.file.now (omega arith) other))
+    let other : get 8 a.file.now 0 ≡ magic → ⊥ = λ e. c.if-is_other.true (c.get64-magic.ensures ∙ e) in
+    c.refuse_counts-then-is_other.ensures ∙ ap counts_answer (sym (header-mark a.map a.file.now (omega arith) other))
 
 get64-n-requires : tie.Need-get64-n-requires
 get64-n-requires c κs = search rules
 
-refuse_counts-requires-then-n-gt-MAX_SLOTS : tie.Need-refuse_counts-requires-then-n-gt-MAX_SLOTS
-refuse_counts-requires-then-n-gt-MAX_SLOTS c κs = search rules
+refuse_counts-requires-then-is_large : tie.Need-refuse_counts-requires-then-is_large
+refuse_counts-requires-then-is_large c κs = search rules
 
-returns-then-n-gt-MAX_SLOTS : tie.Need-returns-then-n-gt-MAX_SLOTS
-returns-then-n-gt-MAX_SLOTS c =
+returns-then-is_large : tie.Need-returns-then-is_large
+returns-then-is_large c =
     let a = c.args in
-    c.refuse_counts-then-n-gt-MAX_SLOTS.ensures
+    c.refuse_counts-then-is_large.ensures
     ∙ ap counts_answer
     (sym
-    (header-slots a.map a.file.now (omega arith) (sym c.get64.ensures ∙ c.if-get64-ne-MAGIC.false) (omega arith)))
+    (header-slots a.map a.file.now (omega arith) (omega (arith, c.get64-magic.ensures)) (omega arith)))
 
 get64-k-requires : tie.Need-get64-k-requires
 get64-k-requires c κs = search rules
@@ -92,8 +92,8 @@ returns-then-n-k c =
 counts_of-counts-requires : tie.Need-counts_of-counts-requires
 counts_of-counts-requires c κs = search rules
 
-get64-requires-2 : tie.Need-get64-requires-2
-get64-requires-2 c κs = search rules
+get64-requires : tie.Need-get64-requires
+get64-requires c κs = search rules
 
 refuse_counts-requires-then-get64-counts : tie.Need-refuse_counts-requires-then-get64-counts
 refuse_counts-requires-then-get64-counts c κs = search rules
@@ -103,10 +103,10 @@ returns-then-get64-counts c =
     c.refuse_counts-then-get64-counts.ensures
     ∙ counts-refused c.before.before.before.before.before.before.before
     (bad_counts-step _ _ _ _
-    (λ e. c.if-get64-counts.true (c.get64-2.ensures ∙ e ∙ sym (counted_step c.before.before.before.before ∙ ap index_step c.get64-k.ensures))))
+    (λ e. c.if-get64-counts.true (c.get64.ensures ∙ e ∙ sym (counted_step c.before.before.before.before ∙ ap index_step c.get64-k.ensures))))
 
-get64-requires-3 : tie.Need-get64-requires-3
-get64-requires-3 c κs = search rules
+get64-requires-2 : tie.Need-get64-requires-2
+get64-requires-2 c κs = search rules
 
 refuse_counts-requires-then-get64-counts-2 : tie.Need-refuse_counts-requires-then-get64-counts-2
 refuse_counts-requires-then-get64-counts-2 c κs = search rules
@@ -116,7 +116,7 @@ returns-then-get64-counts-2 c =
     c.refuse_counts-then-get64-counts-2.ensures
     ∙ counts-refused c.before.before.before.before.before.before.before.before.before.before
     (bad_counts-m _ _ _ _
-    (λ e. c.if-get64-counts-2.true (c.get64-3.ensures ∙ e ∙ sym (len_is c.before.before.before.before.before.before.before ∙ ap index_len c.get64-k.ensures))))
+    (λ e. c.if-get64-counts-2.true (c.get64-2.ensures ∙ e ∙ sym (len_is c.before.before.before.before.before.before.before ∙ ap index_len c.get64-k.ensures))))
 
 returns : tie.Need-returns
 returns c =
@@ -128,8 +128,8 @@ returns c =
       mark = o.1;
       n_is = sym c.get64-n.ensures;
       k_is = sym c.get64-k.ensures;
-      m_is = sym c.get64-3.ensures ∙ c.if-get64-counts-2.false ∙ len_is c.before.before.before.before.before.before;
-      step_is = sym c.get64-2.ensures ∙ c.if-get64-counts.false ∙ counted_step c.before.before.before.before.before.before;
+      m_is = sym c.get64-2.ensures ∙ c.if-get64-counts-2.false ∙ len_is c.before.before.before.before.before.before;
+      step_is = sym c.get64.ensures ∙ c.if-get64-counts.false ∙ counted_step c.before.before.before.before.before.before;
       small = omega arith;
       few = omega arith;
     }) in
@@ -140,21 +140,21 @@ check_header_spec =
     tie.close
     (tie.spec
     refuse_counts-requires
-    returns-then-file-lt-HEADER_LEN
-    get64-requires
-    refuse_counts-requires-then-get64-ne-MAGIC
-    returns-then-get64-ne-MAGIC
+    returns-then-is_short
+    get64-magic-requires
     get64-n-requires
-    refuse_counts-requires-then-n-gt-MAX_SLOTS
-    returns-then-n-gt-MAX_SLOTS
+    refuse_counts-requires-then-is_other
+    returns-then-is_other
+    refuse_counts-requires-then-is_large
+    returns-then-is_large
     get64-k-requires
     refuse_counts-requires-then-n-k
     returns-then-n-k
     counts_of-counts-requires
-    get64-requires-2
+    get64-requires
     refuse_counts-requires-then-get64-counts
     returns-then-get64-counts
-    get64-requires-3
+    get64-requires-2
     refuse_counts-requires-then-get64-counts-2
     returns-then-get64-counts-2
     returns)

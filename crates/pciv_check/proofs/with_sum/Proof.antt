@@ -20,8 +20,8 @@ enum_known-counted c = search rules
 enum_known-counted-in-Counted-1 : tie.Need-enum_known-counted-in-Counted-1
 enum_known-counted-in-Counted-1 c = search rules
 
-summary_of-requires : tie.Need-summary_of-requires
-summary_of-requires c κs = map_of c
+summary_of-told-requires : tie.Need-summary_of-told-requires
+summary_of-told-requires c κs = map_of c
 
 returns-in-Refused : tie.Need-returns-in-Refused
 returns-in-Refused c = λ o is. rw (counts_answer-refused o _ (sym c.in-Refused.is ∙ is))
@@ -33,7 +33,7 @@ returns-in-Counted c =
     λ o is.
     rw (counts_answer-counted o s (sym c.in-Counted.is ∙ is))
     (ap Done
-    (c.summary_of.ensures
+    (c.summary_of-told.ensures
     ∙ ap (summarize s)
     (sym (total-is c.args.file.now s.n s.k map.n_is map.k_is))))
 
@@ -43,6 +43,6 @@ with_sum_spec =
     (tie.spec
     enum_known-counted
     enum_known-counted-in-Counted-1
-    summary_of-requires
+    summary_of-told-requires
     returns-in-Refused
     returns-in-Counted)

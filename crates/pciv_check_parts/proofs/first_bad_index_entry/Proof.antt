@@ -97,14 +97,14 @@ overflow_add-at-in-loop-i-3 c = search rules
 get64-requires-in-loop-i-2 : tie.Need-get64-requires-in-loop-i-2 invariant-loop-i decreases-loop-i
 get64-requires-in-loop-i-2 c κs = search rules
 
-returns-then-get64-j : tie.Need-returns-then-get64-j invariant-loop-i decreases-loop-i
-returns-then-get64-j c =
+returns-then-is_wrong : tie.Need-returns-then-is_wrong invariant-loop-i decreases-loop-i
+returns-then-is_wrong c =
     let a = c.args in
     let b = a.file.now in
     sym
     (first_below-at (bad_index_entry b a.n a.k) (index_len a.k) c.loop-i.i (omega arith) c.loop-i.invariant.3
     (bad_index_entry-place b a.n a.k c.loop-i.i
-    (λ e. c.if-get64-j.true (c.get64-in-loop-i-2.ensures ∙ e ∙ ap (λ (s : ℕ). c.loop-i.i * s) (sym c.loop-i.invariant.1)))))
+    (λ e. c.if-is_wrong.true (c.get64-in-loop-i-2.ensures ∙ e ∙ ap (λ (s : ℕ). c.loop-i.i * s) (sym c.loop-i.invariant.1)))))
 
 overflow_add-i : tie.Need-overflow_add-i invariant-loop-i decreases-loop-i
 overflow_add-i c = search rules
@@ -122,7 +122,7 @@ loop-i-preserved c =
       below_more _ _ c.loop-i.invariant.3
           (bad_index_entry-good b a.n a.k c.loop-i.i
           (sym c.get64.ensures ∙ c.if-get64.false ∙ c.get64-in-loop-i.ensures ∙ there c.before.before.before.before.before)
-          (sym c.get64-in-loop-i-2.ensures ∙ c.if-get64-j.false ∙ ap (λ (s : ℕ). c.loop-i.i * s) c.loop-i.invariant.1)),
+          (sym c.get64-in-loop-i-2.ensures ∙ c.if-is_wrong.false ∙ ap (λ (s : ℕ). c.loop-i.i * s) c.loop-i.invariant.1)),
     )
 
 returns : tie.Need-returns invariant-loop-i decreases-loop-i
@@ -156,7 +156,7 @@ first_bad_index_entry_spec =
     returns-then-get64
     overflow_add-at-in-loop-i-3
     get64-requires-in-loop-i-2
-    returns-then-get64-j
+    returns-then-is_wrong
     overflow_add-i
     loop-i-smaller
     loop-i-preserved

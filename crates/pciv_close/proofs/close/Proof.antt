@@ -34,13 +34,13 @@ first_slot c =
     ∙ first_below-cong (bad_slot (slot_parts a.primary.now a.slots.now)) (bad_slot (parts s)) (parts s).n
     (λ i h. slot_parts-slot a.primary.now a.slots.now a.distances.now (right c.before) i)
 
-sound : (c : tie.Else-slot-n) → SoundParts (parts (start_of c.before.before))
+sound : (c : tie.Else-is_missing) → SoundParts (parts (start_of c.before.before))
 sound c =
     let s = start_of c.before.before in
     record {
       entries = right c.before.before;
       slots = λ i h.
-          first_below-all (bad_slot (parts s)) (parts s).n i (omega (arith, first_slot c.before, c.if-slot-n.false)) h;
+          first_below-all (bad_slot (parts s)) (parts s).n i (omega (arith, first_slot c.before, c.if-is_missing.false)) h;
     }
 
 refuse_file-requires : tie.Need-refuse_file-requires
@@ -74,15 +74,15 @@ first_bad_slot-slot-requires c κs =
     let a = (start_of c).args in
     slot_parts-right a.primary.now a.slots.now a.distances.now (right c)
 
-refuse_file-requires-then-slot-n : tie.Need-refuse_file-requires-then-slot-n
-refuse_file-requires-then-slot-n c κs = search rules
+refuse_file-requires-then-is_missing : tie.Need-refuse_file-requires-then-is_missing
+refuse_file-requires-then-is_missing c κs = search rules
 
-returns-then-slot-n : tie.Need-returns-then-slot-n
-returns-then-slot-n c =
+returns-then-is_missing : tie.Need-returns-then-is_missing
+returns-then-is_missing c =
     let a = (start_of c.before.before.before).args in
     let e = close-slot a.primary.now a.slots.now a.distances.now a.out.now (omega arith)
     (right c.before.before.before) c.first_bad_slot-slot.result (first_slot c.before.before) (omega arith) in
-    (c.refuse_file-then-slot-n.ensures ∙ ap file_answer (sym e.0), sym e.1)
+    (c.refuse_file-then-is_missing.ensures ∙ ap file_answer (sym e.0), sym e.1)
 
 put_file-requires : tie.Need-put_file-requires
 put_file-requires c κs = (omega arith, sound c.before)
@@ -107,8 +107,8 @@ close_spec =
     refuse_file-requires-then-entry-larger
     returns-then-entry-larger
     first_bad_slot-slot-requires
-    refuse_file-requires-then-slot-n
-    returns-then-slot-n
+    refuse_file-requires-then-is_missing
+    returns-then-is_missing
     put_file-requires
     shape_of-out
     returns)

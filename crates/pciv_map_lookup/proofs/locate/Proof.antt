@@ -11,7 +11,7 @@ use Rattle.pciv_map_lookup.proofs.locate.Statement.{statement}
 use Rattle.pciv_map_lookup.proofs.locate.Tie as tie
 
 -- the slot is in overflow
-full : (c : tie.Else-byte-lt-SENTINEL) → (let a = c.args in
+full : (c : tie.Else-is_inline) → (let a = c.args in
     (file_parts a.file.now a.n a.k).byte a.slot ≡ 255)
 full c = omega (arith, c.shared_slice_known-2-1.given (40 + c.args.slot))
 
@@ -24,8 +24,8 @@ bounds-file-slot c = omega (arith, primary-inside _ _ _ c.requires.0)
 overflow_cast-result : tie.Need-overflow_cast-result
 overflow_cast-result c = search rules
 
-returns-then-byte-lt-SENTINEL : tie.Need-returns-then-byte-lt-SENTINEL
-returns-then-byte-lt-SENTINEL c =
+returns-then-is_inline : tie.Need-returns-then-is_inline
+returns-then-is_inline c =
     sym (located-inline _ c.requires.0.parts c.args.slot (omega arith))
 
 entry_of-j-requires : tie.Need-entry_of-j-requires
@@ -50,7 +50,7 @@ locate_spec =
     overflow_add-byte
     bounds-file-slot
     overflow_cast-result
-    returns-then-byte-lt-SENTINEL
+    returns-then-is_inline
     entry_of-j-requires
     entry_distance-requires
     returns)

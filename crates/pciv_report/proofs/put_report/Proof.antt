@@ -12,13 +12,13 @@ use Rattle.pciv_report.proofs.put_report.Tie as tie
 put_refusal-requires : tie.Need-put_refusal-requires
 put_refusal-requires c κs = search rules
 
-shape_of-out-then-input-gt-MAX_INPUT : tie.Need-shape_of-out-then-input-gt-MAX_INPUT
-shape_of-out-then-input-gt-MAX_INPUT c = search rules
+shape_of-out-then-is_long : tie.Need-shape_of-out-then-is_long
+shape_of-out-then-is_long c = search rules
 
-returns-then-input-gt-MAX_INPUT : tie.Need-returns-then-input-gt-MAX_INPUT
-returns-then-input-gt-MAX_INPUT c =
+returns-then-is_long : tie.Need-returns-then-is_long
+returns-then-is_long c =
     let input = c.args.input.now in
-    (rw (report_text-long input c.if-input-gt-MAX_INPUT.true) c.put_refusal.ensures.0, search rules)
+    (rw (report_text-long input c.if-is_long.true) c.put_refusal.ensures.0, search rules)
 
 check-requires : tie.Need-check-requires
 check-requires c κs = search rules
@@ -51,7 +51,7 @@ returns-in-Done c =
     let answer = sym c.in-Done.is ∙ c.check.ensures in
     let good = file_answer-done (check_file 1 input) s answer in
     let count = c.number_of.ensures ∙ ap number_of c.readings.ensures in
-    let text = report_text-done input s c.if-input-gt-MAX_INPUT.false good in
+    let text = report_text-done input s c.if-is_long.false good in
     (rw (text, ← count) c.put_map.ensures.0, search rules)
 
 shape_of-out-in-Refused : tie.Need-shape_of-out-in-Refused
@@ -63,15 +63,15 @@ returns-in-Refused c =
     let input = c.args.input.now in
     let answer = sym c.in-Refused.is ∙ c.check.ensures in
     let bad = file_answer-refused (check_file 1 input) r answer in
-    (rw (report_text-refused input r c.if-input-gt-MAX_INPUT.false bad) c.put_refusal-in-Refused.ensures.0, search rules)
+    (rw (report_text-refused input r c.if-is_long.false bad) c.put_refusal-in-Refused.ensures.0, search rules)
 
 pub put_report_spec : {M : Type 1} → statement M
 put_report_spec =
     tie.close
     (tie.spec
     put_refusal-requires
-    shape_of-out-then-input-gt-MAX_INPUT
-    returns-then-input-gt-MAX_INPUT
+    shape_of-out-then-is_long
+    returns-then-is_long
     check-requires
     enum_known-s
     readings-requires

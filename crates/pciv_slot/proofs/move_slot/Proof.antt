@@ -46,8 +46,8 @@ file_len-requires c κs =
     let h = c.requires.0.checked.header in
     (h.small, omega (arith, h.small, h.few, (law c).few))
 
-refused-requires : tie.Need-refused-requires
-refused-requires c κs = search rules
+refused-told-requires : tie.Need-refused-told-requires
+refused-told-requires c κs = search rules
 
 returns-then-buffer-file_len : tie.Need-returns-then-buffer-file_len
 returns-then-buffer-file_len c =
@@ -59,7 +59,7 @@ returns-then-buffer-file_len c =
     let sum = total (edited (held b) e) in
     let is = (law c.before.before.before).answer
     ∙ ap (λ (o : Outcome Counts). with_sum o sum) (begin-short a.n a.count b short).0 in (
-      c.refused.ensures ∙ ap₂ edit_answer (sym is) (sym (moved-refused b e _ is)),
+      c.refused-told.ensures ∙ ap₂ edit_answer (sym is) (sym (moved-refused b e _ is)),
       sym (buffer-refused b e _ is),
     )
 
@@ -137,7 +137,7 @@ move_slot_spec =
     tie.close
     (tie.spec
     file_len-requires
-    refused-requires
+    refused-told-requires
     returns-then-buffer-file_len
     entry_of-j-requires
     old_distance-old-requires

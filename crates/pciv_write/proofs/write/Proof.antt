@@ -24,7 +24,7 @@ abbrev buffer : tie.After-count_overflow-k → List ℕ
 buffer c = (entry c).args.out.now
 
 few : (c : tie.After-count_overflow-k) → length (list c) ≤ max_slots
-few c = c.if-n-gt-MAX_SLOTS.false
+few c = c.if-is_large.false
 
 opened : (b : tie.After-begin-begun)
     → (Opened (length (list b.before.before)) b.count_overflow-k.result (at (list b.before.before)) (write_outcome (list b.before.before) (length (buffer b.before.before)))
@@ -43,10 +43,10 @@ opened b =
 refuse_file-requires : tie.Need-refuse_file-requires
 refuse_file-requires c κs = search rules
 
-returns-then-n-gt-MAX_SLOTS : tie.Need-returns-then-n-gt-MAX_SLOTS
-returns-then-n-gt-MAX_SLOTS c =
+returns-then-is_large : tie.Need-returns-then-is_large
+returns-then-is_large c =
     let a = c.args in
-    let r = write-long a.distances.now a.out.now c.if-n-gt-MAX_SLOTS.true in
+    let r = write-long a.distances.now a.out.now c.if-is_large.true in
     (c.refuse_file.ensures ∙ ap file_answer (sym r.0), sym r.1)
 
 count_overflow-k-requires : tie.Need-count_overflow-k-requires
@@ -103,7 +103,7 @@ write_spec =
     tie.close
     (tie.spec
     refuse_file-requires
-    returns-then-n-gt-MAX_SLOTS
+    returns-then-is_large
     count_overflow-k-requires
     begin-begun-requires
     enum_known-begun

@@ -31,14 +31,14 @@ entry_distance-x-requires c κs =
 overflow_add-j : tie.Need-overflow_add-j invariant-loop-j decreases-loop-j
 overflow_add-j c = search rules
 
-loop-j-smaller-then-most-x : tie.Need-loop-j-smaller-then-most-x invariant-loop-j decreases-loop-j
-loop-j-smaller-then-most-x c = search rules
+loop-j-smaller-then-is_larger : tie.Need-loop-j-smaller-then-is_larger invariant-loop-j decreases-loop-j
+loop-j-smaller-then-is_larger c = search rules
 
-loop-j-preserved-then-most-x : tie.Need-loop-j-preserved-then-most-x invariant-loop-j decreases-loop-j
-loop-j-preserved-then-most-x c =
+loop-j-preserved-then-is_larger : tie.Need-loop-j-preserved-then-is_larger invariant-loop-j decreases-loop-j
+loop-j-preserved-then-is_larger c =
     let l = c.loop-j in
     most-more (parts c.before.before.before.before.before) l.j l.most c.entry_distance-x.result l.invariant
-    (omega (arith, c.if-most-x.true)) (omega (arith, c.entry_distance-x.ensures))
+    (omega (arith, c.if-is_larger.true)) (omega (arith, c.entry_distance-x.ensures))
 
 loop-j-smaller : tie.Need-loop-j-smaller invariant-loop-j decreases-loop-j
 loop-j-smaller c = search rules
@@ -47,7 +47,7 @@ loop-j-preserved : tie.Need-loop-j-preserved invariant-loop-j decreases-loop-j
 loop-j-preserved c =
     let l = c.loop-j in
     most-more (parts c.before.before.before.before.before) l.j l.most l.most l.invariant (omega arith)
-    (omega (arith, c.if-most-x.false, c.entry_distance-x.ensures))
+    (omega (arith, c.if-is_larger.false, c.entry_distance-x.ensures))
 
 returns : tie.Need-returns invariant-loop-j decreases-loop-j
 returns c =
@@ -65,8 +65,8 @@ most_in_spec =
     loop-j-init
     entry_distance-x-requires
     overflow_add-j
-    loop-j-smaller-then-most-x
-    loop-j-preserved-then-most-x
+    loop-j-smaller-then-is_larger
+    loop-j-preserved-then-is_larger
     loop-j-smaller
     loop-j-preserved
     returns)

@@ -69,17 +69,17 @@ overflow_add-j c =
 put_entry-at-requires : tie.Need-put_entry-at-requires invariant-loop-j decreases-loop-j
 put_entry-at-requires c κs =
     entries_fit (along c.before.before.before.before.before) c.loop-j.j c.loop-j-test.true c.loop-j.invariant.1
-    (omega (arith, c.combine_entry-entry.ensures.distance, c.if-entry-ge255.true))
+    (omega (arith, c.combine_entry-entry.ensures.distance, c.if-is_far.true))
 
-loop-j-smaller-then-entry-ge255 : tie.Need-loop-j-smaller-then-entry-ge255 invariant-loop-j decreases-loop-j
-loop-j-smaller-then-entry-ge255 c = search rules
+loop-j-smaller-then-is_far : tie.Need-loop-j-smaller-then-is_far invariant-loop-j decreases-loop-j
+loop-j-smaller-then-is_far c = search rules
 
-loop-j-preserved-then-entry-ge255 : tie.Need-loop-j-preserved-then-entry-ge255 invariant-loop-j decreases-loop-j
-loop-j-preserved-then-entry-ge255 c =
+loop-j-preserved-then-is_far : tie.Need-loop-j-preserved-then-is_far invariant-loop-j decreases-loop-j
+loop-j-preserved-then-is_far c =
     let at = c.combine_entry-entry.ensures in (
       next c.before.before.before.before.before.before,
       entries-entry (along c.before.before.before.before.before.before.before.before) c.loop-j.j c.loop-j-test.true c.loop-j.invariant.1
-          (omega (arith, at.distance, c.if-entry-ge255.true))
+          (omega (arith, at.distance, c.if-is_far.true))
           _ _ _ _ at.slot at.distance c.put_entry-at.ensures.1 c.put_entry-at.ensures.0,
     )
 
@@ -111,8 +111,8 @@ put_led_spec =
     combine_entry-entry-requires
     overflow_add-j
     put_entry-at-requires
-    loop-j-smaller-then-entry-ge255
-    loop-j-preserved-then-entry-ge255
+    loop-j-smaller-then-is_far
+    loop-j-preserved-then-is_far
     loop-j-smaller
     loop-j-preserved
     shape_of-out

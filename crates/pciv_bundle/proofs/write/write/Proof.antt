@@ -21,7 +21,7 @@ use Rattle.pciv_bundle.proofs.write.write.Tie as tie
 abbrev fs : tie.Start → List (List ℕ)
 fs s = map (λ (x : Bor (List ℕ)). x.now) s.args.frames.now
 
-abbrev entry : tie.Else-count-gt-MAX_FRAMES → tie.Start
+abbrev entry : tie.Else-has_many → tie.Start
 entry c = c.before.before.before.before
 
 refuse_number-requires : tie.Need-refuse_number-requires
@@ -33,14 +33,14 @@ returns-then-count-lt1 c =
     let none = write-none (fs c.before.before.before.before) c.args.count (length c.args.out.now) c.if-count-lt1.true in
     (c.refuse_number.ensures ∙ ap number_answer (sym none), rw none)
 
-refuse_number-requires-then-count-gt-MAX_FRAMES : tie.Need-refuse_number-requires-then-count-gt-MAX_FRAMES
-refuse_number-requires-then-count-gt-MAX_FRAMES c κs = search rules
+refuse_number-requires-then-has_many : tie.Need-refuse_number-requires-then-has_many
+refuse_number-requires-then-has_many c κs = search rules
 
-returns-then-count-gt-MAX_FRAMES : tie.Need-returns-then-count-gt-MAX_FRAMES
+returns-then-has_many : tie.Need-returns-then-has_many
 unfolding bundle_write_buffer
-returns-then-count-gt-MAX_FRAMES c =
-    let many = write-many (fs c.before.before.before.before.before) c.args.count (length c.args.out.now) c.if-count-gt-MAX_FRAMES.true in
-    (c.refuse_number-then-count-gt-MAX_FRAMES.ensures ∙ ap number_answer (sym many), rw many)
+returns-then-has_many c =
+    let many = write-many (fs c.before.before.before.before.before) c.args.count (length c.args.out.now) c.if-has_many.true in
+    (c.refuse_number-then-has_many.ensures ∙ ap number_answer (sym many), rw many)
 
 bounds-lent-0 : tie.Need-bounds-lent-0
 bounds-lent-0 c = search rules
@@ -58,16 +58,16 @@ enum_known-checked-in-Number-1 : tie.Need-enum_known-checked-in-Number-1
 enum_known-checked-in-Number-1 c = search rules
 
 -- from 1 to 8 frames are used, and eight are there
-some : (c : tie.Else-count-gt-MAX_FRAMES) → 1 ≤ (entry c).args.count
+some : (c : tie.Else-has_many) → 1 ≤ (entry c).args.count
 some c = c.if-count-lt1.false
 
-few : (c : tie.Else-count-gt-MAX_FRAMES) → (entry c).args.count ≤ 8
-few c = c.if-count-gt-MAX_FRAMES.false
+few : (c : tie.Else-has_many) → (entry c).args.count ≤ 8
+few c = c.if-has_many.false
 
-eight : (c : tie.Else-count-gt-MAX_FRAMES) → length (entry c).args.frames.now ≡ 8
+eight : (c : tie.Else-has_many) → length (entry c).args.frames.now ≡ 8
 eight c = omega (arith, c.lent-1.given)
 
-there : (c : tie.Else-count-gt-MAX_FRAMES) → length (take (entry c).args.count (fs (entry c))) ≡ (entry c).args.count
+there : (c : tie.Else-has_many) → length (take (entry c).args.count (fs (entry c))) ≡ (entry c).args.count
 there c = used-length (entry c).args.frames.now _ (eight c) (few c)
 
 -- what their check has found, against the n that was read of the first, and so against its n
@@ -153,8 +153,8 @@ write_spec =
     (tie.spec
     refuse_number-requires
     returns-then-count-lt1
-    refuse_number-requires-then-count-gt-MAX_FRAMES
-    returns-then-count-gt-MAX_FRAMES
+    refuse_number-requires-then-has_many
+    returns-then-has_many
     bounds-lent-0
     slots_of-requires
     check_lent-checked-requires
