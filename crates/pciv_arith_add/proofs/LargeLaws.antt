@@ -1,8 +1,8 @@
 -- The walk for the least slot where the result is too large.
 --   Walked        its invariant: no slot below `slot` is too large, both cursors stand there, and it is the next
 --                 one with an entry in either map
---   walked_start, -more    at the first slot with an entry in either map, and at the next one
---   walked-found, -none    the slot is too large, or no slot is
+--   walked_start, _more    at the first slot with an entry in either map, and at the next one
+--   walked-found, _none    the slot is too large, or no slot is
 --   MostOf, most-more, most-all    a distance that none is above: of the entries before j, one entry on, of all slots
 --   none-large    no slot is too large where the largest of both are not
 -- Axioms: none.

@@ -1,6 +1,6 @@
 -- Laws of signed differences that are put right entry by entry.
 --   bytes-more                a part of the differences of bytes, raised and lowered again, is written
---   moved_more, -done, -all   one entry on; none left; what all entries of a map make of a list
+--   moved_more, -done, _all   one entry on; none left; what all entries of a map make of a list
 --   excess-subtracted, -reduced    a difference of 255 moved by what a distance exceeds it
 --   small-table, -more        numbers that are small: in a table, and past an entry
 --   with_bytes, with_one, with_both   the list with the differences of bytes, of a's bytes and b's distances, of distances

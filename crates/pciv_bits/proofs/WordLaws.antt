@@ -2,7 +2,7 @@
 --   ones_shr           the word of c set bits
 --   word-flip          the word of flags, or of their negations
 --   word-alike         the word of flags that are all alike
---   word_end, -more, -fits    a word made from its highest bit down
+--   word_end, _more, _fits    a word made from its highest bit down
 --   mask_word-is        word w of a mask, by the slots that it has
 --   left-two, -mask    two words of a table written, and the last of a mask
 -- Axioms: none.

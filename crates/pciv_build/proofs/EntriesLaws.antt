@@ -2,7 +2,7 @@
 --   slots_from-is, -start, -more, -skip, -gap, -end    the slots in overflow that are left
 --   count-slots_from     their number at first
 --   entries-start, -more, -skip, -gap, -end           a walk that writes their entries
---   Counted, counted_start, -more, -skip, -gap, -end  a walk that counts them
+--   Counted, counted_start, -more, _skip, -gap, -end  a walk that counts them
 --   -start, -more, -skip, -gap, -end    before the first slot; past a slot in overflow; past one that is not; past all
 --                       slots up to s, none of which is in overflow; after the last slot
 --   entries-space       there is space for the entry of a slot in overflow

@@ -2,7 +2,7 @@
 --   same_count         the primary bytes of v tell its slots in overflow
 --   Filling            the invariant: the entries of the slots from i on are left, and their slots stand in the buffer
 --   Next, fill-next    the next slot in overflow is the one that stands at the next entry
---   fill_start, -more, -end    before the first entry; one entry on; after the last
+--   fill_start, _more, _end    before the first entry; one entry on; after the last
 --   fill-over          what `put_slots` has written does not count then
 -- Axioms: none.
 use mathlib.Core.Path.{◌≡◌, refl, sym, ap, ◌∙◌}

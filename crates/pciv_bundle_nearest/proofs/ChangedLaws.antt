@@ -4,7 +4,7 @@
 --   changed-cong            changes that agree
 --   Turns G fs n old new f  changing the first n elements by every frame from the start on equals changing them by the
 --                           frames from f on
---   turns-start, -more, -end    no frame yet, one more, and all
+--   turns-start, _more, -end    no frame yet, one more, and all
 -- Axioms: none.
 use Rattle.std.proofs.Common.{◌≡◌, ℕ, suc, ◌+◌, ◌<◌, ◌≤◌, List, [], length, get_or, drop, set, sym, refl, ap, ◌∙◌, add-one, arith, length-set, drop_of_length-le, drop-cons, get_or-set_other, get_or-set_same}
 use native.Mathlib.Decide.{dec_le}

@@ -1,6 +1,6 @@
 -- Laws of disparity tables and of maps of frames, case by case.
---   distance_none, -some       the distance of disparity 0, and of every other one
---   table-refused, -filled     the outcome and the table for the constant 0, and for every other one
+--   distance_none, _some       the distance of disparity 0, and of every other one
+--   table-refused, _filled     the outcome and the table for the constant 0, and for every other one
 --   answer-refused, -filled    the answer made of them
 --   frame-long                 the frame is too long
 --   frame-into, frame_buffer-is     else the answer is that of writing the file; the buffer, by the answer

@@ -3,7 +3,7 @@
 --                        what is left of a run of es, begun with buffer b₀ and answers out₀: the edits `rest`, from b
 --                        and out on, the next answer going to place `to`
 --   run_cells b es        the answers of a run as numbers
---   left-start, -more, -end    before, between and after its edits
+--   left-start, -more, _end    before, between and after its edits
 --   edit_at, edits_from    the edits of a list of slots and a list of distances;  edits-more, -end  those from i on
 --   cells-refused, -done    the numbers of one answer
 --   list-refused, list-fewer-slots, -distances, list-short, list_done    what the run answers

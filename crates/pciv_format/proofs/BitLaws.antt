@@ -6,9 +6,9 @@
 --   bits-inj, bits_none    numbers below 2 ^ c with the same c bits are equal
 --   word_lt, word-cong     the word of c bits is below 2 ^ c, and the same where they are
 --   bit_at-word, -past      its bits;  word-unique  no other number below 2 ^ c has them
---   trailing-bit, -lt      the bit above the trailing zeros is set, and its place is below the number of bits
+--   trailing-bit, _lt      the bit above the trailing zeros is set, and its place is below the number of bits
 --   half_pos               where the lowest bit is not set, it is one of the half
---   less-lt, -lowest, -other    x & (x - 1) is less than x: the lowest set bit is not left, and all others are
+--   less-lt, -lowest, _other    x & (x - 1) is less than x: the lowest set bit is not left, and all others are
 --   less-even, -odd        x & (x - 1) by halves
 --   ones-bits              the count of ones is the sum of the bits
 -- Axioms: none.

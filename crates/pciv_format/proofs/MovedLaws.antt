@@ -1,6 +1,6 @@
 -- The overflow entries that an edit moves (docs/FORMAT.md, "The editor").
 --   above-overflow, -inline    the entries of a list, around a slot
---   moved-stays, -into, -out   an edit of a list that stays inline or in overflow; one into overflow, and out of it
+--   moved-stays, -into, _out   an edit of a list that stays inline or in overflow; one into overflow, and out of it
 --   moved-done, -refused       the editor's number, by its outcome;  plain-refused  the plain editor's
 --   moved-le, edit-moved-le    at most as many as there were
 --   has_entry, renumbered       a slot has an entry in a file;  one in each of two files, with different numbers

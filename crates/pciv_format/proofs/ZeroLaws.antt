@@ -6,7 +6,7 @@
 --   shift-readings     a shifted list has as many readings, for every d
 --   shift-file         the file of a list becomes the file of the list of shifted distances
 --   shift-large        refusal 11 names a slot whose distance is not 0
---   near-iff, -none    the near mask's test says: from 1 to t; it fails above t
+--   near-iff, _none    the near mask's test says: from 1 to t; it fails above t
 --   near-mask-has      a bit of the near mask of a list's file, over any number of words
 --   near-mask-empty    at t = 0 all words are 0
 --   near-at-most       it is the mask for at most t without the zero distances

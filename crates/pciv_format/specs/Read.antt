@@ -69,7 +69,7 @@ only_done (refused r) l = []
 unfoldable pub primary_part : List ℕ → List ℕ
 primary_part b = only_done (counts_file 1 b) (take (n_field b) (drop 40 b))
 
--- a place is a block of memory and an offset in it, as `ptr` gives it for a reference
+-- a place is a block of memory and an offset in it, as `ref_ptr` of a reference is
 abbrev pub behind : ℕ → ℕ × ℕ → ℕ × ℕ
 behind i p = (p.0, i + p.1)
 

@@ -1,6 +1,6 @@
 -- Writing f at n slots where a file has its primary array, 64 slots or one a turn.
 --   SlotsLeft f n d₀ i₀ d i    all that was left at slot i₀ of d₀ is what is left at slot i of d
---   slots-start, -word, -one, -end    nothing is written yet, 64 slots more, one more, and all
+--   slots-start, -word, -one, _end    nothing is written yet, 64 slots more, one more, and all
 -- Axioms: none.
 use mathlib.Core.Path.{◌≡◌, refl, sym, ap, ◌∙◌}
 use Prim.Native.Nat.{ℕ, ◌+◌, ◌-◌, ◌≤◌, ◌<◌}

@@ -1,6 +1,6 @@
 -- A map with 1 added where a mask is 1.
 --   FineTo P ws j          no slot below the least that entry j may have is too large
---   fine-start, -more, -found, -all    it holds at first and one entry on; an entry is too large, and none is
+--   fine-start, _more, -found, -all    it holds at first and one entry on; an entry is too large, and none is
 --   raised-le, word-raised    at most one for each slot; what is picked in a word, as a part of a sum over all slots
 --   raised-count           the slots in overflow are the map's own and those that come to it
 --   Raising P ws d₀ d at j    the walk that writes the entries: those of slots from `from` on are left, and the cursor

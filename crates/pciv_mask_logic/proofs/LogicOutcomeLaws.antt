@@ -1,6 +1,6 @@
 -- What the mask routines answer and write, case by case.
 --   masks-many, -bad, -good    too many slots, a mask at fault, or what follows
---   mask-short, -done          a mask into a list of too few words, or enough
+--   mask-short, _done          a mask into a list of too few words, or enough
 --   combine-is, complement-is  the outcome by the test of the masks that the code makes
 --   combine-refused, complement-refused          a refused call changes no word
 --   combine-fits, -written, complement-fits, -written    where it is done the words fit, and are those that are written

@@ -1,6 +1,6 @@
 -- Every line of the list is true, and the lines stand in their order.
 --   Every Q cs            every change of cs has Q
---   every_append, -map    of two lists, and of changes made of numbers
+--   every_append, _map    of two lists, and of changes made of numbers
 --   Sorted from cs        cs are in order, and of kind `from` at the least
 --   sorted-lines          changes of one kind, made of the numbers with p, in front of changes of later kinds
 --   corrections-true      every line tells a change that the repair makes

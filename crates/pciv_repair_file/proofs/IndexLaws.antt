@@ -2,7 +2,7 @@
 --   kept_small            the kept entries are few enough
 --   length-after, length-rebuilt    how many bytes there are, and the length of that index
 --   RightIndex            index entry i there is that of the kept entries
---   index_same, -read     where all are so, the bytes are the index, and back
+--   index_same, _read     where all are so, the bytes are the index, and back
 --   index-space           where an index entry lies
 --   index-other, -wrong   where the lengths differ, or an entry is another one, they are not
 --   Comparing             a walk over the entries that has compared the index entries below i

@@ -2,7 +2,7 @@
 --   lowest_kept-none, -last    the least slot that an entry may have, by the last entry that is kept before it
 --   kept-rise                 the slots of the kept entries rise
 --   MayStay P j, kept-iff     an entry is kept exactly where it is right beside those kept before it
---   value-inline, -kept, -set, -free    the distance of a slot: its byte, that of its kept entry, or 254
+--   value-inline, -kept, _set, -free    the distance of a slot: its byte, that of its kept entry, or 254
 --   right-all                 where every entry is right, every entry is kept
 --   sound-set, sound-value    where the parts are sound, no byte is set, and each distance stays
 --   kept-bytes                the bytes of the kept entries are those that stood in the file

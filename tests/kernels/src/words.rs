@@ -123,7 +123,7 @@ fn is(word: &str, instruction: &Instruction) -> bool {
         "load8" => instruction.copies() || loads && (wide || half || widening),
         "store16" => instruction.copies() || stores && wide,
         "store8" => instruction.copies() || stores && (wide || half || whole),
-        "popcnt" => mnemonic == "popcnt",
+        "popcnt" => mnemonic == word && is_whole(to),
         "byte" => loads && (mnemonic.starts_with("movzb") || mnemonic.starts_with("movsb")),
         _ => mnemonic == word && operands.iter().any(|operand| is_packed(operand)),
     }

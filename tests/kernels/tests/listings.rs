@@ -292,6 +292,48 @@ fn eight_bytes_are_stored_from_any_register() {
     }
 }
 
+/// Eight bytes are loaded at once where they are widened too, four are not enough.
+#[test]
+fn eight_bytes_are_loaded_where_they_are_widened() {
+    const SUM: Kernel = Kernel::new("sum", "paddw load8 !byte");
+    let loop_of = |load: &str| {
+        format!(
+            "
+  10:\t{load} (%rdi,%rax,1),%xmm1
+  15:\tpaddw  %xmm1,%xmm2
+  19:\tadd    $0x8,%rax
+  1d:\tcmp    %rax,%rsi
+  20:\tjne    10 <SELF+0x10>
+  22:\tret"
+        )
+    };
+    let text = |load| function("pciv_check", RETURN) + &function("pciv_a", &loop_of(load));
+    let routines: [Routine; 2] = [("pciv_check", &[]), ("pciv_a", &[SUM])];
+    assert_eq!(faults(&text("pmovzxbw"), &routines), [""; 0]);
+    assert_eq!(faults(&text("pmovzxbd"), &routines).len(), 1);
+}
+
+/// The bits of 64 are counted at once, those of 32 are half a word.
+#[test]
+fn a_count_of_bits_takes_whole_words() {
+    const BITS: Kernel = Kernel::new("bits", "popcnt");
+    let loop_of = |from: &str, to: &str| {
+        format!(
+            "
+  10:\tpopcnt ({from},%rax,8),{to}
+  16:\tadd    %rcx,%r8
+  19:\tinc    %rax
+  1c:\tcmp    %rax,%rsi
+  1f:\tjne    10 <SELF+0x10>
+  21:\tret"
+        )
+    };
+    let text = |to| function("pciv_check", RETURN) + &function("pciv_a", &loop_of("%rdi", to));
+    let routines: [Routine; 2] = [("pciv_check", &[]), ("pciv_a", &[BITS])];
+    assert_eq!(faults(&text("%rcx"), &routines), [""; 0]);
+    assert_eq!(faults(&text("%ecx"), &routines).len(), 1);
+}
+
 #[test]
 fn every_routine_has_a_rule_and_every_rule_a_routine() {
     let text = function("pciv_a", PACKED) + &function("pciv_b", RETURN);

@@ -15,17 +15,21 @@ use Rattle.pciv_format.proofs.RefusalsLaws.{counts_answer-counted, counts_answer
 use Rattle.pciv_format.proofs.ReadCaseLaws.{checked, list-refused, list-outside, list_inside, list-short}
 use Rattle.pciv_format.proofs.ReadCaseLaws.{list_done, list-buffer, list-entries}
 use Rattle.pciv_read.proofs.lookup_list.Goals as goal
+use Rattle.pciv_read.proofs.lookup_list.Goals.{In-Counted}
 
 -- every slot of a list of k is below n
 abbrev Inside : ℕ → List ℕ → Type 0
 Inside n xs = length xs ≤ first_below (λ (i : ℕ). leb n (get_or xs i 0)) (length xs)
 
+-- the counts of the file, which the check has shown
+is-map : (c : In-Counted) → counts_file 1 c.args.file.now ≡ done c.in-Counted.s
+is-map c = counts_answer-counted _ _ (sym c.in-Counted.is ∙ c.check_counts-checked.ensures.answer)
+
 pub returns-then-outside-slots : goal.returns-then-outside-slots
 unfolding lookup_list_buffer lookup_list_entries
 returns-then-outside-slots c =
     let a = c.args in
-    let map : counts_file 1 a.file.now ≡ done c.in-Counted.s =
-    counts_answer-counted _ _ (sym c.in-Counted.is ∙ c.check_counts-checked.ensures.answer) in
+    let map = is-map (goal.at.returns-then-outside-slots c).In-Counted in
     let o =
     list-outside a.file.now _ map a.slots.now (length a.distances.now) (length a.entries.now) _ c.first_outside-outside.ensures
     c.if-outside-slots.true in
@@ -35,8 +39,7 @@ pub returns-then-short : goal.returns-then-short
 unfolding lookup_list_buffer lookup_list_entries
 returns-then-short c =
     let a = c.args in
-    let map : counts_file 1 a.file.now ≡ done c.in-Counted.s =
-    counts_answer-counted _ _ (sym c.in-Counted.is ∙ c.check_counts-checked.ensures.answer) in
+    let map = is-map (goal.at.returns-then-short c).In-Counted in
     let inside : Inside c.in-Counted.s.n a.slots.now = omega (arith, c.first_outside-outside.ensures) in
     let o =
     list-short a.file.now _ map a.slots.now inside (length a.distances.now) (length a.entries.now)
@@ -46,8 +49,7 @@ returns-then-short c =
 pub locate_into-requires : goal.locate_into-requires
 locate_into-requires c =
     let a = c.args in
-    let map : counts_file 1 a.file.now ≡ done c.in-Counted.s =
-    counts_answer-counted _ _ (sym c.in-Counted.is ∙ c.check_counts-checked.ensures.answer) in
+    let map = is-map (goal.at.locate_into-requires c).In-Counted in
     let inside : Inside c.in-Counted.s.n a.slots.now = omega (arith, c.first_outside-outside.ensures) in
     let fits = ltb-false _ _ (sym c.either_short-short.ensures ∙ c.if-short.false) in
     record {
@@ -69,8 +71,7 @@ returns-else-short c =
     let a = c.args in
     let file = a.file.now in
     let slots = a.slots.now in
-    let map : counts_file 1 file ≡ done c.in-Counted.s =
-    counts_answer-counted _ _ (sym c.in-Counted.is ∙ c.check_counts-checked.ensures.answer) in
+    let map = is-map (goal.at.returns-else-short c).In-Counted in
     let inside : Inside c.in-Counted.s.n slots = omega (arith, c.first_outside-outside.ensures) in
     let fits = ltb-false _ _ (sym c.either_short-short.ensures ∙ c.if-short.false) in
     record {
