@@ -7,6 +7,7 @@
 --   shift-refused             the file is refused, and the buffer stays
 --   shift-written             else the file of the shifted map is written
 -- Axioms: none.
+use Rattle.std.proofs.Common.{Ok, Err}
 use mathlib.Core.Path.{◌≡◌, refl, sym, ap, ◌∙◌}
 use Prim.Native.Nat.{ℕ, suc, ◌+◌, ◌^◌, ◌<◌}
 use native.Mathlib.Omega.{arith}
@@ -20,7 +21,6 @@ use mir.Syntax.{w32, w64}
 use mir.Val.{Fits, SFits}
 use borrow.Author.Tests.{ltb-true}
 use Rattle.pciv_format.specs.Layout.{at}
-use Rattle.pciv_format.specs.Refusals.{done, refused, file_answer}
 use Rattle.pciv_format.specs.Parts.{Parts, value_of}
 use Rattle.pciv_format.specs.Check.{file_parts, counts_file, CheckedMap}
 use Rattle.pciv_format.specs.Read.{list_of}
@@ -28,8 +28,6 @@ use Rattle.pciv_format.specs.Write.{map_into, file_buffer}
 use Rattle.pciv_format.specs.Arith.{shifted_by, shift_outcome, shift_buffer}
 use Rattle.pciv_format.specs.declared.Counts.{Counts}
 use Rattle.pciv_format.specs.declared.Refusal.{Refusal}
-use Rattle.pciv_format.specs.declared.FileAnswer.{FileAnswer}
-use Rattle.pciv_format.specs.declared.FileAnswer.TheVariants.{Refused}
 use Rattle.pciv_format.proofs.CheckLaws.{done-counts}
 use Rattle.pciv_format.proofs.ReadLaws.{length-list_of, at-list}
 use Rattle.pciv_format.proofs.ZeroLaws.{shift-up, shift-down}
@@ -85,12 +83,12 @@ lower-is (negsuc y) m x e = let same : m ≡ suc y = cc in rw same (sym (shift-d
 
 -- ---- the map
 
-pub shift-refused : (b : List ℕ) (r : Refusal) → counts_file 1 b ≡ refused r → (d : ℤ) (out : List ℕ)
-    → (Refused r ≡ file_answer (shift_outcome b d (length out))) × (out ≡ shift_buffer b d out)
+pub shift-refused : (b : List ℕ) (r : Refusal) → counts_file 1 b ≡ Err r → (d : ℤ) (out : List ℕ)
+    → (Err r ≡ (shift_outcome b d (length out))) × (out ≡ shift_buffer b d out)
 unfolding shift_outcome shift_buffer
 shift-refused b r e d out = (rw e, rw e)
 
-module _ (b : List ℕ) (s : Counts) (e : counts_file 1 b ≡ done s) (d : ℤ) where
+module _ (b : List ℕ) (s : Counts) (e : counts_file 1 b ≡ Ok s) (d : ℤ) where
   pub checked : CheckedMap b s.n s.k
   checked = (done-counts 1 b s e).0
 
@@ -106,9 +104,9 @@ module _ (b : List ℕ) (s : Counts) (e : counts_file 1 b ≡ done s) (d : ℤ) 
     same i h =
         is i ∙ ap (shifted_by d) (sym (at-list b s.n s.k checked.header.n_is checked.header.k_is i h))
 
-    pub shift-written : (out d' : List ℕ) (x : FileAnswer) → x ≡ file_answer (map_into s.n v (length out))
+    pub shift-written : (out d' : List ℕ) (x : Outcome Summary) → x ≡ (map_into s.n v (length out))
         → d' ≡ file_buffer (map_into s.n v (length out)) s.n v out
-        → (x ≡ file_answer (shift_outcome b d (length out))) × (d' ≡ shift_buffer b d out)
+        → (x ≡ (shift_outcome b d (length out))) × (d' ≡ shift_buffer b d out)
     unfolding shift_outcome shift_buffer
     shift-written out d' x answer buffer =
         map-written s.n v shifted same (length (list_of b)) (length-list_of b ∙ checked.header.n_is) out d' x

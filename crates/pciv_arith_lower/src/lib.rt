@@ -6,13 +6,12 @@
 ghost use Rattle.std.specs.Prelude.{◌≡◌, ◌+◌, ◌*◌, ◌≤◌, length};
 ghost use Rattle.std.proofs.lemmas.List.Edits.{sets};
 ghost use Rattle.pciv_format.specs.Layout.{primary, overflow_count, overflow_part};
-ghost use Rattle.pciv_format.specs.Refusals.{file_answer};
 ghost use Rattle.pciv_format.specs.Check.{file_parts, CheckedMap};
 ghost use Rattle.pciv_format.specs.Write.{map_into, file_buffer};
 ghost use Rattle.pciv_arith_lower.specs.Lowered.{lowered, lowered_at};
 
 use pciv_build::{begin, finish, put_entry};
-use pciv_format::{CountsAnswer, FileAnswer, HEADER_LEN};
+use pciv_format::{HEADER_LEN, Refusal, Summary};
 use pciv_layout::primary_byte;
 use pciv_map::entries::{entry_distance, entry_slot};
 use pciv_map::totals::summary_of;
@@ -84,20 +83,15 @@ fn put_entries(out: &mut [u8], file: &[u8], n: usize, k: usize, m: u32)
 }
 
 // Writes the result's file to the front of out. Refusal: 12.
-pub fn lowered_into(file: &[u8], n: usize, k: usize, m: u32, out: &mut [u8]) -> FileAnswer
+pub fn lowered_into(file: &[u8], n: usize, k: usize, m: u32, out: &mut [u8]) -> Result<Summary, Refusal>
     requires { CheckedMap file.now n k }
-    ensures answer { result ≡ file_answer (map_into n (lowered_at (file_parts file.now n k) m) (length out.old)) }
+    ensures answer { result ≡ map_into n (lowered_at (file_parts file.now n k) m) (length out.old) }
     ensures buffer { out.new ≡ file_buffer (map_into n (lowered_at (file_parts file.now n k) m) (length out.old)) n (lowered_at (file_parts file.now n k) m) out.old }
 {
     let count = count_lowered(file, n, k, m);
-    let begun = begin(out, n, count);
-    match begun {
-        CountsAnswer::Refused(r) => FileAnswer::Refused(r),
-        CountsAnswer::Counted(c) => {
-            put_primary(out, file, n, k, m);
-            put_entries(out, file, n, k, m);
-            finish(out, n, count);
-            FileAnswer::Done(summary_of(out, c))
-        }
-    }
+    let c = begin(out, n, count)?;
+    put_primary(out, file, n, k, m);
+    put_entries(out, file, n, k, m);
+    finish(out, n, count);
+    Ok(summary_of(out, c))
 }

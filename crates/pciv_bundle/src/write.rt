@@ -2,18 +2,15 @@
 ghost use Rattle.std.specs.Prelude.{◌≡◌, ℕ, ◌+◌, ◌≤◌, ◌<◌, ◌^◌, map, length, take};
 ghost use Rattle.std.proofs.lemmas.List.Edits.{sets};
 ghost use Rattle.pciv_format.specs.Check.{n_field};
-ghost use Rattle.pciv_format.specs.Refusals.{number_answer};
 ghost use Rattle.pciv_bundle_records.specs.Records.{record_of, record_bytes, header_of, bundle_of};
 ghost use Rattle.pciv_bundle.specs.Bundle.{ShortFrames, bundle_write_outcome, bundle_write_buffer};
 
 use pciv_bundle_frames::check_lent;
-use pciv_bundle_records::{
-    FRAME_KIND, HEADER_KIND, HEADER_RECORD_LEN, KIND_LEN, MAX_FRAMES, PREFIX_LEN,
-};
+use pciv_bundle_records::{FRAME_KIND, HEADER_KIND, HEADER_RECORD_LEN, KIND_LEN, MAX_FRAMES, PREFIX_LEN};
 use pciv_bytes::copies::copy_bytes;
 use pciv_bytes::little_endian::{get64, put16, put32};
-use pciv_format::{BAD_BUNDLE, BUFFER_TOO_SMALL, HEADER_LEN, NumberAnswer};
-use pciv_layout::refusals::refuse_number;
+use pciv_format::{HEADER_LEN, Refusal, RefusalKind};
+use pciv_layout::refusals::refuse;
 
 // The n of a file's header; 0 where there is no whole header, and the file is refused.
 fn slots_of(file: &[u8]) -> usize
@@ -82,32 +79,27 @@ fn put_bundle(frames: &[&[u8]], count: usize, n: usize, out: &mut [u8])
 // Writes the first `count` of eight frames as a bundle to the front of the caller's buffer; answers how many bytes. The
 // others are not looked at. Refusals: 14 where `count` is not from 1 to 8, then each used frame's 1 to 8, then 10 against
 // the n of the first, then 12.
-pub fn write(frames: &[&[u8]; 8], count: usize, out: &mut [u8]) -> NumberAnswer
+pub fn write(frames: &[&[u8]; 8], count: usize, out: &mut [u8]) -> Result<usize, Refusal>
     ensures answer { result
-        ≡ number_answer (bundle_write_outcome (map (λ x. x.now) frames.now) count (length out.old)) }
+        ≡ bundle_write_outcome (map (λ x. x.now) frames.now) count (length out.old) }
     ensures buffer { out.new
         ≡ bundle_write_buffer (map (λ x. x.now) frames.now) count out.old }
 {
     // a slice made of the array is known to have eight elements
     let lent: &[&[u8]] = frames;
     if count < 1 {
-        return refuse_number(BAD_BUNDLE, 0, 0);
+        return refuse(RefusalKind::BadBundle, 0, 0);
     }
     let has_many = MAX_FRAMES < count;
     if has_many {
-        return refuse_number(BAD_BUNDLE, 0, 0);
+        return refuse(RefusalKind::BadBundle, 0, 0);
     }
     let first = lent[0];
-    let checked = check_lent(frames, count, slots_of(first));
-    match checked {
-        NumberAnswer::Refused(r) => NumberAnswer::Refused(r),
-        NumberAnswer::Number(n) => {
-            let len = bundle_len(lent, count);
-            if out.len() < len {
-                return refuse_number(BUFFER_TOO_SMALL, 0, 0);
-            }
-            put_bundle(lent, count, n, out);
-            NumberAnswer::Number(len)
-        }
+    let n = check_lent(frames, count, slots_of(first))?;
+    let len = bundle_len(lent, count);
+    if out.len() < len {
+        return refuse(RefusalKind::BufferTooSmall, 0, 0);
     }
+    put_bundle(lent, count, n, out);
+    Ok(len)
 }

@@ -8,6 +8,8 @@
 --   frame-checked            a frame of checked frames is a checked map
 --   frames_outcome-any        where the first frame has no whole header, the outcome is the same for every n
 -- Axioms: none.
+use Rattle.std.proofs.Common.{Ok, Err}
+use Rattle.pciv_format.specs.declared.RefusalKind.TheVariants.{TruncatedHeader, SizeMismatch}
 use mathlib.Core.Path.{◌≡◌, refl, sym, subst, ap, ◌∙◌}
 use Prim.Native.Nat.{ℕ, zero, suc, ◌+◌, ◌≤◌, ◌<◌, ◌^◌}
 use native.Mathlib.Nat.{add-zero}
@@ -22,12 +24,10 @@ use borrow.Author.Tests.{lt-ltb, ltb-false}
 use Rattle.pciv_bytes.specs.Ranges.{first_below}
 use Rattle.pciv_bytes.proofs.RangesLaws.{first_below-none, first_below-le, first_below-all, first_below-more}
 use Rattle.pciv_format.specs.Layout.{file_len, counts_of}
-use Rattle.pciv_format.specs.Refusals.{done, refuse, refuse_if, and_then, number_answer}
+use Rattle.pciv_format.specs.Refusals.{refuse, refuse_if, and_then}
 use Rattle.pciv_format.specs.Check.{n_field, k_field, counts_file, check_header, check_with, other_length, CheckedMap}
 use Rattle.pciv_format.specs.declared.Counts.{Counts}
 use Rattle.pciv_format.specs.declared.Refusal.{Refusal}
-use Rattle.pciv_format.specs.declared.NumberAnswer.{NumberAnswer}
-use Rattle.pciv_format.specs.declared.NumberAnswer.TheVariants as InNumber
 use Rattle.pciv_format.proofs.PartsLaws.{not_eqb}
 use Rattle.pciv_format.proofs.RefusalsLaws.{refuse_if-done, and_then-done, and_then-refused}
 use Rattle.pciv_format.proofs.RefusalsLaws.{number_answer-number, number_answer-refused}
@@ -52,12 +52,12 @@ passed_none n fs =
     }
 
 -- the counts of a sound frame have its slots
-slots-are : (mp : ℕ) (b : List ℕ) (s : Counts) → counts_file mp b ≡ done s → s.n ≡ n_field b
+slots-are : (mp : ℕ) (b : List ℕ) (s : Counts) → counts_file mp b ≡ Ok s → s.n ≡ n_field b
 unfolding counts_of
 slots-are mp b s e = ap (λ (z : Counts). z.n) (done-counts_file mp b s e).counts
 
 module _ {n : ℕ} {fs : List (List ℕ)} {f other : ℕ} (e : Passed n fs f other) where
-  next-least : (s : Counts) → counts_file (f + 1) (get_or fs f []) ≡ done s
+  next-least : (s : Counts) → counts_file (f + 1) (get_or fs f []) ≡ Ok s
       → next_other n f other s.n ≡ first_below (other_slots n fs) (f + 1)
   next-least s q =
       rw (e.least, slots-are (f + 1) (get_or fs f []) s q)
@@ -70,28 +70,28 @@ module _ {n : ℕ} {fs : List (List ℕ)} {f other : ℕ} (e : Passed n fs f oth
     step = e.rest ∙ rw (drop-cons fs f [], add-one (f + 1), add-one f)
 
     -- frame f, whose bytes are b, and what the code is told of it
-    module _ (b : List ℕ) (is : b ≡ get_or fs f []) (answer : NumberAnswer)
-        (told : answer ≡ number_answer (next_frame n f other b)) where
-      found : answer ≡ number_answer (next_frame n f other (get_or fs f []))
-      found = told ∙ ap (λ (x : List ℕ). number_answer (next_frame n f other x)) is
+    module _ (b : List ℕ) (is : b ≡ get_or fs f []) (answer : Outcome ℕ)
+        (told : answer ≡ (next_frame n f other b)) where
+      found : answer ≡ (next_frame n f other (get_or fs f []))
+      found = told ∙ ap (λ (x : List ℕ). (next_frame n f other x)) is
 
-      pub passed-refused : (r : Refusal) → answer ≡ InNumber.Refused r
-          → InNumber.Refused r ≡ number_answer (frames_outcome n fs)
+      pub passed-refused : (r : Refusal) → answer ≡ Err r
+          → Err r ≡ (frames_outcome n fs)
       unfolding frames_outcome
       passed-refused r q =
           let refuses = number_answer-refused (next_frame n f other (get_or fs f [])) r (sym q ∙ found) in
           rw (step, and_then-refused (counts_file (f + 1) (get_or fs f [])) (λ s. next_other n f other s.n) r refuses)
 
-      pub passed-more : (least : ℕ) → answer ≡ InNumber.Number least → Passed n fs (f + 1) least
+      pub passed-more : (least : ℕ) → answer ≡ Ok least → Passed n fs (f + 1) least
       passed-more least q =
           let passes = number_answer-number (next_frame n f other (get_or fs f [])) least (sym q ∙ found) in
           let h =
-          and_then-done (counts_file (f + 1) (get_or fs f [])) (λ s. done (next_other n f other s.n)) least passes in
+          and_then-done (counts_file (f + 1) (get_or fs f [])) (λ s. Ok (next_other n f other s.n)) least passes in
           let next : next_other n f other h.0.n ≡ least = cc h.2 in
           record { inside = omega arith; rest = step ∙ rw h.1; least = sym next ∙ next-least h.0 h.1 }
 
   pub frames-end : (count : ℕ) → length fs ≡ count → count ≤ f
-      → frames_outcome n fs ≡ refuse_if (ltb other count) (refuse 10 0 (other + 1)) (done n)
+      → frames_outcome n fs ≡ refuse_if (ltb other count) (refuse SizeMismatch 0 (other + 1)) (Ok n)
   unfolding frames_outcome sound_frames
   frames-end count many h =
       let all : f ≡ length fs = omega (arith, e.inside) in
@@ -102,8 +102,8 @@ module _ {n : ℕ} {fs : List (List ℕ)} {f other : ℕ} (e : Passed n fs f oth
 
 -- ---- where it is done
 
-sound-each : (fs : List (List ℕ)) (f m : ℕ) → sound_frames f fs ≡ done m → (j : ℕ) → j < length fs
-    → (s : Counts) × (counts_file (f + j) (get_or fs j []) ≡ done s)
+sound-each : (fs : List (List ℕ)) (f m : ℕ) → sound_frames f fs ≡ Ok m → (j : ℕ) → j < length fs
+    → (s : Counts) × (counts_file (f + j) (get_or fs j []) ≡ Ok s)
 unfolding sound_frames
 sound-each [] f m e j h = absurd (omega arith)
 sound-each (b ∷ fs) f m e zero h = let d = and_then-done (counts_file f b) _ m e in (d.0, rw (add-zero f) d.1)
@@ -113,8 +113,8 @@ sound-each (b ∷ fs) f m e (suc j) h =
     let same : f + suc j ≡ suc f + j = omega arith in
     (r.0, rw same r.1)
 
-module _ (n : ℕ) (fs : List (List ℕ)) (m : ℕ) (e : frames_outcome n fs ≡ done m) where
-  passed : (s : ℕ) × (sound_frames 1 fs ≡ done s) × (ltb (first_other n fs) (length fs) ≡ false) × (done n ≡ done m)
+module _ (n : ℕ) (fs : List (List ℕ)) (m : ℕ) (e : frames_outcome n fs ≡ Ok m) where
+  passed : (s : ℕ) × (sound_frames 1 fs ≡ Ok s) × (ltb (first_other n fs) (length fs) ≡ false) × (Ok n ≡ Ok m)
   unfolding frames_outcome
   passed =
       let d = and_then-done (sound_frames 1 fs) _ m e in
@@ -156,12 +156,12 @@ frame-checked fs n checked f h b is = subst (λ (x : List ℕ). CheckedMap x n (
 
 -- ---- the first frame has no whole header
 
-check-short : (b : List ℕ) → length b < 40 → counts_file 1 b ≡ refuse 1 1 0
+check-short : (b : List ℕ) → length b < 40 → counts_file 1 b ≡ refuse TruncatedHeader 1 0
 unfolding check_with check_header
 check-short b short = rw (lt-ltb (length b) 40 short)
 
 frames-short : (n : ℕ) (fs : List (List ℕ)) → 0 < length fs → length (get_or fs 0 []) < 40
-    → frames_outcome n fs ≡ refuse 1 1 0
+    → frames_outcome n fs ≡ refuse TruncatedHeader 1 0
 unfolding frames_outcome sound_frames
 frames-short n [] some short = absurd (omega arith)
 frames-short n (b ∷ fs) some short = rw (check-short b short)

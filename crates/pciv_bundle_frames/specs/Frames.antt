@@ -9,15 +9,17 @@
 --   CheckedFrames fs n     what inner routines know of the frames
 --   row_of fs slot          the distance at a slot in each of eight frames, 0 for those that are absent
 -- Laws are in proofs/FramesLaws.antt, FrameFileLaws.antt and RowLaws.antt. Axioms: none.
+use Rattle.std.specs.Prelude.{Ok}
+use Rattle.pciv_format.specs.declared.RefusalKind.TheVariants.{SizeMismatch}
 use Rattle.std.specs.Prelude.{ℕ, suc, ◌+◌, ◌<◌, Bool, not, cond, ◌&&◌, List, [], ◌∷◌, length, get_or, ltb, eqb}
 use Rattle.pciv_bytes.specs.Ranges.{first_below, table}
 use Rattle.pciv_format.specs.Layout.{at}
-use Rattle.pciv_format.specs.Refusals.{Outcome, done, refuse, refuse_if, and_then}
+use Rattle.pciv_format.specs.Refusals.{Outcome, refuse, refuse_if, and_then}
 use Rattle.pciv_format.specs.Check.{n_field, k_field, counts_file, CheckedMap}
 use Rattle.pciv_format.specs.Read.{list_of}
 
 unfoldable pub sound_frames : ℕ → List (List ℕ) → Outcome ℕ
-sound_frames f [] = done f
+sound_frames f [] = Ok f
 sound_frames f (b ∷ fs) = and_then (counts_file f b) (λ s. sound_frames (suc f) fs)
 
 abbrev pub other_slots : ℕ → List (List ℕ) → ℕ → Bool
@@ -30,7 +32,7 @@ first_other n fs = first_below (other_slots n fs) (length fs)
 unfoldable pub frames_outcome : ℕ → List (List ℕ) → Outcome ℕ
 frames_outcome n fs =
     and_then (sound_frames 1 fs)
-    (λ s. refuse_if (ltb (first_other n fs) (length fs)) (refuse 10 0 (first_other n fs + 1)) (done n))
+    (λ s. refuse_if (ltb (first_other n fs) (length fs)) (refuse SizeMismatch 0 (first_other n fs + 1)) (Ok n))
 
 -- ---- one frame after another
 
@@ -38,7 +40,7 @@ abbrev pub next_other : ℕ → ℕ → ℕ → ℕ → ℕ
 next_other n f other have = cond (eqb other f && eqb have n) (f + 1) other
 
 abbrev pub next_frame : ℕ → ℕ → ℕ → List ℕ → Outcome ℕ
-next_frame n f other b = and_then (counts_file (f + 1) b) (λ s. done (next_other n f other s.n))
+next_frame n f other b = and_then (counts_file (f + 1) b) (λ s. Ok (next_other n f other s.n))
 
 -- ---- what is read
 

@@ -3,15 +3,16 @@
 #![tactic(auto)]
 
 ghost use Rattle.std.specs.Prelude.{◌≡◌, ◌+◌, ◌≤◌, ◌<◌, map, length, take, ltb};
-ghost use Rattle.pciv_format.specs.Refusals.{done, refuse, refuse_if, number_answer};
+ghost use Rattle.pciv_format.specs.Refusals.{refuse, refuse_if};
 ghost use Rattle.pciv_bundle_records.specs.Records.{frames, PlacedFrames};
 ghost use Rattle.pciv_bundle_frames.specs.Frames.{frames_outcome, next_other, next_frame, CheckedFrames, row_of};
+ghost use Rattle.pciv_format.specs.declared.RefusalKind.TheVariants.{SizeMismatch};
 
 use pciv_bundle_records::{Places, frame_at};
 use pciv_bytes::little_endian::get64;
 use pciv_check::check_counts;
-use pciv_format::{CountsAnswer, NumberAnswer, SIZE_MISMATCH};
-use pciv_layout::refusals::refuse_number;
+use pciv_format::{Refusal, RefusalKind};
+use pciv_layout::refusals::refuse;
 use pciv_map_lookup::locate;
 
 // The least of the frames up to f that has not n slots, or f + 1, where `other` is that of those below f and frame f has
@@ -31,71 +32,46 @@ fn next_other(other: usize, f: usize, have: usize, n: usize) -> usize
 
 // The check of frame f, then the least of the frames up to it that has not n slots, or f + 1, where `other` is that of
 // those below.
-fn check_next(frame: &[u8], f: usize, other: usize, n: usize) -> NumberAnswer
+fn check_next(frame: &[u8], f: usize, other: usize, n: usize) -> Result<usize, Refusal>
     requires { f < 8 }
-    ensures { result ≡ number_answer (next_frame n f other frame.now) }
+    ensures { result ≡ next_frame n f other frame.now }
 {
-    let checked = check_counts(frame, f + 1);
-    match checked {
-        CountsAnswer::Refused(r) => NumberAnswer::Refused(r),
-        CountsAnswer::Counted(s) => NumberAnswer::Number(next_other(other, f, s.n, n)),
-    }
+    let counts = check_counts(frame, f + 1)?;
+    Ok(next_other(other, f, counts.n, n))
 }
 
 // Refusal 10 where one of `count` frames has not n slots, else n; `other` is the least such frame, from 0, or `count`.
-fn same_slots(other: usize, count: usize, n: usize) -> NumberAnswer
+fn same_slots(other: usize, count: usize, n: usize) -> Result<usize, Refusal>
     requires { other ≤ 8 }
-    ensures { result ≡ number_answer (refuse_if (ltb other count) (refuse 10 0 (other + 1)) (done n)) }
+    ensures { result ≡ refuse_if (ltb other count) (refuse SizeMismatch 0 (other + 1)) (Ok n) }
 {
     if other < count {
-        return refuse_number(SIZE_MISMATCH, 0, other + 1);
+        return refuse(RefusalKind::SizeMismatch, 0, other + 1);
     }
-    NumberAnswer::Number(n)
+    Ok(n)
 }
 
 // The check of a bundle's frames, of which each has to have n slots. Refusals: 1 to 8, then 10.
-pub fn check_frames(bundle: &[u8], places: Places, count: usize, n: usize) -> NumberAnswer
+pub fn check_frames(bundle: &[u8], places: Places, count: usize, n: usize) -> Result<usize, Refusal>
     requires count_bound { (count ≤ 8) × (count ≡ length (frames bundle.now)) }
     requires placed_frames { PlacedFrames bundle.now places }
-    ensures { result ≡ number_answer (frames_outcome n (frames bundle.now)) }
+    ensures { result ≡ frames_outcome n (frames bundle.now) }
 {
     let mut other: usize = 0;
-    let mut next: usize = 0;
-    while next < count {
-        let checked = check_next(frame_at(bundle, places, next), next, other, n);
-        next += 1;
-        match checked {
-            NumberAnswer::Refused(r) => {
-                return NumberAnswer::Refused(r);
-            }
-            NumberAnswer::Number(least) => {
-                other = least;
-            }
-        }
+    for f in 0..count {
+        other = check_next(frame_at(bundle, places, f), f, other, n)?;
     }
     same_slots(other, count, n)
 }
 
 // The same of the first `count` of eight frames that a caller lends.
-pub fn check_lent(frames: &[&[u8]; 8], count: usize, n: usize) -> NumberAnswer
+pub fn check_lent(frames: &[&[u8]; 8], count: usize, n: usize) -> Result<usize, Refusal>
     requires { count ≤ 8 }
-    ensures { result ≡ number_answer (frames_outcome n (take count (map (λ x. x.now) frames.now))) }
+    ensures { result ≡ frames_outcome n (take count (map (λ x. x.now) frames.now)) }
 {
-    // as a slice, since that tells how many there are
-    let all: &[&[u8]] = frames;
     let mut other: usize = 0;
-    let mut passed: usize = 0;
-    while passed < count {
-        let checked = check_next(all[passed], passed, other, n);
-        passed += 1;
-        match checked {
-            NumberAnswer::Refused(r) => {
-                return NumberAnswer::Refused(r);
-            }
-            NumberAnswer::Number(least) => {
-                other = least;
-            }
-        }
+    for f in 0..count {
+        other = check_next(frames[f], f, other, n)?;
     }
     same_slots(other, count, n)
 }

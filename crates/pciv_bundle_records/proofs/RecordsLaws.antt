@@ -18,6 +18,8 @@
 --   Accepted b, done-counts, done-accepted    what a done outcome says
 --   bundle_answer-counted, -refused    the outcome of an answer
 -- Axioms: none.
+use Rattle.std.proofs.Common.{Ok, Err}
+use Rattle.pciv_format.specs.declared.RefusalKind.TheVariants.{BadBundle}
 use mathlib.Core.Path.{◌≡◌, refl, sym, ap, ◌∙◌}
 use Prim.Native.Nat.{ℕ, zero, suc, ◌+◌, ◌*◌, ◌-◌, ◌≤◌, ◌<◌}
 use native.Mathlib.Nat.{zero-add}
@@ -35,15 +37,14 @@ use Rattle.pciv_bytes.specs.LittleEndian.{get, Bytes}
 use Rattle.pciv_bytes.proofs.RangesLaws.{true-false, get_or-map_inside, first_below-at, first_below-none, first_below-has}
 use Rattle.pciv_bytes.proofs.LittleEndianLaws.{bytes_drop, bytes_take}
 use Rattle.pciv_bytes.proofs.PositionsLaws.{positions-append, rises}
-use Rattle.pciv_format.specs.Refusals.{Outcome, done, refused, refuse, refuse_if}
+use Rattle.pciv_format.specs.Refusals.{Outcome, refuse, refuse_if}
 use Rattle.pciv_format.specs.declared.Refusal.{Refusal}
 use Rattle.pciv_format.proofs.RefusalsLaws.{refuse_if-done, refuse_first-done, refuse_first-none, refuse_first-some}
 use Rattle.pciv_format.proofs.PartsLaws.{or-false, or-true}
 use Rattle.pciv_bundle_records.specs.Records.{behind_record, record_at, record_len, record_kind, record_payload, record_count}
 use Rattle.pciv_bundle_records.specs.Records.{frame_count, is_frame, frames_before, frames, bad_header, bad_record}
-use Rattle.pciv_bundle_records.specs.Records.{wrong_record, counts_in, records_outcome, bundle_answer}
+use Rattle.pciv_bundle_records.specs.Records.{wrong_record, counts_in, records_outcome}
 use Rattle.pciv_bundle_records.specs.declared.BundleCounts.{BundleCounts}
-use Rattle.pciv_bundle_records.specs.declared.BundleAnswer.TheVariants as InBundle
 
 -- ---- where records start
 
@@ -354,35 +355,35 @@ module _ (b : List ℕ) where
 
   module _ (r : ℕ) (clear : (j : ℕ) → j < r → bad_record b j ≡ false) where
     -- record r is at fault, the least one
-    pub records-refused : record_at b r < length b → bad_record b r ≡ true → records_outcome b ≡ refuse 14 0 r
+    pub records-refused : record_at b r < length b → bad_record b r ≡ true → records_outcome b ≡ refuse BadBundle 0 r
     unfolding records_outcome
     records-refused inside bad =
         let past : r < record_count b = record_count-past b r inside in
-        refuse_first-some 14 0 (bad_record b) (record_count b) r _
+        refuse_first-some BadBundle 0 (bad_record b) (record_count b) r _
         (sym (first_below-at (bad_record b) (record_count b) r past clear bad)) past
 
     module _ (end : record_at b r ≡ length b) (some : 1 ≤ r) where
-      none-bad : records_outcome b ≡ refuse_if (ltb (frames_before b r) (frame_count b)) (refuse 14 0 r) (done (counts_in b))
+      none-bad : records_outcome b ≡ refuse_if (ltb (frames_before b r) (frame_count b)) (refuse BadBundle 0 r) (Ok (counts_in b))
       unfolding records_outcome
       none-bad =
           rw (record_count-end b r end)
-          (refuse_first-none 14 0 (bad_record b) r _ clear ∙ rw (ne_eqb r 0 (λ e. omega arith)))
+          (refuse_first-none BadBundle 0 (bad_record b) r _ clear ∙ rw (ne_eqb r 0 (λ e. omega arith)))
 
       -- frames are missing
-      pub records-missing : frames_before b r < frame_count b → records_outcome b ≡ refuse 14 0 r
+      pub records-missing : frames_before b r < frame_count b → records_outcome b ≡ refuse BadBundle 0 r
       records-missing few = none-bad ∙ rw (lt-ltb (frames_before b r) (frame_count b) few)
 
-      pub records-done : frame_count b ≤ frames_before b r → records_outcome b ≡ done (counts_in b)
+      pub records-done : frame_count b ≤ frames_before b r → records_outcome b ≡ Ok (counts_in b)
       records-done all = none-bad ∙ rw (le-ltb (frames_before b r) (frame_count b) all)
 
   -- no bytes at all
-  none : length b ≡ 0 → records_outcome b ≡ refuse 14 0 0
+  none : length b ≡ 0 → records_outcome b ≡ refuse BadBundle 0 0
   unfolding records_outcome
   none e = rw (record_count-end b 0 (record_at-first b ∙ sym e))
-      (refuse_first-none 14 0 (bad_record b) 0 _ (λ j h. absurd (omega arith)))
+      (refuse_first-none BadBundle 0 (bad_record b) 0 _ (λ j h. absurd (omega arith)))
 
   -- record 0 is at fault, or there is none
-  pub records-header : ltb (length b) 12 || bad_header b ≡ true → records_outcome b ≡ refuse 14 0 0
+  pub records-header : ltb (length b) 12 || bad_header b ≡ true → records_outcome b ≡ refuse BadBundle 0 0
   records-header e =
       elim (dec_le (length b) 0) [
         | yes d ↦ none (omega arith)
@@ -415,14 +416,14 @@ pub record Accepted (b : List ℕ) : Type 0 where
   pub header : Header b
   pub counted : length (frames b) ≡ frame_count b
 
-module _ (b : List ℕ) (c : BundleCounts) (accepted : records_outcome b ≡ done c) where
+module _ (b : List ℕ) (c : BundleCounts) (accepted : records_outcome b ≡ Ok c) where
   -- no record is at fault, and neither records nor frames are missing
   passed : ((j : ℕ) → j < record_count b → bad_record b j ≡ false)
       × (eqb (record_count b) 0 || ltb (frames_before b (record_count b)) (frame_count b) ≡ false)
-      × (◌≡◌ {A = Outcome BundleCounts} (done (counts_in b)) (done c))
+      × (◌≡◌ {A = Outcome BundleCounts} (Ok (counts_in b)) (Ok c))
   unfolding records_outcome
   passed =
-      let p = refuse_first-done 14 0 (bad_record b) (record_count b) _ c accepted in
+      let p = refuse_first-done BadBundle 0 (bad_record b) (record_count b) _ c accepted in
       let q = refuse_if-done (eqb (record_count b) 0 || ltb (frames_before b (record_count b)) (frame_count b)) _ _ c p.1 in
       (p.0, q.0, q.1)
 
@@ -450,10 +451,10 @@ module _ (b : List ℕ) (c : BundleCounts) (accepted : records_outcome b ≡ don
 
 -- ---- answers
 
-pub bundle_answer-counted : (o : Outcome BundleCounts) (c : BundleCounts) → InBundle.Counted c ≡ bundle_answer o → o ≡ done c
-bundle_answer-counted (done x) c e = cc
-bundle_answer-counted (refused r) c e = cc
+pub bundle_answer-counted : (o : Outcome BundleCounts) (c : BundleCounts) → Ok c ≡ o → o ≡ Ok c
+bundle_answer-counted (Ok x) c e = cc
+bundle_answer-counted (Err r) c e = cc
 
-pub bundle_answer-refused : (o : Outcome BundleCounts) (r : Refusal) → InBundle.Refused r ≡ bundle_answer o → o ≡ refused r
-bundle_answer-refused (done x) r e = cc
-bundle_answer-refused (refused x) r e = cc
+pub bundle_answer-refused : (o : Outcome BundleCounts) (r : Refusal) → Err r ≡ o → o ≡ Err r
+bundle_answer-refused (Ok x) r e = cc
+bundle_answer-refused (Err x) r e = cc

@@ -9,6 +9,8 @@
 --   splitting-missing, -done, -placed    at the end: frames are missing, or all are there, in their places
 --   split-refused             what a refusal says
 -- Axioms: none.
+use Rattle.std.proofs.Common.{Ok}
+use Rattle.pciv_format.specs.declared.RefusalKind.TheVariants.{BadBundle}
 use mathlib.Core.Path.{◌≡◌, sym, ap, ◌∙◌}
 use Prim.Native.Nat.{ℕ, suc, ◌+◌, ◌-◌, ◌≤◌, ◌<◌}
 use native.Mathlib.Omega.{arith}
@@ -21,10 +23,10 @@ use lib.Seq.{get_or-set_same, get_or-set_other, get_or_at}
 use lib.Dec.{eqb}
 use borrow.Author.Tests.{eq-eqb, ne_eqb}
 use Rattle.pciv_bytes.specs.LittleEndian.{get}
-use Rattle.pciv_format.specs.Refusals.{done, refuse}
+use Rattle.pciv_format.specs.Refusals.{refuse}
 use Rattle.pciv_bundle_records.specs.Records.{behind_record, record_at, record_len, record_kind, record_payload}
 use Rattle.pciv_bundle_records.specs.Records.{frame_count, is_frame, frames_before, bad_header, bad_record}
-use Rattle.pciv_bundle_records.specs.Records.{wrong_record, counts_in, records_outcome, bundle_answer}
+use Rattle.pciv_bundle_records.specs.Records.{wrong_record, counts_in, records_outcome}
 use Rattle.pciv_bundle_records.specs.Records.{PlacedFrame, PlacedFrames}
 use Rattle.pciv_bundle_records.specs.declared.BundleCounts.{BundleCounts}
 use Rattle.pciv_bundle_records.specs.declared.Places.{Places}
@@ -75,7 +77,7 @@ module _ {b starts ends : List ℕ} {found number at : ℕ} (s : Splitting b sta
 
   -- the next record is at fault
   pub splitting-refused : at < length b → wrong_record b at found (frame_count b) ≡ true
-      → records_outcome b ≡ refuse 14 0 number
+      → records_outcome b ≡ refuse BadBundle 0 number
   splitting-refused more wrong =
       records-refused b number s.clear (omega (arith, s.here)) (bad-here ∙ wrong)
 
@@ -170,10 +172,10 @@ module _ {b starts ends : List ℕ} {found number at : ℕ} (s : Splitting b sta
     at-end : record_at b number ≡ length b
     at-end = omega (arith, s.here, s.inside)
 
-    pub splitting-missing : found < frame_count b → records_outcome b ≡ refuse 14 0 number
+    pub splitting-missing : found < frame_count b → records_outcome b ≡ refuse BadBundle 0 number
     splitting-missing few = records-missing b number s.clear at-end s.past (omega (arith, s.counted))
 
-    pub splitting-done : frame_count b ≤ found → records_outcome b ≡ done (counts_in b)
+    pub splitting-done : frame_count b ≤ found → records_outcome b ≡ Ok (counts_in b)
     splitting-done all = records-done b number s.clear at-end s.past (omega (arith, s.counted))
 
     pub splitting-placed : PlacedFrames b (places_of starts ends)
@@ -182,9 +184,9 @@ module _ {b starts ends : List ℕ} {found number at : ℕ} (s : Splitting b sta
         rw e (s.placed f (omega (arith, s.counted, length-frames_to b number, ap length e)))
 
 -- what a refusal says: its answer, and no places
-pub split-refused : (b : List ℕ) (s : Split) (place : ℕ) → records_outcome b ≡ refuse 14 0 place
-    → s.answer ≡ bundle_answer (refuse 14 0 place)
-    → (s.answer ≡ bundle_answer (records_outcome b))
-    × ((c : BundleCounts) → records_outcome b ≡ done c → PlacedFrames b s.places)
+pub split-refused : (b : List ℕ) (s : Split) (place : ℕ) → records_outcome b ≡ refuse BadBundle 0 place
+    → s.answer ≡ (refuse BadBundle 0 place)
+    → (s.answer ≡ (records_outcome b))
+    × ((c : BundleCounts) → records_outcome b ≡ Ok c → PlacedFrames b s.places)
 split-refused b s place e answer =
-    (answer ∙ ap bundle_answer (sym e), λ c accepted. (let z : ◌≡◌ {A = ℕ} 0 1 = cc in absurd (omega arith)))
+    (answer ∙ (sym e), λ c accepted. (let z : ◌≡◌ {A = ℕ} 0 1 = cc in absurd (omega arith)))

@@ -20,13 +20,13 @@
 --   PlacedFrame b p fs f    frame f of fs, here from 0, stands in b from `starts` to `ends` of the places p
 --   PlacedFrames b p      all frames of b do
 -- Laws are in proofs/RecordsLaws.antt and, of the bytes of records, in RecordBytesLaws.antt. Axioms: none.
+use Rattle.std.specs.Prelude.{Ok, Err}
+use Rattle.pciv_format.specs.declared.RefusalKind.TheVariants.{BadBundle}
 use Rattle.std.specs.Prelude.{◌≡◌, ℕ, zero, suc, ◌+◌, ◌-◌, ◌≤◌, ◌<◌, Bool, not, cond, ◌&&◌, ◌||◌, List, [], ◌∷◌, ◌++◌, map, length, get_or, take, drop, ltb, leb, eqb}
 use Rattle.pciv_bytes.specs.Ranges.{first_below, positions}
 use Rattle.pciv_bytes.specs.LittleEndian.{le, get}
-use Rattle.pciv_format.specs.Refusals.{Outcome, done, refused, refuse, refuse_if, refuse_first}
+use Rattle.pciv_format.specs.Refusals.{Outcome, refuse, refuse_if, refuse_first}
 use Rattle.pciv_bundle_records.specs.declared.BundleCounts.{BundleCounts}
-use Rattle.pciv_bundle_records.specs.declared.BundleAnswer.{BundleAnswer}
-use Rattle.pciv_bundle_records.specs.declared.BundleAnswer.TheVariants as InBundle
 use Rattle.pciv_bundle_records.specs.declared.Places.{Places}
 
 -- ---- the records
@@ -95,13 +95,14 @@ counts_in b = record { slots = slot_count b; frames = frame_count b }
 -- the least record at fault; with none, the number of records where all are missing, or frames are
 unfoldable pub records_outcome : List ℕ → Outcome BundleCounts
 records_outcome b =
-    refuse_first 14 0 (bad_record b) (record_count b)
-    (refuse_if (eqb (record_count b) 0 || ltb (frames_before b (record_count b)) (frame_count b)) (refuse 14 0 (record_count b))
-    (done (counts_in b)))
+    refuse_first BadBundle 0 (bad_record b) (record_count b)
+    (refuse_if (eqb (record_count b) 0 || ltb (frames_before b (record_count b)) (frame_count b)) (refuse BadBundle 0 (record_count b))
+    (Ok (counts_in b)))
 
-abbrev pub bundle_answer : Outcome BundleCounts → BundleAnswer
-bundle_answer (done c) = InBundle.Counted c
-bundle_answer (refused r) = InBundle.Refused r
+-- a walk over the records answers the outcome o, and the places of the frames where it is no refusal
+abbrev pub IsSplit : List ℕ → Outcome BundleCounts → Outcome Split → Type 0
+IsSplit b o (Ok s) = (o ≡ Ok s.counts) × PlacedFrames b s.places
+IsSplit b o (Err r) = o ≡ Err r
 
 -- ---- the bytes of records
 

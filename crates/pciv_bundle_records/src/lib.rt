@@ -3,13 +3,12 @@
 #![tactic(auto)]
 
 ghost use Rattle.std.specs.Prelude.{◌≡◌, ◌<◌, length, get_or, ◌||◌, [], ltb};
-ghost use Rattle.pciv_format.specs.Refusals.{refuse, done};
-ghost use Rattle.pciv_bundle_records.specs.Records.{bad_header, records_outcome, bundle_answer, frames};
-ghost use Rattle.pciv_bundle_records.specs.Records.{PlacedFrame, PlacedFrames, wrong_record};
-ghost use Rattle.pciv_bundle_records.specs.declared.BundleCounts.{BundleCounts};
+ghost use Rattle.pciv_bundle_records.specs.Records.{bad_header, records_outcome, frames};
+ghost use Rattle.pciv_bundle_records.specs.Records.{PlacedFrame, IsSplit, wrong_record};
 
 use pciv_bytes::little_endian::{get16, get32};
-use pciv_format::{BAD_BUNDLE, Refusal};
+use pciv_format::{Refusal, RefusalKind};
+use pciv_layout::refusals::refuse;
 
 // The most frames that a bundle may have.
 pub const MAX_FRAMES: usize = 8;
@@ -34,13 +33,6 @@ pub struct BundleCounts {
     pub frames: usize,
 }
 
-// The answer of the reader.
-#[derive(Clone, Copy)]
-pub enum BundleAnswer {
-    Counted(BundleCounts),
-    Refused(Refusal),
-}
-
 // Where each frame starts, and where it ends.
 #[derive(Clone, Copy)]
 pub struct Places {
@@ -48,10 +40,10 @@ pub struct Places {
     pub ends: [usize; 8],
 }
 
-// What the walk over the records has found; the places are those of the frames where it is no refusal.
+// What the walk over the records of a bundle finds: its counts and the places of its frames.
 #[derive(Clone, Copy)]
 pub struct Split {
-    pub answer: BundleAnswer,
+    pub counts: BundleCounts,
     pub places: Places,
 }
 
@@ -114,31 +106,13 @@ fn wrong_record(bundle: &[u8], at: usize, found: usize, count: usize) -> bool
     count <= found
 }
 
-// Refusal 14, with the number of a record, or how many there are.
-fn refuse_split(place: usize) -> Split
-    ensures { result.answer ≡ bundle_answer (refuse 14 0 place) }
-{
-    Split {
-        answer: BundleAnswer::Refused(Refusal {
-            number: BAD_BUNDLE,
-            map: 0,
-            place,
-        }),
-        places: Places {
-            starts: [0; 8],
-            ends: [0; 8],
-        },
-    }
-}
-
-// The counts of a bundle and the places of its frames, which are not checked yet, or why it is none. Refusals: 14.
-pub fn split_records(bundle: &[u8]) -> Split
-    ensures answer { result.answer ≡ bundle_answer (records_outcome bundle.now) }
-    ensures places { (c : BundleCounts) → records_outcome bundle.now ≡ done c
-        → PlacedFrames bundle.now result.places }
+// The counts of a bundle and the places of its frames, which are not checked yet, or why it is none. Refusals: 14, with
+// the number of a record, or how many there are.
+pub fn split_records(bundle: &[u8]) -> Result<Split, Refusal>
+    ensures { IsSplit bundle.now (records_outcome bundle.now) result }
 {
     if bad_header(bundle) {
-        return refuse_split(0);
+        return refuse(RefusalKind::BadBundle, 0, 0);
     }
     let slots = get32(bundle, 6) as usize;
     let count = get16(bundle, 10);
@@ -152,7 +126,7 @@ pub fn split_records(bundle: &[u8]) -> Split
         let start = at;
         number += 1;
         if wrong_record(bundle, start, found, count) {
-            return refuse_split(this);
+            return refuse(RefusalKind::BadBundle, 0, this);
         }
         at = start + 4 + get32(bundle, start) as usize;
         if get16(bundle, start + 4) == FRAME_KIND {
@@ -162,13 +136,13 @@ pub fn split_records(bundle: &[u8]) -> Split
         }
     }
     if found < count {
-        return refuse_split(number);
+        return refuse(RefusalKind::BadBundle, 0, number);
     }
-    Split {
-        answer: BundleAnswer::Counted(BundleCounts {
+    Ok(Split {
+        counts: BundleCounts {
             slots,
             frames: count,
-        }),
+        },
         places: Places { starts, ends },
-    }
+    })
 }

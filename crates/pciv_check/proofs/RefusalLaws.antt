@@ -4,6 +4,8 @@
 --   header-short, -mark, -slots, -counts    the refusals 1 to 4
 --   header-inside             a header that states its file's counts, before bytes enough
 -- Axioms: none.
+use Rattle.std.proofs.Common.{Ok}
+use Rattle.pciv_format.specs.declared.RefusalKind.TheVariants.{TruncatedHeader, BadMagic, TooManySlots, BadCounts}
 use mathlib.Core.Path.{◌≡◌, ap}
 use Prim.Native.Nat.{ℕ, ◌≤◌, ◌<◌}
 use native.Mathlib.Omega.{arith}
@@ -14,7 +16,7 @@ use lib.Dec.{ltb, eqb}
 use borrow.Author.Tests.{lt-ltb, le-ltb, ltb-false}
 use Rattle.pciv_bytes.specs.LittleEndian.{get}
 use Rattle.pciv_format.specs.Layout.{max_slots, magic, index_step, index_len, counts_of}
-use Rattle.pciv_format.specs.Refusals.{done, refuse}
+use Rattle.pciv_format.specs.Refusals.{refuse}
 use Rattle.pciv_format.specs.Check.{n_field, k_field, m_field, step_field, bad_counts, check_header}
 use Rattle.pciv_format.specs.declared.Counts.{Counts}
 use Rattle.pciv_format.proofs.PartsLaws.{or-true, not_eqb, eqb-not, neb-not}
@@ -47,27 +49,27 @@ module _ (n k m step : ℕ) where
 -- ---- the header
 
 module _ (mp : ℕ) (b : List ℕ) where
-  pub header-short : length b < 40 → check_header mp b ≡ refuse 1 mp 0
+  pub header-short : length b < 40 → check_header mp b ≡ refuse TruncatedHeader mp 0
   unfolding check_header
   header-short h = rw (lt-ltb (length b) 40 h)
 
   module _ (long : 40 ≤ length b) where
-    pub header-mark : (get 8 b 0 ≡ magic → ⊥) → check_header mp b ≡ refuse 2 mp 0
+    pub header-mark : (get 8 b 0 ≡ magic → ⊥) → check_header mp b ≡ refuse BadMagic mp 0
     unfolding check_header
     header-mark h = rw (le-ltb (length b) 40 long, neb-not (get 8 b 0) magic h)
 
     module _ (mark : get 8 b 0 ≡ magic) where
-      pub header-slots : max_slots < n_field b → check_header mp b ≡ refuse 3 mp 0
+      pub header-slots : max_slots < n_field b → check_header mp b ≡ refuse TooManySlots mp 0
       unfolding check_header
       header-slots h = rw (le-ltb (length b) 40 long, eqb-not (get 8 b 0) magic mark, lt-ltb max_slots (n_field b) h)
 
       pub header-counts : n_field b ≤ max_slots → bad_counts (n_field b) (k_field b) (m_field b) (step_field b) ≡ true
-          → check_header mp b ≡ refuse 4 mp 0
+          → check_header mp b ≡ refuse BadCounts mp 0
       unfolding check_header
       header-counts small h =
           rw (le-ltb (length b) 40 long, eqb-not (get 8 b 0) magic mark, le-ltb max_slots (n_field b) small, h)
 
-  pub header-inside : (s : Counts) → check_header mp b ≡ done s → s.len ≤ length b → PartsInside b s.n s.k
+  pub header-inside : (s : Counts) → check_header mp b ≡ Ok s → s.len ≤ length b → PartsInside b s.n s.k
   unfolding counts_of
   header-inside s e fits =
       let d = done-check_header mp b s e in

@@ -7,17 +7,14 @@
 ghost use Rattle.std.specs.Prelude.{◌≡◌};
 ghost use Rattle.pciv_bytes.specs.Ranges.{first_below};
 ghost use Rattle.pciv_format.specs.Layout.{index_len};
-ghost use Rattle.pciv_format.specs.Refusals.{counts_answer};
 ghost use Rattle.pciv_format.specs.Parts.{bad_entry, bad_slot, EntriesRight};
 ghost use Rattle.pciv_format.specs.Check.{file_parts, bad_index_entry, check_parts};
 ghost use Rattle.pciv_check_parts.specs.Inside.{PartsInside};
 
 use pciv_bytes::little_endian::{get32, get64};
-use pciv_format::{
-    BAD_INDEX_ENTRY, BAD_OVERFLOW_ENTRY, CountsAnswer, HEADER_LEN, MISSING_OVERFLOW_ENTRY, SENTINEL,
-};
+use pciv_format::{HEADER_LEN, SENTINEL, Counts, Refusal, RefusalKind};
 use pciv_layout::entries::wrong_entry;
-use pciv_layout::refusals::refuse_counts;
+use pciv_layout::refusals::refuse;
 use pciv_layout::{counts_of, index_len, index_step};
 use pciv_passes::counts::count_byte;
 
@@ -102,21 +99,21 @@ fn first_bad_index_entry(file: &[u8], n: usize, k: usize) -> usize
 }
 
 // Refusals 6 to 8, else the counts.
-pub fn check_parts(file: &[u8], map: usize, n: usize, k: usize) -> CountsAnswer
+pub fn check_parts(file: &[u8], map: usize, n: usize, k: usize) -> Result<Counts, Refusal>
     requires { PartsInside file.now n k }
-    ensures { result ≡ counts_answer (check_parts map file.now n k) }
+    ensures { result ≡ check_parts map file.now n k }
 {
     let entry = first_bad_entry(file, n, k);
     if entry < k {
-        return refuse_counts(BAD_OVERFLOW_ENTRY, map, entry);
+        return refuse(RefusalKind::BadOverflowEntry, map, entry);
     }
     let slot = first_bad_slot(file, n, k);
     if slot < n {
-        return refuse_counts(MISSING_OVERFLOW_ENTRY, map, slot);
+        return refuse(RefusalKind::MissingOverflowEntry, map, slot);
     }
     let index = first_bad_index_entry(file, n, k);
     if index < index_len(k) {
-        return refuse_counts(BAD_INDEX_ENTRY, map, index);
+        return refuse(RefusalKind::BadIndexEntry, map, index);
     }
-    CountsAnswer::Counted(counts_of(n, k))
+    Ok(counts_of(n, k))
 }

@@ -7,7 +7,6 @@ ghost use Rattle.std.specs.Prelude.{◌≡◌, ◌+◌, ◌*◌, max, ◌≤◌,
 ghost use Rattle.std.proofs.lemmas.List.Edits.{sets};
 ghost use Rattle.pciv_bytes.specs.Ranges.{first_below};
 ghost use Rattle.pciv_format.specs.Layout.{max_slots, at};
-ghost use Rattle.pciv_format.specs.Refusals.{file_answer};
 ghost use Rattle.pciv_format.specs.Parts.{bad_entry, bad_slot, EntriesRight, SoundParts};
 ghost use Rattle.pciv_format.specs.Write.{close_parts, close_outcome, close_buffer};
 ghost use Rattle.pciv_close.specs.Close.{slot_parts, entries_from, parts_outcome, parts_buffer};
@@ -16,12 +15,9 @@ use pciv_build::{begin, finish, put_entry};
 use pciv_bytes::copies::copy_bytes;
 use pciv_bytes::find::find_byte;
 use pciv_bytes::numbers::{larger, smaller};
-use pciv_format::{
-    BAD_OVERFLOW_ENTRY, CountsAnswer, FileAnswer, HEADER_LEN, MAX_SLOTS, MISSING_OVERFLOW_ENTRY,
-    SENTINEL, TOO_MANY_SLOTS,
-};
+use pciv_format::{HEADER_LEN, MAX_SLOTS, SENTINEL, Refusal, RefusalKind, Summary};
 use pciv_layout::entries::wrong_entry;
-use pciv_layout::refusals::refuse_file;
+use pciv_layout::refusals::refuse;
 use pciv_map::totals::summary_of;
 use pciv_passes::counts::count_byte;
 
@@ -89,46 +85,41 @@ fn put_entries(out: &mut [u8], start: usize, slots: &[usize], distances: &[u32])
 }
 
 // The file of sound parts. Refusal: 12.
-fn put_file(out: &mut [u8], primary: &[u8], slots: &[usize], distances: &[u32]) -> FileAnswer
+fn put_file(out: &mut [u8], primary: &[u8], slots: &[usize], distances: &[u32]) -> Result<Summary, Refusal>
     requires primary_len_bound { length primary.now ≤ max_slots }
     requires sound_parts { SoundParts (close_parts primary.now slots.now distances.now) }
-    ensures answer { result ≡ file_answer (parts_outcome (close_parts primary.now slots.now distances.now) (length out.old)) }
+    ensures answer { result ≡ parts_outcome (close_parts primary.now slots.now distances.now) (length out.old) }
     ensures buffer { out.new ≡ parts_buffer (close_parts primary.now slots.now distances.now) out.old }
 {
     let n = primary.len();
     let k = slots.len();
-    let begun = begin(out, n, k);
-    match begun {
-        CountsAnswer::Refused(r) => FileAnswer::Refused(r),
-        CountsAnswer::Counted(c) => {
-            copy_bytes(primary, out, HEADER_LEN);
-            put_entries(out, HEADER_LEN + n, slots, distances);
-            finish(out, n, k);
-            FileAnswer::Done(summary_of(out, c))
-        }
-    }
+    let c = begin(out, n, k)?;
+    copy_bytes(primary, out, HEADER_LEN);
+    put_entries(out, HEADER_LEN + n, slots, distances);
+    finish(out, n, k);
+    Ok(summary_of(out, c))
 }
 
 // Writes the file of a primary array and its overflow entries, entry j being slots[j] with distances[j], to the
 // front of the caller's buffer. Refusals: 3, 6 and 7 with map 1, then 12. Where the lists differ in length, the
 // first entry that one of them lacks is wrong (6); this is chosen here: the format's source has no such case.
 // A refused call changes no byte, and bytes past the file stay.
-pub fn close(primary: &[u8], slots: &[usize], distances: &[u32], out: &mut [u8]) -> FileAnswer
-    ensures answer { result ≡ file_answer (close_outcome primary.now slots.now distances.now (length out.old)) }
+pub fn close(primary: &[u8], slots: &[usize], distances: &[u32], out: &mut [u8]) -> Result<Summary, Refusal>
+    ensures answer { result ≡ close_outcome primary.now slots.now distances.now (length out.old) }
     ensures buffer { out.new ≡ close_buffer primary.now slots.now distances.now out.old }
 {
     let n = primary.len();
     if MAX_SLOTS < n {
-        return refuse_file(TOO_MANY_SLOTS, 1, 0);
+        return refuse(RefusalKind::TooManySlots, 1, 0);
     }
     let entry = first_bad_entry(primary, slots, distances);
     if entry < larger(slots.len(), distances.len()) {
-        return refuse_file(BAD_OVERFLOW_ENTRY, 1, entry);
+        return refuse(RefusalKind::BadOverflowEntry, 1, entry);
     }
     let slot = first_bad_slot(primary, slots);
     let is_missing = slot < n;
     if is_missing {
-        return refuse_file(MISSING_OVERFLOW_ENTRY, 1, slot);
+        return refuse(RefusalKind::MissingOverflowEntry, 1, slot);
     }
     put_file(out, primary, slots, distances)
 }

@@ -8,6 +8,8 @@
 --   right-sound, -search                 every entry is right: what comes next
 --   sound-few, -refused, -begun          the parts are sound: what `begin` says
 -- Axioms: none.
+use Rattle.std.proofs.Common.{Ok, Err}
+use Rattle.pciv_format.specs.declared.RefusalKind.TheVariants.{TooManySlots, BadOverflowEntry, MissingOverflowEntry}
 use mathlib.Core.Path.{◌≡◌, refl, sym, ap, ◌∙◌}
 use Prim.Native.Nat.{ℕ, ◌+◌, ◌*◌, ◌≤◌, ◌<◌}
 use native.Mathlib.Numerals.{add-one}
@@ -23,12 +25,11 @@ use Rattle.pciv_bytes.specs.ByteAt.{byte_is}
 use Rattle.pciv_bytes.proofs.RangesLaws.{first_below-at, first_below-all}
 use Rattle.pciv_format.specs.Layout.{max_slots, max_distance, file_len, header, at, overflow_count, overflow_part}
 use Rattle.pciv_format.specs.Layout.{counts_of, summarize}
-use Rattle.pciv_format.specs.Refusals.{Outcome, done, refused, refuse, file_answer}
+use Rattle.pciv_format.specs.Refusals.{Outcome, refuse}
 use Rattle.pciv_format.specs.Parts.{Parts, wrong_entry, bad_entry, bad_slot, value_of, SoundParts}
 use Rattle.pciv_format.specs.Check.{file_parts, CheckedMap}
 use Rattle.pciv_format.specs.Write.{close_outcome, close_buffer}
 use Rattle.pciv_format.specs.declared.Entry.{Entry}
-use Rattle.pciv_format.specs.declared.FileAnswer.{FileAnswer}
 use Rattle.pciv_format.specs.declared.Refusal.{Refusal}
 use Rattle.pciv_format.specs.declared.Counts.{Counts}
 use Rattle.pciv_format.specs.declared.Summary.{Summary}
@@ -84,20 +85,20 @@ module _ (bytes : List ℕ) (call : Call) where
   finished : (o : Outcome Summary) (out buffer : List ℕ)
       → (close_outcome bytes slots distances (length call.buffer) ≡ o)
       × (close_buffer bytes slots distances call.buffer ≡ buffer)
-      → out ≡ buffer → Finished bytes call (file_answer o) out
-  finished o out buffer e is = record { answer_is = ap file_answer (sym e.0); buffer_is = is ∙ sym e.1 }
+      → out ≡ buffer → Finished bytes call (o) out
+  finished o out buffer e is = record { answer_is = (sym e.0); buffer_is = is ∙ sym e.1 }
 
   -- ---- the start
 
   pub start-many : (out : List ℕ) → max_slots < length bytes → call.buffer ≡ out
-      → Finished bytes call (file_answer (refuse 3 1 0)) out
+      → Finished bytes call ((refuse TooManySlots 1 0)) out
   start-many out many is =
-      finished (refuse 3 1 0) out call.buffer
+      finished (refuse TooManySlots 1 0) out call.buffer
       (close-many bytes slots distances call.buffer many) (sym is)
 
   -- there are no entries
-  pub start-empty : (answer : FileAnswer) (out out' : List ℕ) → length call.entries ≡ 0 → call.buffer ≡ out
-      → answer ≡ file_answer (close_outcome bytes [] [] (length out)) → out' ≡ close_buffer bytes [] [] out
+  pub start-empty : (answer : Outcome Summary) (out out' : List ℕ) → length call.entries ≡ 0 → call.buffer ≡ out
+      → answer ≡ (close_outcome bytes [] [] (length out)) → out' ≡ close_buffer bytes [] [] out
       → Finished bytes call answer out'
   start-empty answer out out' none is a b =
       let e = empty_of call.entries none in
@@ -138,9 +139,9 @@ module _ (bytes : List ℕ) (call : Call) where
           ∙ rw (slot_next, distance_next)
 
       pub checking-wrong : wrong_entry (length bytes) (at bytes) job.lowest e.slot e.distance ≡ true
-          → Finished bytes call (file_answer (refuse 6 1 job.next)) out
+          → Finished bytes call ((refuse BadOverflowEntry 1 job.next)) out
       checking-wrong wrong =
-          finished (refuse 6 1 job.next) out call.buffer
+          finished (refuse BadOverflowEntry 1 job.next) out call.buffer
           (close-entry bytes slots distances call.buffer c.few job.next
           (sym (first_below-at (bad_entry parts) parts.k job.next below-k c.right (tested ∙ wrong))) below-k)
           c.kept
@@ -188,9 +189,9 @@ module _ (bytes : List ℕ) (call : Call) where
           omega (arith, c.low, (entry_at parts c.right job.next below-k).above, slot-is-next)
 
       slot-missing : (r : ℕ) → first_below (bad_slot parts) (length bytes) ≡ r → r < length bytes
-          → Finished bytes call (file_answer (refuse 7 1 r)) out
+          → Finished bytes call ((refuse MissingOverflowEntry 1 r)) out
       slot-missing r is h =
-          finished (refuse 7 1 r) out call.buffer
+          finished (refuse MissingOverflowEntry 1 r) out call.buffer
           (close-slot bytes slots distances call.buffer c.few c.right r (sym is) h)
           c.kept
 
@@ -198,7 +199,7 @@ module _ (bytes : List ℕ) (call : Call) where
         full_is : full ≡ first_full parts job.lowest (parts.slot job.next)
         full_is = rw slot-is-next is
 
-        pub searching-found : full < e.slot → Finished bytes call (file_answer (refuse 7 1 full)) out
+        pub searching-found : full < e.slot → Finished bytes call ((refuse MissingOverflowEntry 1 full)) out
         searching-found h =
             slot-missing full
             (searched-found parts c.right job.lowest c.searched job.next full below-k
@@ -227,7 +228,7 @@ module _ (bytes : List ℕ) (call : Call) where
                 searched-end parts c.right (e.slot + 1) searching-more.searched last
                 (rw end at searching-more.low) at_last
 
-            pub searching-last : last < length bytes → Finished bytes call (file_answer (refuse 7 1 last)) out
+            pub searching-last : last < length bytes → Finished bytes call ((refuse MissingOverflowEntry 1 last)) out
             searching-last h = slot-missing last last-is h
 
             pub searching-none : length bytes ≤ last → AllSound bytes call k out
@@ -293,7 +294,7 @@ module _ (bytes : List ℕ) (call : Call) where
           as_many : length call.entries ≡ overflow_count n v
           as_many = count-sound bytes call.entries c.sound each
 
-          opened : (begin_outcome n (length call.entries) (length call.buffer) ≡ done (counts_of n (length call.entries)))
+          opened : (begin_outcome n (length call.entries) (length call.buffer) ≡ Ok (counts_of n (length call.entries)))
               × (begin_buffer n (length call.entries) call.buffer
               ≡ sets call.buffer 0 (header n (length call.entries)))
           opened = begin-fits n (length call.entries) call.buffer c.fits
@@ -311,7 +312,7 @@ module _ (bytes : List ℕ) (call : Call) where
 
           -- the counts s of the file
           module _ (s : Counts) (is : s ≡ counts_of n k) where
-            begins : begin_outcome n (length call.entries) (length call.buffer) ≡ done s
+            begins : begin_outcome n (length call.entries) (length call.buffer) ≡ Ok s
             begins = opened.0 ∙ rw (nx.count, is)
 
             pub writing-map : CheckedMap out'' s.n s.k
@@ -322,20 +323,19 @@ module _ (bytes : List ℕ) (call : Call) where
 
             pub writing-end : (t : Summary)
                 → t ≡ summarize s (sum_from (value_of (file_parts out'' s.n s.k)) 0 s.n)
-                → Finished bytes call (file_answer (done t)) out''
+                → Finished bytes call ((Ok t)) out''
             writing-end t summed =
                 let same = close-sound bytes slots distances call.buffer c.few c.sound in
                 let primary = primary-close bytes slots distances c.sound each in
                 record {
                   answer_is =
-                      ap file_answer
-                      (ap done
+                      (ap Ok
                       (summed
                       ∙ ap (summarize s)
                       (built-sum n (length call.entries) v as_many c.few call.buffer _
                       (opened_buffer bytes call) out' out'' s begins (sym opened.1) (rw primary) written
                       (rw nx.count index) each-small))
-                      ∙ begun-is n (length call.entries) v as_many (length call.buffer) (done s) begins
+                      ∙ begun-is n (length call.entries) v as_many (length call.buffer) (Ok s) begins
                       ∙ sym same.0);
                   buffer_is =
                       built-done n (length call.entries) v as_many c.few call.buffer _
@@ -379,15 +379,15 @@ module _ (bytes : List ℕ) (call : Call) where
       pub sound-few : k ≤ length bytes
       sound-few = omega (arith, counted, overflow_count-le (length bytes) (value_of parts))
 
-      pub sound-refused : (r : Refusal) (out' : List ℕ) → begin_outcome (length bytes) k (length out) ≡ refused r
-          → out' ≡ begin_buffer (length bytes) k out → Finished bytes call (file_answer (refused r)) out'
+      pub sound-refused : (r : Refusal) (out' : List ℕ) → begin_outcome (length bytes) k (length out) ≡ Err r
+          → out' ≡ begin_buffer (length bytes) k out → Finished bytes call ((Err r)) out'
       sound-refused r out' e is =
           let n : ℕ = length bytes in
           let v : ℕ → ℕ = value_of parts in
           let same = close-sound bytes slots distances call.buffer a.few a.sound in
           let kept = a.kept in
           record {
-            answer_is = ap file_answer (begun-is n k v counted (length out) (refused r) e
+            answer_is = (begun-is n k v counted (length out) (Err r) e
                 ∙ ap (parts_outcome parts) (ap length kept)
                 ∙ sym same.0);
             buffer_is = built-refused n k v counted a.few out out' r e is
@@ -396,7 +396,7 @@ module _ (bytes : List ℕ) (call : Call) where
           }
 
       pub sound-begun : (s : Counts) (out' out'' : List ℕ) (job : Job)
-          → begin_outcome (length bytes) k (length out) ≡ done s
+          → begin_outcome (length bytes) k (length out) ≡ Ok s
           → out' ≡ begin_buffer (length bytes) k out → out'' ≡ sets out' 40 bytes → job.next ≡ 0
           → Writing bytes call job out''
       sound-begun s out' out'' job e is copied next =

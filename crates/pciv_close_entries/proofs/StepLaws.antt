@@ -9,7 +9,6 @@ use native.Mathlib.Omega.{arith}
 use mathlib.Core.List.{List}
 use lib.ListN.{length}
 use Rattle.pciv_format.specs.declared.Entry.{Entry}
-use Rattle.pciv_format.specs.declared.FileAnswer.{FileAnswer}
 use Rattle.pciv_close_entries.specs.Passes.{Call, ended_job, onward_job, left, passes_left, Checking}
 use Rattle.pciv_close_entries.specs.Passes.{Searching, Writing, Finished, Going, Doing, Next}
 use Rattle.pciv_close_entries.specs.declared.Job.{Job}
@@ -17,7 +16,7 @@ use Rattle.pciv_close_entries.specs.declared.Pass.{Pass}
 use Rattle.pciv_close_entries.specs.declared.Pass.TheVariants.{Check, Search, Write}
 
 module _ (bytes : List ℕ) (call : Call) where
-  pub doing-ended : (k : ℕ) (answer : FileAnswer) (job : Job) (out : List ℕ) → length call.entries ≡ k
+  pub doing-ended : (k : ℕ) (answer : Outcome Summary) (job : Job) (out : List ℕ) → length call.entries ≡ k
       → job ≡ ended_job k answer → Finished bytes call answer out → Doing bytes call job out
   doing-ended k answer job out count is f =
       rw is (record { going = λ h. absurd (omega arith); ended = λ _. f })
@@ -40,7 +39,7 @@ module _ (bytes : List ℕ) (call : Call) where
       pub writing-of : job.pass ≡ Write → Writing bytes call job out
       writing-of = going-as Write
 
-    pub step-ended : (answer : FileAnswer) (job' : Job) (out : List ℕ) → job' ≡ ended_job k answer
+    pub step-ended : (answer : Outcome Summary) (job' : Job) (out : List ℕ) → job' ≡ ended_job k answer
         → Finished bytes call answer out
         → Doing bytes call job' out × (left k job' < left k job)
     step-ended answer job' out is f =

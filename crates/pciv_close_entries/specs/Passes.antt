@@ -16,11 +16,11 @@
 use Rattle.std.specs.Prelude.{◌≡◌, ℕ, ◌+◌, ◌-◌, ◌*◌, ◌≤◌, ◌<◌, false, List, map, length, get_or}
 use Rattle.std.proofs.lemmas.List.Edits.{sets}
 use Rattle.pciv_format.specs.Layout.{max_slots, max_distance, file_len, header, at}
-use Rattle.pciv_format.specs.Refusals.{file_answer}
 use Rattle.pciv_format.specs.Parts.{Parts, lowest_slot, bad_entry, bad_slot, EntriesRight, SoundParts}
 use Rattle.pciv_format.specs.Write.{close_parts, close_outcome, close_buffer}
+use Rattle.pciv_format.specs.Refusals.{Outcome}
+use Rattle.pciv_format.specs.declared.Summary.{Summary}
 use Rattle.pciv_format.specs.declared.Entry.{Entry}
-use Rattle.pciv_format.specs.declared.FileAnswer.{FileAnswer}
 use Rattle.pciv_close.specs.Close.{EntriesLeft}
 use Rattle.pciv_close_entries.specs.declared.Job.{Job}
 use Rattle.pciv_close_entries.specs.declared.Pass.{Pass}
@@ -45,7 +45,7 @@ pub record Call : Type 0 where
 
 -- ---- jobs
 
-abbrev pub ended_job : ℕ → FileAnswer → Job
+abbrev pub ended_job : ℕ → Outcome Summary → Job
 ended_job k answer = record { next = k; lowest = 0; pass = Write; answer = answer }
 
 abbrev pub onward_job : Job → ℕ → Job
@@ -86,9 +86,9 @@ pub record Writing (bytes : List ℕ) (call : Call) (job : Job) (out : List ℕ)
   pub rest : EntriesLeft (at (slots_of call.entries)) (at (distances_of call.entries)) (length call.entries)
       (40 + length bytes) (opened_buffer bytes call) job.next out
 
-pub record Finished (bytes : List ℕ) (call : Call) (answer : FileAnswer) (out : List ℕ) : Type 0 where
+pub record Finished (bytes : List ℕ) (call : Call) (answer : Outcome Summary) (out : List ℕ) : Type 0 where
   pub answer_is : answer
-      ≡ file_answer (close_outcome bytes (slots_of call.entries) (distances_of call.entries) (length call.buffer))
+      ≡ close_outcome bytes (slots_of call.entries) (distances_of call.entries) (length call.buffer)
   pub buffer_is : out ≡ close_buffer bytes (slots_of call.entries) (distances_of call.entries) call.buffer
 
 abbrev pub Going : Pass → List ℕ → Call → Job → List ℕ → Type 0

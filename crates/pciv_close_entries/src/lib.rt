@@ -5,7 +5,6 @@
 #![tactic(auto)]
 
 ghost use Rattle.std.specs.Prelude.{◌≡◌, ◌<◌, length};
-ghost use Rattle.pciv_format.specs.Refusals.{file_answer};
 ghost use Rattle.pciv_format.specs.Write.{close_outcome, close_buffer};
 ghost use Rattle.pciv_close_entries.specs.declared.Pass.TheVariants as InPass;
 ghost use Rattle.pciv_close_entries.specs.Passes.{slots_of, distances_of, ended_job, onward_job, Starts};
@@ -16,13 +15,10 @@ use pciv_build::{begin, finish, put_entry};
 use pciv_bytes::copies::copy_bytes;
 use pciv_bytes::find::find_byte;
 use pciv_close::close;
-use pciv_format::{
-    BAD_OVERFLOW_ENTRY, BUFFER_TOO_SMALL, CountsAnswer, Entry, FileAnswer, HEADER_LEN, MAX_SLOTS,
-    MISSING_OVERFLOW_ENTRY, SENTINEL, TOO_MANY_SLOTS,
-};
+use pciv_format::{HEADER_LEN, MAX_SLOTS, SENTINEL, Entry, Refusal, RefusalKind, Summary};
 use pciv_layout::counts_of;
 use pciv_layout::entries::wrong_entry;
-use pciv_layout::refusals::refuse_file;
+use pciv_layout::refusals::refuse;
 use pciv_map::totals::summary_of;
 use pciv_passes::counts::count_byte;
 
@@ -41,11 +37,11 @@ struct Job {
     next: usize,
     lowest: usize,
     pass: Pass,
-    answer: FileAnswer,
+    answer: Result<Summary, Refusal>,
 }
 
 // A call that has ended.
-fn ended(k: usize, answer: FileAnswer) -> Job
+fn ended(k: usize, answer: Result<Summary, Refusal>) -> Job
     ensures { result ≡ ended_job k answer }
 {
     Job {
@@ -58,12 +54,12 @@ fn ended(k: usize, answer: FileAnswer) -> Job
 
 // The same answer, made of its parts: copied whole it would go through memory at each step, with the bytes that its
 // enum leaves unused.
-fn same(answer: FileAnswer) -> FileAnswer
+fn same(answer: Result<Summary, Refusal>) -> Result<Summary, Refusal>
     ensures { result ≡ answer }
 {
     match answer {
-        FileAnswer::Done(s) => FileAnswer::Done(s),
-        FileAnswer::Refused(r) => FileAnswer::Refused(r),
+        Ok(s) => Ok(s),
+        Err(r) => Err(r),
     }
 }
 
@@ -90,14 +86,14 @@ fn open(out: &mut [u8], primary: &[u8], k: usize) -> Job
 {
     let begun = begin(out, primary.len(), k);
     match begun {
-        CountsAnswer::Refused(r) => ended(k, FileAnswer::Refused(r)),
-        CountsAnswer::Counted(_) => {
+        Err(r) => ended(k, Err(r)),
+        Ok(_) => {
             copy_bytes(primary, out, HEADER_LEN);
             Job {
                 next: 0,
                 lowest: 0,
                 pass: Pass::Write,
-                answer: refuse_file(BUFFER_TOO_SMALL, 0, 0),
+                answer: refuse(RefusalKind::BufferTooSmall, 0, 0),
             }
         }
     }
@@ -115,7 +111,7 @@ fn checked(out: &mut [u8], primary: &[u8], k: usize) -> Job
         next: 0,
         lowest: 0,
         pass: Pass::Search,
-        answer: refuse_file(MISSING_OVERFLOW_ENTRY, 1, 0),
+        answer: refuse(RefusalKind::MissingOverflowEntry, 1, 0),
     }
 }
 
@@ -127,7 +123,7 @@ fn check_next(out: &mut [u8], primary: &[u8], k: usize, job: Job, e: Entry) -> J
 {
     let slot = e.slot as usize;
     if wrong_entry(primary, job.lowest, slot, e.distance) {
-        return ended(k, refuse_file(BAD_OVERFLOW_ENTRY, 1, job.next));
+        return ended(k, refuse(RefusalKind::BadOverflowEntry, 1, job.next));
     }
     let then = onward(job, k, slot + 1);
     if then.next < k {
@@ -145,7 +141,7 @@ fn search_next(out: &mut [u8], primary: &[u8], k: usize, job: Job, e: Entry) -> 
     let slot = e.slot as usize;
     let full = find_byte(primary, job.lowest, slot, SENTINEL);
     if full < slot {
-        return ended(k, refuse_file(MISSING_OVERFLOW_ENTRY, 1, full));
+        return ended(k, refuse(RefusalKind::MissingOverflowEntry, 1, full));
     }
     let then = onward(job, k, slot + 1);
     if then.next < k {
@@ -154,7 +150,7 @@ fn search_next(out: &mut [u8], primary: &[u8], k: usize, job: Job, e: Entry) -> 
     let n = primary.len();
     let last = find_byte(primary, slot + 1, n, SENTINEL);
     if last < n {
-        return ended(k, refuse_file(MISSING_OVERFLOW_ENTRY, 1, last));
+        return ended(k, refuse(RefusalKind::MissingOverflowEntry, 1, last));
     }
     open(out, primary, k)
 }
@@ -178,7 +174,7 @@ fn write_next(out: &mut [u8], primary: &[u8], k: usize, job: Job, e: Entry) -> J
     }
     finish(out, n, k);
     let counts = counts_of(n, k);
-    ended(k, FileAnswer::Done(summary_of(out, counts)))
+    ended(k, Ok(summary_of(out, counts)))
 }
 
 // What the pass does with the next entry.
@@ -199,7 +195,7 @@ fn start(out: &mut [u8], primary: &[u8], k: usize) -> Job
     ensures { Starts primary.now k out.old result out.new }
 {
     if MAX_SLOTS < primary.len() {
-        return ended(k, refuse_file(TOO_MANY_SLOTS, 1, 0));
+        return ended(k, refuse(RefusalKind::TooManySlots, 1, 0));
     }
     if k == 0 {
         let slots: [usize; 0] = [0; 0];
@@ -210,13 +206,13 @@ fn start(out: &mut [u8], primary: &[u8], k: usize) -> Job
         next: 0,
         lowest: 0,
         pass: Pass::Check,
-        answer: refuse_file(BAD_OVERFLOW_ENTRY, 1, 0),
+        answer: refuse(RefusalKind::BadOverflowEntry, 1, 0),
     }
 }
 
 // As `close`, with the entries as structs.
-pub fn close_entries(primary: &[u8], entries: &[Entry], out: &mut [u8]) -> FileAnswer
-    ensures answer { result ≡ file_answer (close_outcome primary.now (slots_of entries.now) (distances_of entries.now) (length out.old)) }
+pub fn close_entries(primary: &[u8], entries: &[Entry], out: &mut [u8]) -> Result<Summary, Refusal>
+    ensures answer { result ≡ close_outcome primary.now (slots_of entries.now) (distances_of entries.now) (length out.old) }
     ensures buffer { out.new ≡ close_buffer primary.now (slots_of entries.now) (distances_of entries.now) out.old }
 {
     let k = entries.len();

@@ -9,6 +9,8 @@
 --   list-refused, list-fewer-slots, -distances, list-short, list_done    what the run answers
 --   refused-run, made-run    what it leaves, refused or made
 -- Axioms: none.
+use Rattle.std.proofs.Common.{Ok, Err}
+use Rattle.pciv_format.specs.declared.RefusalKind.TheVariants.{SlotOutOfRange, BufferTooSmall}
 use mathlib.Core.Path.{◌≡◌, refl, sym, ap, ◌∙◌}
 use Prim.Native.Nat.{ℕ, ◌+◌, ◌-◌, ◌*◌, ◌≤◌, ◌<◌, min}
 use native.Mathlib.Nat.{sub-zero}
@@ -22,12 +24,11 @@ use Rattle.pciv_bytes.specs.LittleEndian.{Bytes}
 use Rattle.pciv_bytes.proofs.RangesLaws.{length-table, get_or-table, table-rest, table_done}
 use Rattle.pciv_bytes.proofs.WriteLaws.{sets-append, sets-front}
 use Rattle.pciv_format.specs.Layout.{max_distance, at}
-use Rattle.pciv_format.specs.Refusals.{Outcome, done, refused, refuse, number_answer}
+use Rattle.pciv_format.specs.Refusals.{Outcome, refuse}
 use Rattle.pciv_format.specs.Check.{counts_buffer}
 use Rattle.pciv_format.specs.Edit.{Edit, edit_outcome, edit_moved, edit_buffer, edit_run, edit_outcomes, edit_moves}
 use Rattle.pciv_format.specs.Edit.{answer_len, cells_of, no_refusal, no_summary, answer_cells, all_cells}
 use Rattle.pciv_format.specs.Edit.{edits_of, edit_list_outcome, edit_list_buffer, edit_list_answers}
-use Rattle.pciv_format.specs.declared.NumberAnswer.{NumberAnswer}
 use Rattle.pciv_format.specs.declared.Counts.{Counts}
 use Rattle.pciv_format.specs.declared.Summary.{Summary}
 use Rattle.pciv_format.specs.declared.Refusal.{Refusal}
@@ -49,8 +50,8 @@ pub record Left (b₀ out₀ : List ℕ) (es : List Edit) (b out : List ℕ) (to
 
 length-cells : (o : Outcome Summary) (moved : ℕ) → length (answer_cells o moved) ≡ answer_len
 unfolding answer_cells
-length-cells (done s) moved = refl
-length-cells (refused r) moved = refl
+length-cells (Ok s) moved = refl
+length-cells (Err r) moved = refl
 
 module _ (b₀ out₀ : List ℕ) (es : List Edit) (b out : List ℕ) where
   pub left-more : (to : ℕ) (rest : List Edit) (e : Edit) (next : List Edit) → rest ≡ e ∷ next
@@ -113,11 +114,11 @@ module _ (slots distances : List ℕ) where
 -- ---- the numbers of one answer
 
 module _ (o : Outcome Summary) (m moved : ℕ) (same : m ≡ moved) where
-  pub cells-refused : (r : Refusal) → o ≡ refused r → cells_of r no_summary m ≡ answer_cells o moved
+  pub cells-refused : (r : Refusal) → o ≡ Err r → cells_of r no_summary m ≡ answer_cells o moved
   unfolding answer_cells
   cells-refused r is = rw (is, same)
 
-  pub cells-done : (s : Summary) → o ≡ done s → cells_of no_refusal s m ≡ answer_cells o moved
+  pub cells-done : (s : Summary) → o ≡ Ok s → cells_of no_refusal s m ≡ answer_cells o moved
   unfolding answer_cells
   cells-done s is = rw (is, same)
 
@@ -137,28 +138,28 @@ length-run_cells b (e ∷ es) =
 module _ (b slots distances : List ℕ) where
   -- the run is refused: nothing changes
   module _ (r : Refusal) where
-    pub list-refused : counts_buffer 1 b ≡ refused r → (capacity : ℕ)
-        → edit_list_outcome b slots distances capacity ≡ refused r
+    pub list-refused : counts_buffer 1 b ≡ Err r → (capacity : ℕ)
+        → edit_list_outcome b slots distances capacity ≡ Err r
     unfolding edit_list_outcome
     list-refused is capacity = rw is
 
-    pub refused-run : (out : List ℕ) (a : NumberAnswer) → a ≡ number_answer (refused r)
-        → edit_list_outcome b slots distances (length out) ≡ refused r
-        → (a ≡ number_answer (edit_list_outcome b slots distances (length out)))
+    pub refused-run : (out : List ℕ) (a : Outcome ℕ) → a ≡ (Err r)
+        → edit_list_outcome b slots distances (length out) ≡ Err r
+        → (a ≡ (edit_list_outcome b slots distances (length out)))
         × ((b ≡ edit_list_buffer b slots distances (length out)) × (out ≡ edit_list_answers b slots distances out))
     unfolding edit_list_buffer edit_list_answers
-    refused-run out a answer is = (answer ∙ ap number_answer (sym is), (rw is, rw is))
+    refused-run out a answer is = (answer ∙ (sym is), (rw is, rw is))
 
-  module _ (s : Counts) (is : counts_buffer 1 b ≡ done s) (capacity : ℕ) where
+  module _ (s : Counts) (is : counts_buffer 1 b ≡ Ok s) (capacity : ℕ) where
     pub list-fewer-slots : length slots < length distances
-        → edit_list_outcome b slots distances capacity ≡ refuse 9 0 (length slots)
+        → edit_list_outcome b slots distances capacity ≡ refuse SlotOutOfRange 0 (length slots)
     unfolding edit_list_outcome
     list-fewer-slots h =
         let m : min (length slots) (length distances) ≡ length slots = omega arith in
         rw (is, ne_eqb (length slots) (length distances) (λ q. omega arith), m)
 
     pub list-fewer-distances : length distances < length slots
-        → edit_list_outcome b slots distances capacity ≡ refuse 9 0 (length distances)
+        → edit_list_outcome b slots distances capacity ≡ refuse SlotOutOfRange 0 (length distances)
     unfolding edit_list_outcome
     list-fewer-distances h =
         let m : min (length slots) (length distances) ≡ length distances = omega arith in
@@ -166,24 +167,24 @@ module _ (b slots distances : List ℕ) where
 
     module _ (same : length slots ≡ length distances) where
       pub list-short : capacity < answer_len * length slots
-          → edit_list_outcome b slots distances capacity ≡ refuse 12 0 0
+          → edit_list_outcome b slots distances capacity ≡ refuse BufferTooSmall 0 0
       unfolding edit_list_outcome
       list-short h =
           rw (is, eqb-not (length slots) (length distances) same, lt-ltb capacity (answer_len * length slots) h)
 
       pub list_done : answer_len * length slots ≤ capacity
-          → edit_list_outcome b slots distances capacity ≡ done (length slots)
+          → edit_list_outcome b slots distances capacity ≡ Ok (length slots)
       unfolding edit_list_outcome
       list_done h =
           rw (is, eqb-not (length slots) (length distances) same, le-ltb capacity (answer_len * length slots) h)
 
   module _ (bytes : Bytes b) (small : (i : ℕ) → at distances i ≤ max_distance)
-      (s : Counts) (is : counts_buffer 1 b ≡ done s)
+      (s : Counts) (is : counts_buffer 1 b ≡ Ok s)
       (same : length slots ≡ length distances) (out : List ℕ) (fits : answer_len * length slots ≤ length out) where
     -- the run is made: the editor's run is the plain editor's
     pub made-run : (b' out' : List ℕ) → b' ≡ edit_run b (edits_of slots distances)
         → out' ≡ sets out 0 (run_cells b (edits_of slots distances))
-        → (number_answer (done (length slots)) ≡ number_answer (edit_list_outcome b slots distances (length out)))
+        → ((Ok (length slots)) ≡ (edit_list_outcome b slots distances (length out)))
         × ((b' ≡ edit_list_buffer b slots distances (length out)) × (out' ≡ edit_list_answers b slots distances out))
     unfolding edit_list_buffer edit_list_answers
     made-run b' out' buffer answers =

@@ -10,7 +10,7 @@ ghost use Rattle.pciv_format.specs.Layout.{max_slots, counts_of, summarize, prim
 ghost use Rattle.pciv_bytes.specs.Ranges.{ceil_div};
 ghost use Rattle.pciv_format.specs.Mask.{mask_len};
 
-use pciv_format::{Counts, HEADER_LEN, SENTINEL, Summary, UNINDEXED_MAX};
+use pciv_format::{HEADER_LEN, SENTINEL, UNINDEXED_MAX, Counts, Summary};
 
 // The counts of a file with n slots and k overflow entries.
 pub fn counts_of(n: usize, k: usize) -> Counts

@@ -4,7 +4,7 @@ ghost use Rattle.std.proofs.lemmas.List.Edits.{sets};
 ghost use Rattle.pciv_format.specs.Parts.{entry_of, value_of};
 ghost use Rattle.pciv_format.specs.Check.{file_parts, CheckedMap};
 
-use crate::eight::{locate_few, locate8};
+use crate::eight::{locate8, locate_few};
 use pciv_format::{HEADER_LEN, SENTINEL};
 
 // The distances at the slots of a list, which are all below n, and the numbers of their overflow entries, to the front of

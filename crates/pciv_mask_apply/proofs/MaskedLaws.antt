@@ -4,6 +4,8 @@
 --   masked-refused, -bad, -written  what a mask makes of a map: a refused file, no mask, or what is written
 --   masked-kept                     the buffer after a refusal
 -- Axioms: none.
+use Rattle.std.proofs.Common.{Ok, Err}
+use Rattle.pciv_format.specs.declared.RefusalKind.TheVariants.{TooManySlots, BadMask}
 use mathlib.Core.Path.{◌≡◌, sym, ap, ◌∙◌}
 use Prim.Native.Nat.{ℕ, ◌≤◌, ◌<◌}
 use native.Mathlib.Omega.{arith}
@@ -13,7 +15,7 @@ use lib.ListN.{length}
 use borrow.Author.Tests.{lt-ltb, le-ltb}
 use Rattle.pciv_bytes.proofs.RangesLaws.{flag-le}
 use Rattle.pciv_format.specs.Layout.{max_slots, at}
-use Rattle.pciv_format.specs.Refusals.{Outcome, done, refused, refuse, file_answer}
+use Rattle.pciv_format.specs.Refusals.{Outcome, refuse}
 use Rattle.pciv_format.specs.Parts.{value_of}
 use Rattle.pciv_format.specs.Check.{file_parts, counts_file, CheckedMap}
 use Rattle.pciv_format.specs.Read.{list_of}
@@ -23,7 +25,6 @@ use Rattle.pciv_format.specs.Mask.{masked_outcome, masked_buffer}
 use Rattle.pciv_format.specs.declared.Counts.{Counts}
 use Rattle.pciv_format.specs.declared.Summary.{Summary}
 use Rattle.pciv_format.specs.declared.Refusal.{Refusal}
-use Rattle.pciv_format.specs.declared.FileAnswer.{FileAnswer}
 use Rattle.pciv_format.proofs.CheckLaws.{done-counts}
 use Rattle.pciv_format.proofs.ReadLaws.{length-list_of, at-list}
 use Rattle.pciv_build.proofs.IntoLaws.{map-fits, map-written}
@@ -32,11 +33,11 @@ use Rattle.pciv_build.proofs.IntoLaws.{map-fits, map-written}
 
 module _ (n : ℕ) (ws : List ℕ) where
   module _ (capacity : ℕ) where
-    pub map-many : max_slots < n → map_of_mask_outcome n ws capacity ≡ refuse 3 1 0
+    pub map-many : max_slots < n → map_of_mask_outcome n ws capacity ≡ refuse TooManySlots 1 0
     unfolding map_of_mask_outcome
     map-many many = rw (lt-ltb max_slots n many)
 
-    pub map-bad : n ≤ max_slots → bad_mask n ws ≡ true → map_of_mask_outcome n ws capacity ≡ refuse 13 0 0
+    pub map-bad : n ≤ max_slots → bad_mask n ws ≡ true → map_of_mask_outcome n ws capacity ≡ refuse BadMask 0 0
     unfolding map_of_mask_outcome
     map-bad few bad = rw (le-ltb max_slots n few, bad)
 
@@ -47,7 +48,7 @@ module _ (n : ℕ) (ws : List ℕ) where
         rw (le-ltb max_slots n few, good)
         (map-fits n (mask_value ws) capacity (λ i h. omega (arith, flag-le (mask_has ws i))))
 
-  pub map-refused : (out : List ℕ) (r : Refusal) → map_of_mask_outcome n ws (length out) ≡ refused r
+  pub map-refused : (out : List ℕ) (r : Refusal) → map_of_mask_outcome n ws (length out) ≡ Err r
       → map_of_mask_buffer n ws out ≡ out
   unfolding map_of_mask_buffer
   map-refused out r e = rw e
@@ -60,17 +61,17 @@ module _ (n : ℕ) (ws : List ℕ) where
 -- ---- what a mask makes of a map
 
 module _ (f : Bool → ℕ → ℕ) (b ws : List ℕ) where
-  pub masked-refused : (r : Refusal) → counts_file 1 b ≡ refused r → (capacity : ℕ)
-      → masked_outcome f b ws capacity ≡ refused r
+  pub masked-refused : (r : Refusal) → counts_file 1 b ≡ Err r → (capacity : ℕ)
+      → masked_outcome f b ws capacity ≡ Err r
   masked-refused r e capacity = rw e
 
-  pub masked-kept : (out : List ℕ) (r : Refusal) → masked_outcome f b ws (length out) ≡ refused r
+  pub masked-kept : (out : List ℕ) (r : Refusal) → masked_outcome f b ws (length out) ≡ Err r
       → masked_buffer f b ws out ≡ out
   masked-kept out r e =
       ap (λ (o : Outcome Summary). file_buffer o (length (list_of b)) (λ i. f (mask_has ws i) (at (list_of b) i)) out) e
 
-  module _ (s : Counts) (e : counts_file 1 b ≡ done s) where
-    pub masked-bad : bad_mask s.n ws ≡ true → (capacity : ℕ) → masked_outcome f b ws capacity ≡ refuse 13 0 0
+  module _ (s : Counts) (e : counts_file 1 b ≡ Ok s) where
+    pub masked-bad : bad_mask s.n ws ≡ true → (capacity : ℕ) → masked_outcome f b ws capacity ≡ refuse BadMask 0 0
     masked-bad bad capacity = rw (e, bad)
 
     abbrev v : ℕ → ℕ
@@ -86,11 +87,11 @@ module _ (f : Bool → ℕ → ℕ) (b ws : List ℕ) where
     same i h =
         ap (f (mask_has ws i)) (sym (at-list b s.n s.k checked.header.n_is checked.header.k_is i h))
 
-    pub masked-written : bad_mask s.n ws ≡ false → (out d : List ℕ) (x : FileAnswer)
+    pub masked-written : bad_mask s.n ws ≡ false → (out d : List ℕ) (x : Outcome Summary)
         → (let v : ℕ → ℕ = λ i. f (mask_has ws i) (value_of (file_parts b s.n s.k) i) in
         let into = map_into s.n v (length out) in
-        x ≡ file_answer into → d ≡ file_buffer into s.n v out
-        → (x ≡ file_answer (masked_outcome f b ws (length out))) × (d ≡ masked_buffer f b ws out))
+        x ≡ into → d ≡ file_buffer into s.n v out
+        → (x ≡ (masked_outcome f b ws (length out))) × (d ≡ masked_buffer f b ws out))
     masked-written good out d x answer buffer =
         map-written s.n v w same (length (list_of b)) (length-list_of b ∙ checked.header.n_is) out d x
         (masked_outcome f b ws (length out)) (rw (e, good)) answer buffer

@@ -6,6 +6,8 @@
 --   select-refused, _short, -done      the outcome, where the file is refused, and where it is a map with counts s
 --   words-refused, -done, -cong        the caller's words afterwards
 -- Axioms: none.
+use Rattle.std.proofs.Common.{Ok, Err}
+use Rattle.pciv_format.specs.declared.RefusalKind.TheVariants.{BufferTooSmall}
 use mathlib.Core.Path.{◌≡◌, refl, sym, ap, ap₂, ◌∙◌}
 use Prim.Native.Nat.{ℕ, ◌+◌, ◌≤◌, ◌<◌}
 use native.Mathlib.Omega.{arith}
@@ -20,7 +22,7 @@ use Rattle.pciv_bytes.specs.LittleEndian.{Bytes}
 use Rattle.pciv_bytes.specs.ByteAt.{byte_at}
 use Rattle.pciv_bytes.proofs.WriteLaws.{sets-front}
 use Rattle.pciv_format.specs.Layout.{at}
-use Rattle.pciv_format.specs.Refusals.{Outcome, done, refused, refuse, written}
+use Rattle.pciv_format.specs.Refusals.{Outcome, refuse, written}
 use Rattle.pciv_format.specs.Parts.{Parts, value_of, SoundParts}
 use Rattle.pciv_format.specs.Check.{counts_file, file_parts, CheckedMap}
 use Rattle.pciv_format.specs.Read.{list_of}
@@ -109,7 +111,7 @@ module _ (b : List ℕ) (n k : ℕ) (m : CheckedMap b n k) (bytes : Bytes b) whe
 -- ---- the caller's words, by the outcome
 
 module _ (p : ℕ → Bool) (b out : List ℕ) where
-  pub words-refused : (r : Refusal) → select_outcome b (length out) ≡ refused r → select_words p b out ≡ out
+  pub words-refused : (r : Refusal) → select_outcome b (length out) ≡ Err r → select_words p b out ≡ out
   words-refused r e =
       ap (λ (o : Outcome ℕ). written o (mask_of (length (list_of b)) (λ (i : ℕ). p (at (list_of b) i))) out) e
 
@@ -121,17 +123,17 @@ module _ (p : ℕ → Bool) (b out : List ℕ) where
 
 -- ---- the file is refused
 
-pub select-refused : (b : List ℕ) (r : Refusal) → counts_file 1 b ≡ refused r
-    → (capacity : ℕ) → select_outcome b capacity ≡ refused r
+pub select-refused : (b : List ℕ) (r : Refusal) → counts_file 1 b ≡ Err r
+    → (capacity : ℕ) → select_outcome b capacity ≡ Err r
 select-refused b r e capacity = rw e
 
 -- ---- the file is a map
 
-module _ (b : List ℕ) (s : Counts) (e : counts_file 1 b ≡ done s) where
-  pub select_short : (capacity : ℕ) → capacity < mask_len s.n → select_outcome b capacity ≡ refuse 12 0 0
+module _ (b : List ℕ) (s : Counts) (e : counts_file 1 b ≡ Ok s) where
+  pub select_short : (capacity : ℕ) → capacity < mask_len s.n → select_outcome b capacity ≡ refuse BufferTooSmall 0 0
   select_short capacity h = rw e (items-short (mask_len s.n) capacity h)
 
-  pub select-done : (capacity : ℕ) → mask_len s.n ≤ capacity → select_outcome b capacity ≡ done (mask_len s.n)
+  pub select-done : (capacity : ℕ) → mask_len s.n ≤ capacity → select_outcome b capacity ≡ Ok (mask_len s.n)
   select-done capacity h = rw e (items-fit (mask_len s.n) capacity h)
 
   pub words-done : (p : ℕ → Bool) (out : List ℕ) → mask_len s.n ≤ length out

@@ -13,17 +13,17 @@
 --   repair_buffer, repair_list  the output and the list afterwards
 --   repair_answer              the outcome as a value of the answer's type
 -- Laws are in proofs/. Axioms: none.
+use Rattle.std.specs.Prelude.{Ok}
+use Rattle.pciv_format.specs.declared.RefusalKind.TheVariants.{TooManySlots, BadCounts, BadLength, BufferTooSmall}
 use Rattle.std.specs.Prelude.{ℕ, ◌+◌, ◌-◌, ◌*◌, Bool, not, cond, ◌&&◌, ◌||◌, List, [], ◌∷◌, ◌++◌, map, length, ltb, eqb}
 use Rattle.pciv_bytes.specs.Ranges.{positions}
 use Rattle.pciv_bytes.specs.LittleEndian.{get}
 use Rattle.pciv_bytes.specs.ByteAt.{byte_at}
 use Rattle.pciv_format.specs.Layout.{max_slots, summary}
-use Rattle.pciv_format.specs.Refusals.{Outcome, done, refused, refuse, refuse_if, written}
+use Rattle.pciv_format.specs.Refusals.{Outcome, refuse, refuse_if, written}
 use Rattle.pciv_format.specs.Check.{file_parts}
 use Rattle.pciv_repair_file.specs.Repaired.{is_kept, is_set, repaired_at, repaired_file, bytes_after, rebuilt_index, same}
 use Rattle.pciv_repair.specs.declared.Repaired.{Repaired}
-use Rattle.pciv_repair.specs.declared.RepairAnswer.{RepairAnswer}
-use Rattle.pciv_repair.specs.declared.RepairAnswer.TheVariants as InRepair
 
 -- ---- the header
 
@@ -99,11 +99,11 @@ repaired_of b n k = record { summary = summary n (repaired_at b n k); lines = le
 
 unfoldable pub repair_outcome : List ℕ → ℕ → ℕ → ℕ → ℕ → Outcome Repaired
 repair_outcome b n k capacity room =
-    refuse_if (ltb max_slots n) (refuse 3 1 0)
-    (refuse_if (ltb n k) (refuse 4 1 0)
-    (refuse_if (ltb (length b) (40 + n + 12 * k)) (refuse 5 1 0)
-    (refuse_if (ltb capacity (length (repaired_file b n k)) || ltb room (4 * length (corrections b n k))) (refuse 12 0 0)
-    (done (repaired_of b n k)))))
+    refuse_if (ltb max_slots n) (refuse TooManySlots 1 0)
+    (refuse_if (ltb n k) (refuse BadCounts 1 0)
+    (refuse_if (ltb (length b) (40 + n + 12 * k)) (refuse BadLength 1 0)
+    (refuse_if (ltb capacity (length (repaired_file b n k)) || ltb room (4 * length (corrections b n k))) (refuse BufferTooSmall 0 0)
+    (Ok (repaired_of b n k)))))
 
 -- the output afterwards, where the list holds `room` numbers
 unfoldable pub repair_buffer : List ℕ → ℕ → ℕ → ℕ → List ℕ → List ℕ
@@ -113,7 +113,3 @@ repair_buffer b n k room out = written (repair_outcome b n k (length out) room) 
 unfoldable pub repair_list : List ℕ → ℕ → ℕ → ℕ → List ℕ → List ℕ
 repair_list b n k capacity list =
     written (repair_outcome b n k capacity (length list)) (numbers_of (corrections b n k)) list
-
-abbrev pub repair_answer : Outcome Repaired → RepairAnswer
-repair_answer (done a) = InRepair.Done a
-repair_answer (refused r) = InRepair.Refused r

@@ -4,6 +4,7 @@
 --   put_front          what stands at the front of a list after a text was written there
 --   report_text-done    an accepted file's text, by the check's sum and the answer of `readings`
 -- Axioms: none.
+use Rattle.std.proofs.Common.{Ok}
 use mathlib.Core.Path.{◌≡◌, sym, ap, ap₂, ◌∙◌}
 use Prim.Native.Nat.{ℕ, ◌≤◌}
 use native.Mathlib.Omega.{arith}
@@ -12,7 +13,6 @@ use lib.ListN.{length, take, drop, length-append}
 use lib.Seq.{sets, length-sets, take-append_seam}
 use borrow.Author.Tests.{le-ltb}
 use Rattle.pciv_bytes.proofs.WriteLaws.{sets-append, sets-front}
-use Rattle.pciv_format.specs.Refusals.{done, number_answer}
 use Rattle.pciv_format.specs.Read.{check_file, readings_outcome}
 use Rattle.pciv_format.specs.Report.{map_lines, report_text}
 use Rattle.pciv_format.specs.declared.Summary.{Summary}
@@ -42,8 +42,8 @@ module _ {d e : List ℕ} {q : ℕ} {a : List ℕ} where
 -- ---- the text of an accepted file
 
 -- it has the sum of the check, and the count that `readings` answers
-pub report_text-done : (b : List ℕ) (s : Summary) → length b ≤ 65536 → check_file 1 b ≡ done s
-    → report_text b ≡ map_lines s s.sum (number_of (number_answer (readings_outcome b)))
+pub report_text-done : (b : List ℕ) (s : Summary) → length b ≤ 65536 → check_file 1 b ≡ Ok s
+    → report_text b ≡ map_lines s s.sum (number_of ((readings_outcome b)))
 unfolding report_text readings_outcome
 report_text-done b s short good =
     let a = ((counts-refuse-alike 1 b).1 s).0 good in

@@ -5,6 +5,7 @@
 --                   steps leave the editor's buffer
 --   slot-moves      an edit where the old and the new distance differ in being in overflow has all of it
 -- Axioms: none.
+use Rattle.std.proofs.Common.{Ok}
 use mathlib.Core.Path.{◌≡◌, refl, sym, ap, ap₂, ◌∙◌}
 use Prim.Native.Nat.{ℕ, ◌+◌, ◌-◌, ◌*◌, ◌≤◌, ◌<◌}
 use native.Mathlib.Nat.{add-zero}
@@ -21,7 +22,7 @@ use Rattle.pciv_bytes.proofs.WriteLaws.{sets-append, set-behind, sets_behind, se
 use Rattle.pciv_format.specs.Layout.{file_len, primary_byte, primary, overflow_slots, overflow_count}
 use Rattle.pciv_format.specs.Layout.{overflow_entry, overflow_part, index_part, header, file, counts_of, summarize}
 use Rattle.pciv_format.specs.Layout.{at, file_of}
-use Rattle.pciv_format.specs.Refusals.{Outcome, done}
+use Rattle.pciv_format.specs.Refusals.{Outcome}
 use Rattle.pciv_format.specs.Check.{file_parts}
 use Rattle.pciv_format.specs.Read.{total, with_sum}
 use Rattle.pciv_format.specs.Edit.{Edit, edited, replaced, edit_outcome, moved_by, edit_moved, edit_buffer}
@@ -356,7 +357,7 @@ module _ (b : List ℕ) (n k : ℕ) (bytes : Bytes b) (e : Edit) (p : EditAt b n
     slot-moves =
         let answer = edit-counted b n k bytes e p count moved-count in
         let sum : ℕ = total (edited (held b) e) in
-        let accepted : file_len n count ≤ length b → edit_outcome b e ≡ done (summarize (counts_of n count) sum) =
+        let accepted : file_len n count ≤ length b → edit_outcome b e ≡ Ok (summarize (counts_of n count) sum) =
         λ fits. answer ∙ ap (λ (o : Outcome Counts). with_sum o sum) (begin-fits n count b fits).0 in
         record {
           few = moved-few;

@@ -5,6 +5,7 @@
 --   write-into             else the answer is that of writing the file
 --   write_buffer-is         the buffer, by the answer
 -- Axioms: none.
+use Rattle.pciv_format.specs.declared.RefusalKind.TheVariants.{TooManySlots}
 use mathlib.Core.Path.{◌≡◌, refl, sym, ◌∙◌}
 use Prim.Native.Nat.{ℕ, ◌-◌, ◌≤◌, ◌<◌}
 use native.Mathlib.Nat.{sub-zero}
@@ -36,7 +37,7 @@ count_small xs = omega (arith, sum_from-le (overflow_at xs) 1 (λ j. flag-le (in
 -- ---- the answer and the buffer
 
 module _ (xs out : List ℕ) where
-  pub write-long : max_slots < length xs → (write_outcome xs (length out) ≡ refuse 3 1 0) × (write_buffer xs out ≡ out)
+  pub write-long : max_slots < length xs → (write_outcome xs (length out) ≡ refuse TooManySlots 1 0) × (write_buffer xs out ≡ out)
   unfolding write_outcome write_buffer
   write-long long = let t = lt-ltb max_slots (length xs) long in (rw t, rw t)
 

@@ -7,16 +7,15 @@ ghost use Rattle.std.specs.Prelude.{◌≡◌, ◌+◌, ◌*◌, ◌≤◌, leng
 ghost use Rattle.std.proofs.lemmas.List.Edits.{sets};
 ghost use Rattle.pciv_bytes.specs.Ranges.{flag};
 ghost use Rattle.pciv_format.specs.Layout.{max_slots, in_overflow, primary, overflow_count, overflow_part, at};
-ghost use Rattle.pciv_format.specs.Refusals.{file_answer};
 ghost use Rattle.pciv_format.specs.Write.{write_outcome, write_buffer};
 ghost use Rattle.pciv_build.specs.Slots.{HoldsPrimary};
 
 use pciv_build::slots::put_slots;
 use pciv_build::{begin, finish, put_entry};
 use pciv_bytes::little_endian::get64;
-use pciv_format::{CountsAnswer, FileAnswer, HEADER_LEN, MAX_SLOTS, SENTINEL, TOO_MANY_SLOTS};
+use pciv_format::{HEADER_LEN, MAX_SLOTS, SENTINEL, Refusal, RefusalKind, Summary};
 use pciv_layout::primary_byte;
-use pciv_layout::refusals::refuse_file;
+use pciv_layout::refusals::refuse;
 use pciv_map::totals::summary_of;
 
 // The least distance that is in overflow.
@@ -76,24 +75,19 @@ fn put_entries(out: &mut [u8], distances: &[u32], k: usize)
 
 // Writes the file of a list of distances to the front of the caller's buffer. Refusals: 3 with map 1, then 12.
 // A refused call changes no byte, and bytes past the file stay as they were.
-pub fn write(distances: &[u32], out: &mut [u8]) -> FileAnswer
-    ensures answer { result ≡ file_answer (write_outcome distances.now (length out.old)) }
+pub fn write(distances: &[u32], out: &mut [u8]) -> Result<Summary, Refusal>
+    ensures answer { result ≡ write_outcome distances.now (length out.old) }
     ensures buffer { out.new ≡ write_buffer distances.now out.old }
 {
     let n = distances.len();
     let is_large = MAX_SLOTS < n;
     if is_large {
-        return refuse_file(TOO_MANY_SLOTS, 1, 0);
+        return refuse(RefusalKind::TooManySlots, 1, 0);
     }
     let k = count_overflow(distances);
-    let begun = begin(out, n, k);
-    match begun {
-        CountsAnswer::Refused(r) => FileAnswer::Refused(r),
-        CountsAnswer::Counted(c) => {
-            put_primary(out, distances);
-            put_entries(out, distances, k);
-            finish(out, n, k);
-            FileAnswer::Done(summary_of(out, c))
-        }
-    }
+    let c = begin(out, n, k)?;
+    put_primary(out, distances);
+    put_entries(out, distances, k);
+    finish(out, n, k);
+    Ok(summary_of(out, c))
 }

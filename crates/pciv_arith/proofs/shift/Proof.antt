@@ -1,8 +1,8 @@
 -- Proves pciv_arith::shift.
+use Rattle.std.proofs.Common.{Ok, Err}
 use mathlib.Core.Path.{◌≡◌, sym, ap, ◌∙◌}
 use mir.Syntax.{w32}
 use mir.Facts.{to_z-of_z}
-use Rattle.pciv_format.specs.Refusals.{done, refused}
 use Rattle.pciv_format.specs.Check.{counts_file}
 use Rattle.pciv_format.proofs.RefusalsLaws.{counts_answer-counted, counts_answer-refused}
 use Rattle.pciv_arith.specs.Direction.{direction_of}
@@ -17,11 +17,11 @@ entry c = c.before.before.before
 
 -- what the check has shown: why the file is refused, or its counts
 is-refused : (c : tie.In-Refused)
-    → counts_file 1 (entry c.before).args.file.now ≡ refused c.in-Refused.r
+    → counts_file 1 (entry c.before).args.file.now ≡ Err c.in-Refused.r
 is-refused c = counts_answer-refused _ _ (sym c.in-Refused.is ∙ c.check_counts-checked.ensures)
 
 is-map : (c : tie.In-Counted)
-    → counts_file 1 (entry c.before).args.file.now ≡ done c.in-Counted.s
+    → counts_file 1 (entry c.before).args.file.now ≡ Ok c.in-Counted.s
 is-map c = counts_answer-counted _ _ (sym c.in-Counted.is ∙ c.check_counts-checked.ensures)
 
 -- which way it goes

@@ -1,7 +1,7 @@
 -- Proves pciv_arith::signed_difference.
+use Rattle.std.proofs.Common.{Ok, Err}
 use mathlib.Core.Path.{◌≡◌, sym, ap, ◌∙◌}
 use lib.ListN.{length}
-use Rattle.pciv_format.specs.Refusals.{done, refused, number_answer}
 use Rattle.pciv_check.specs.Pair.{pair_counts}
 use Rattle.pciv_check.proofs.PairLaws.{pair-checked, pair_answer-ready, pair_answer-refused}
 use Rattle.pciv_arith.proofs.SignedDifferenceLaws.{difference-refused, difference-short}
@@ -16,12 +16,12 @@ entry c = c.before.before.before
 -- what the check has shown: why the pair is refused, or its counts
 is-refused : (c : tie.In-Refused)
     → pair_counts (entry c.before).args.a.now (entry c.before).args.b.now
-    ≡ refused c.in-Refused.r
+    ≡ Err c.in-Refused.r
 is-refused c = pair_answer-refused _ _ (sym c.in-Refused.is ∙ c.check_pair-checked.ensures)
 
 are-maps : (c : tie.In-Ready)
     → pair_counts (entry c.before).args.a.now (entry c.before).args.b.now
-    ≡ done c.in-Ready.c
+    ≡ Ok c.in-Ready.c
 are-maps c = pair_answer-ready _ _ (sym c.in-Ready.is ∙ c.check_pair-checked.ensures)
 
 check_pair-checked-requires : tie.Need-check_pair-checked-requires
@@ -40,7 +40,7 @@ returns-then-out-n : tie.Need-returns-then-out-n
 returns-then-out-n c =
     let a = (entry c.before.before.before).args in
     let e = difference-short a.a.now a.b.now _ (are-maps c.before.before) (length a.out.now) c.if-out-n.true in
-    (c.refuse_number.ensures ∙ ap number_answer (sym e), difference-kept a.a.now a.b.now _ a.out.now e)
+    (c.refuse_number.ensures ∙ (sym e), difference-kept a.a.now a.b.now _ a.out.now e)
 
 differences_into-requires : tie.Need-differences_into-requires
 differences_into-requires c κs =
@@ -50,7 +50,7 @@ returns-in-Refused : tie.Need-returns-in-Refused
 returns-in-Refused c =
     let a = (entry c.before).args in
     let e = difference-refused a.a.now a.b.now _ (is-refused c) (length a.out.now) in
-    (ap number_answer (sym e), difference-kept a.a.now a.b.now _ a.out.now e)
+    ((sym e), difference-kept a.a.now a.b.now _ a.out.now e)
 
 shape_of-out : tie.Need-shape_of-out
 shape_of-out c = search rules

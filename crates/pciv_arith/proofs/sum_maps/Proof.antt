@@ -1,7 +1,7 @@
 -- Proves pciv_arith::sum_maps: the check of both maps, then the file of the result.
+use Rattle.std.proofs.Common.{Ok}
 use mathlib.Core.Path.{◌≡◌, sym, ◌∙◌}
 use borrow.Author.Rules.{rules}
-use Rattle.pciv_format.specs.Refusals.{done}
 use Rattle.pciv_format.specs.declared.SlotOp.TheVariants.{Sum}
 use Rattle.pciv_check.specs.Pair.{pair_counts}
 use Rattle.pciv_check.proofs.PairLaws.{pair_answer-ready, pair_answer-refused, pair-checked}
@@ -12,7 +12,7 @@ use Rattle.pciv_arith.proofs.sum_maps.Tie as tie
 -- what the check has shown: the counts of both
 are-maps : (c : tie.In-Ready)
     → (let a = c.args in
-    pair_counts a.a.now a.b.now ≡ done c.in-Ready.c)
+    pair_counts a.a.now a.b.now ≡ Ok c.in-Ready.c)
 are-maps c = pair_answer-ready _ _ (sym c.in-Ready.is ∙ c.check_pair-checked.ensures)
 
 check_pair-checked-requires : tie.Need-check_pair-checked-requires

@@ -1,7 +1,7 @@
 -- Proves pciv_build::begin: one law for each case.
+use Rattle.std.proofs.Common.{Ok}
 use mathlib.Core.Path.{sym, ap, ◌∙◌}
 use native.Mathlib.Omega.{arith}
-use Rattle.pciv_format.specs.Refusals.{done, counts_answer}
 use Rattle.pciv_format.specs.declared.Counts.{Counts}
 use Rattle.pciv_format.proofs.LayoutLaws.{file_len-is}
 use Rattle.pciv_build.proofs.BuildLaws.{begin-short, begin-fits}
@@ -19,7 +19,7 @@ returns-then-out-file_len : tie.Need-returns-then-out-file_len
 returns-then-out-file_len c =
     let a = c.args in
     let r = begin-short a.n a.k a.out.now (omega arith) in
-    (c.refuse_counts.ensures ∙ ap counts_answer (sym r.0), sym r.1)
+    (c.refuse_counts.ensures ∙ (sym r.0), sym r.1)
 
 put_header-requires : tie.Need-put_header-requires
 put_header-requires c κs =
@@ -36,8 +36,8 @@ returns : tie.Need-returns
 returns c =
     let a = c.args in
     let r = begin-fits a.n a.k a.out.now (omega arith) in (
-      ap (λ (s : Counts). counts_answer (done s)) c.counts_of.ensures
-          ∙ ap counts_answer (sym r.0),
+      ap (λ (s : Counts). (Ok s)) c.counts_of.ensures
+          ∙ (sym r.0),
       c.put_header.ensures ∙ sym r.1,
     )
 

@@ -1,7 +1,7 @@
 -- Proves pciv_bundle::nearest: one law for each answer.
+use Rattle.std.proofs.Common.{Ok, Err}
 use mathlib.Core.Path.{◌≡◌, sym, ap, ◌∙◌}
 use lib.ListN.{length}
-use Rattle.pciv_format.specs.Refusals.{done, refused, number_answer}
 use Rattle.pciv_bundle_records.proofs.RecordsLaws.{bundle_answer-counted, bundle_answer-refused}
 use Rattle.pciv_bundle.specs.Bundle.{bundle_outcome, nearest_buffer}
 use Rattle.pciv_bundle.proofs.BundleCaseLaws.{accepted-frames, bundle-checked, nearest-refused, nearest-short}
@@ -12,12 +12,12 @@ use Rattle.pciv_bundle.proofs.nearest.Tie as tie
 
 -- what the check has shown: why the bundle is refused, or its counts
 is-refused : (c : tie.In-Refused)
-    → (bundle_outcome c.args.bundle.now ≡ refused c.in-Refused.r)
+    → (bundle_outcome c.args.bundle.now ≡ Err c.in-Refused.r)
 is-refused c =
     bundle_answer-refused _ _ (sym c.in-Refused.is ∙ c.check_bundle-split.ensures.0)
 
 is-bundle : (c : tie.In-Counted)
-    → (bundle_outcome c.args.bundle.now ≡ done c.in-Counted.c)
+    → (bundle_outcome c.args.bundle.now ≡ Ok c.in-Counted.c)
 is-bundle c =
     bundle_answer-counted _ _ (sym c.in-Counted.is ∙ c.check_bundle-split.ensures.0)
 
@@ -38,7 +38,7 @@ unfolding nearest_buffer
 returns-then-out-n c =
     let a = c.args in
     let short = nearest-short a.bundle.now _ (is-bundle c.before.before) (length a.out.now) c.if-out-n.true in
-    (c.refuse_number.ensures ∙ ap number_answer (sym short), rw short)
+    (c.refuse_number.ensures ∙ (sym short), rw short)
 
 nearest_into-requires : tie.Need-nearest_into-requires
 nearest_into-requires c κs =
@@ -53,7 +53,7 @@ unfolding nearest_buffer
 returns-in-Refused c =
     let a = c.args in
     let no = nearest-refused a.bundle.now _ (is-refused c) (length a.out.now) in
-    (ap number_answer (sym no), rw no)
+    ((sym no), rw no)
 
 shape_of-out : tie.Need-shape_of-out
 shape_of-out c = search rules
@@ -62,7 +62,7 @@ returns-else-out-n : tie.Need-returns-else-out-n
 returns-else-out-n c =
     let a = c.args in
     let fits = c.if-out-n.false in (
-      ap number_answer (sym (nearest-done a.bundle.now _ (is-bundle c.before.before.before.before.before) (length a.out.now) fits)),
+      (sym (nearest-done a.bundle.now _ (is-bundle c.before.before.before.before.before) (length a.out.now) fits)),
       c.nearest_into.ensures ∙ nearest-buffer a.bundle.now _ (is-bundle c.before.before.before.before.before) a.out.now fits,
     )
 

@@ -1,8 +1,8 @@
 -- Proves pciv_bundle::row: one law for each answer.
+use Rattle.std.proofs.Common.{Ok, Err}
 use mathlib.Core.Path.{◌≡◌, sym, ap, ◌∙◌}
 use Prim.Native.Nat.{ℕ}
 use mathlib.Core.List.{List}
-use Rattle.pciv_format.specs.Refusals.{done, refused}
 use Rattle.pciv_bundle_records.proofs.RecordsLaws.{bundle_answer-counted, bundle_answer-refused}
 use Rattle.pciv_bundle.specs.Bundle.{bundle_outcome, row_answer}
 use Rattle.pciv_bundle.proofs.BundleCaseLaws.{accepted-frames, bundle-checked, row-refused, row-outside}
@@ -13,12 +13,12 @@ use Rattle.pciv_bundle.proofs.row.Tie as tie
 
 -- what the check has shown: why the bundle is refused, or its counts
 is-refused : (c : tie.In-Refused)
-    → bundle_outcome c.args.bundle.now ≡ refused c.in-Refused.r
+    → bundle_outcome c.args.bundle.now ≡ Err c.in-Refused.r
 is-refused c =
     bundle_answer-refused _ _ (sym c.in-Refused.is ∙ c.check_bundle-split.ensures.0)
 
 is-bundle : (c : tie.In-Counted)
-    → bundle_outcome c.args.bundle.now ≡ done c.in-Counted.c
+    → bundle_outcome c.args.bundle.now ≡ Ok c.in-Counted.c
 is-bundle c =
     bundle_answer-counted _ _ (sym c.in-Counted.is ∙ c.check_bundle-split.ensures.0)
 
@@ -57,7 +57,7 @@ returns-in-Refused c =
 returns-else-n-slot : tie.Need-returns-else-n-slot
 returns-else-n-slot c =
     let a = c.args in
-    ap (λ (row : List ℕ). row_answer (done row)) c.row_of.ensures
+    ap (λ (row : List ℕ). row_answer (Ok row)) c.row_of.ensures
     ∙ ap row_answer (sym (row_inside a.bundle.now _ (is-bundle c.before.before) a.slot c.if-n-slot.false))
 
 pub row_spec : {M : Type 1} → statement M

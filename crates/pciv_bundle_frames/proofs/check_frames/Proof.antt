@@ -4,7 +4,6 @@ use mathlib.Core.Path.{sym, ap, ◌∙◌}
 use Prim.Native.Nat.{◌<◌, ◌-◌}
 use native.Mathlib.Omega.{arith}
 use lib.ListN.{length}
-use Rattle.pciv_format.specs.Refusals.{number_answer}
 use Rattle.pciv_bundle_records.specs.Records.{frames}
 use Rattle.pciv_bundle_frames.proofs.FramesLaws.{Passed, passed_none, passed-more, passed-le}
 use Rattle.pciv_bundle_frames.proofs.FramesLaws.{passed-refused, frames-end}
@@ -62,8 +61,7 @@ same_slots-requires c κs =
 returns : tie.Need-returns invariant-loop-next decreases-loop-next
 returns c =
     c.same_slots.ensures
-    ∙ ap number_answer
-    (sym (frames-end c.loop-next.invariant c.args.count (sym c.requires.0.1) c.loop-next-test.false))
+    ∙ (sym (frames-end c.loop-next.invariant c.args.count (sym c.requires.0.1) c.loop-next-test.false))
 
 pub check_frames_spec : {M : Type 1} → statement M
 check_frames_spec =

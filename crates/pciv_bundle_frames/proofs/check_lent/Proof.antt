@@ -5,7 +5,6 @@ use Prim.Native.Nat.{◌<◌, ◌-◌}
 use native.Mathlib.Omega.{arith}
 use mathlib.Core.List.{[]}
 use lib.ListN.{length, get_or}
-use Rattle.pciv_format.specs.Refusals.{number_answer}
 use Rattle.pciv_bundle_frames.proofs.LentLaws.{no_frame, used, used-length, used-at}
 use Rattle.pciv_bundle_frames.proofs.FramesLaws.{Passed, passed_none, passed-more, passed-le}
 use Rattle.pciv_bundle_frames.proofs.FramesLaws.{passed-refused, frames-end}
@@ -80,7 +79,7 @@ same_slots-requires c κs =
 returns : tie.Need-returns invariant-loop-passed decreases-loop-passed
 returns c =
     c.same_slots.ensures
-    ∙ ap number_answer (sym (frames-end c.loop-passed.invariant c.args.count (many c.before.before.before) c.loop-passed-test.false))
+    ∙ (sym (frames-end c.loop-passed.invariant c.args.count (many c.before.before.before) c.loop-passed-test.false))
 
 pub check_lent_spec : {M : Type 1} → statement M
 check_lent_spec =

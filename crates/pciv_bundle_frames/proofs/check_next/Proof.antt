@@ -1,7 +1,7 @@
 -- Proves pciv_bundle_frames::check_next: the frame is refused, or its slots are compared.
+use Rattle.std.proofs.Common.{Ok, Err}
 use mathlib.Core.Path.{◌≡◌, sym, ◌∙◌}
 use Prim.Native.Nat.{◌+◌}
-use Rattle.pciv_format.specs.Refusals.{done, refused}
 use Rattle.pciv_format.specs.Check.{counts_file}
 use Rattle.pciv_format.proofs.RefusalsLaws.{counts_answer-counted, counts_answer-refused}
 use borrow.Author.Rules.{rules}
@@ -25,12 +25,12 @@ next_other-requires c κs = search rules
 
 is-refused : (c : tie.In-Refused)
     → (let a = c.args in
-    counts_file (a.f + 1) a.frame.now ≡ refused c.in-Refused.r)
+    counts_file (a.f + 1) a.frame.now ≡ Err c.in-Refused.r)
 is-refused c = counts_answer-refused _ _ (sym c.in-Refused.is ∙ c.check_counts-checked.ensures)
 
 is-sound : (c : tie.In-Counted)
     → (let a = c.args in
-    counts_file (a.f + 1) a.frame.now ≡ done c.in-Counted.s)
+    counts_file (a.f + 1) a.frame.now ≡ Ok c.in-Counted.s)
 is-sound c = counts_answer-counted _ _ (sym c.in-Counted.is ∙ c.check_counts-checked.ensures)
 
 returns-in-Refused : tie.Need-returns-in-Refused

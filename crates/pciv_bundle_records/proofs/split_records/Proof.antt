@@ -1,5 +1,6 @@
 -- Proves pciv_bundle_records::split_records. Invariant: `Splitting`: record `number` would start at `at`, no record before it is
 -- at fault, `found` of them are frames, and each has its place. Falls: the bytes from `at` on.
+use Rattle.std.proofs.Common.{Ok}
 use mathlib.Core.Path.{◌≡◌, refl, sym, ap, ap₂, ◌∙◌}
 use mathlib.Core.Bool.{false}
 use mathlib.Core.List.{List}
@@ -9,9 +10,8 @@ use lib.ListN.{length}
 use lib.Dec.{ltb}
 use borrow.Author.Tests.{ltb-false}
 use Rattle.pciv_format.proofs.PartsLaws.{or-false}
-use Rattle.pciv_bundle_records.specs.Records.{bundle_answer, counts_in, behind_record, frame_count, bad_header, wrong_record}
+use Rattle.pciv_bundle_records.specs.Records.{counts_in, behind_record, frame_count, bad_header, wrong_record}
 use Rattle.pciv_bundle_records.specs.declared.BundleCounts.{BundleCounts}
-use Rattle.pciv_bundle_records.specs.declared.BundleAnswer.TheVariants as InBundle
 use Rattle.pciv_bundle_records.proofs.RecordsLaws.{record_at-low, records-header, Later, wrong-right}
 use Rattle.pciv_bundle_records.proofs.SplitLaws.{Splitting, splitting-start, splitting-header, splitting-refused}
 use Rattle.pciv_bundle_records.proofs.SplitLaws.{splitting-other, splitting-frame, splitting-missing, splitting-done}
@@ -188,7 +188,7 @@ returns c =
     let e = splitting-done c.loop-at.invariant (omega arith) (omega (arith, c.get16-count.ensures)) in
     let counts : counted c.before.before ≡ counts_in (bundle (passed c.before.before)) =
     ap₂ (λ (n k : ℕ). record { slots = n; frames = k }) c.get32-slots.ensures c.get16-count.ensures in
-    (ap InBundle.Counted counts ∙ ap bundle_answer (sym e), λ d accepted. splitting-placed c.loop-at.invariant (omega arith))
+    (ap Ok counts ∙ (sym e), λ d accepted. splitting-placed c.loop-at.invariant (omega arith))
 
 pub split_records_spec : {M : Type 1} → statement M
 split_records_spec =

@@ -1,4 +1,6 @@
 -- Proves pciv_check::check_header: the tests in turn.
+use Rattle.std.proofs.Common.{Ok}
+use Rattle.pciv_format.specs.declared.RefusalKind.TheVariants.{BadCounts}
 use mathlib.Core.Path.{◌≡◌, sym, ap, ◌∙◌}
 use Prim.Native.Nat.{◌≤◌}
 use native.Mathlib.Omega.{arith}
@@ -6,9 +8,8 @@ use lib.ListN.{length}
 use Rattle.pciv_bytes.specs.LittleEndian.{get}
 use Rattle.pciv_format.specs.Layout.{max_slots, magic, index_step, index_len, counts_of}
 use mathlib.Core.Bool.{true}
-use Rattle.pciv_format.specs.Refusals.{refuse, counts_answer}
+use Rattle.pciv_format.specs.Refusals.{refuse}
 use Rattle.pciv_format.specs.Check.{n_field, k_field, m_field, step_field, bad_counts, check_header}
-use Rattle.pciv_format.specs.declared.CountsAnswer.TheVariants.{Counted}
 use Rattle.pciv_format.specs.declared.Counts.{Counts}
 use Rattle.pciv_format.proofs.CheckLaws.{check_header-done}
 use Rattle.pciv_check.proofs.RefusalLaws.{bad_counts-k, bad_counts-step, bad_counts-m, header-short}
@@ -28,11 +29,11 @@ counts-refused : (c : tie.Else-is_large)
     → (let a = c.args in
     let b = a.file.now in
     bad_counts (n_field b) (k_field b) (m_field b) (step_field b) ≡ true
-    → counts_answer (refuse 4 a.map 0) ≡ counts_answer (check_header a.map b))
+    → (refuse BadCounts a.map 0) ≡ (check_header a.map b))
 counts-refused c bad =
     let a = c.args in
     let o = opened c in
-    ap counts_answer (sym (header-counts a.map a.file.now o.0 o.1 o.2 bad))
+    (sym (header-counts a.map a.file.now o.0 o.1 o.2 bad))
 
 -- the step and the number of index entries by the rule
 counted_step : (c : tie.After-counts_of-counts) → c.counts_of-counts.result.step ≡ index_step c.get64-k.result
@@ -49,7 +50,7 @@ refuse_counts-requires c κs = search rules
 returns-then-is_short : tie.Need-returns-then-is_short
 returns-then-is_short c =
     let a = c.args in
-    c.refuse_counts.ensures ∙ ap counts_answer (sym (header-short a.map a.file.now (omega arith)))
+    c.refuse_counts.ensures ∙ (sym (header-short a.map a.file.now (omega arith)))
 
 get64-magic-requires : tie.Need-get64-magic-requires
 get64-magic-requires c κs = search rules
@@ -61,7 +62,7 @@ returns-then-is_other : tie.Need-returns-then-is_other
 returns-then-is_other c =
     let a = c.args in
     let other : get 8 a.file.now 0 ≡ magic → ⊥ = λ e. c.if-is_other.true (c.get64-magic.ensures ∙ e) in
-    c.refuse_counts-then-is_other.ensures ∙ ap counts_answer (sym (header-mark a.map a.file.now (omega arith) other))
+    c.refuse_counts-then-is_other.ensures ∙ (sym (header-mark a.map a.file.now (omega arith) other))
 
 get64-n-requires : tie.Need-get64-n-requires
 get64-n-requires c κs = search rules
@@ -73,8 +74,7 @@ returns-then-is_large : tie.Need-returns-then-is_large
 returns-then-is_large c =
     let a = c.args in
     c.refuse_counts-then-is_large.ensures
-    ∙ ap counts_answer
-    (sym
+    ∙ (sym
     (header-slots a.map a.file.now (omega arith) (omega (arith, c.get64-magic.ensures)) (omega arith)))
 
 get64-k-requires : tie.Need-get64-k-requires
@@ -122,7 +122,7 @@ returns : tie.Need-returns
 returns c =
     let a = c.args in
     let o = opened c.before.before.before.before.before.before.before.before.before in
-    let done =
+    let Ok =
     check_header-done a.map a.file.now c.get64-n.result c.get64-k.result o.0
     (record {
       mark = o.1;
@@ -133,7 +133,7 @@ returns c =
       small = omega arith;
       few = omega arith;
     }) in
-    ap Counted c.counts_of-counts.ensures ∙ ap counts_answer (sym done)
+    ap Ok c.counts_of-counts.ensures ∙ (sym Ok)
 
 pub check_header_spec : {M : Type 1} → statement M
 check_header_spec =

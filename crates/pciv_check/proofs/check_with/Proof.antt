@@ -1,6 +1,6 @@
 -- Proves pciv_check::check_with: the header, the length, then the parts.
+use Rattle.std.proofs.Common.{Ok}
 use mathlib.Core.Path.{◌≡◌, sym, ◌∙◌}
-use Rattle.pciv_format.specs.Refusals.{done}
 use Rattle.pciv_format.specs.Check.{check_header, check_with}
 use Rattle.pciv_format.proofs.RefusalsLaws.{counts_answer-counted, counts_answer-refused}
 use Rattle.pciv_check.proofs.RefusalLaws.{wrong_length-fits, header-inside}
@@ -11,7 +11,7 @@ use Rattle.pciv_check.proofs.check_with.Tie as tie
 -- the header's counts
 header-done : (c : tie.In-Counted)
     → (let a = c.args in
-    check_header a.map a.file.now ≡ done c.in-Counted.s)
+    check_header a.map a.file.now ≡ Ok c.in-Counted.s)
 header-done c = counts_answer-counted _ _ (sym c.in-Counted.is ∙ c.check_header-counts.ensures)
 
 check_header-counts-requires : tie.Need-check_header-counts-requires

@@ -1,8 +1,8 @@
 -- Proves pciv_check::with_sum: a refusal stays, and the counts get the sum of the checked map.
+use Rattle.std.proofs.Common.{Ok}
 use mathlib.Core.Path.{sym, ap, ◌∙◌}
 use Rattle.pciv_format.specs.Layout.{summarize}
 use Rattle.pciv_format.specs.Check.{CheckedMap}
-use Rattle.pciv_format.specs.declared.FileAnswer.TheVariants.{Done}
 use Rattle.pciv_format.proofs.RefusalsLaws.{counts_answer-counted, counts_answer-refused}
 use Rattle.pciv_format.proofs.ReadLaws.{total-is}
 use borrow.Author.Rules.{rules}
@@ -32,7 +32,7 @@ returns-in-Counted c =
     let map = (map_of c.before).header in
     λ o is.
     rw (counts_answer-counted o s (sym c.in-Counted.is ∙ is))
-    (ap Done
+    (ap Ok
     (c.summary_of-told.ensures
     ∙ ap (summarize s)
     (sym (total-is c.args.file.now s.n s.k map.n_is map.k_is))))

@@ -1,14 +1,13 @@
 -- Proves pciv_check_parts::check_parts: refusals 6, 7 and 8 in turn.
+use Rattle.std.proofs.Common.{Ok}
 use mathlib.Core.Path.{◌≡◌, sym, ap, ◌∙◌}
 use mathlib.Core.Bool.{false}
 use Prim.Native.Nat.{ℕ, ◌<◌}
 use native.Mathlib.Omega.{arith}
 use Rattle.pciv_bytes.proofs.RangesLaws.{first_below-all}
 use Rattle.pciv_format.specs.Layout.{index_len}
-use Rattle.pciv_format.specs.Refusals.{counts_answer}
 use Rattle.pciv_format.specs.Parts.{bad_entry, bad_slot, EntriesRight}
 use Rattle.pciv_format.specs.Check.{file_parts, bad_index_entry}
-use Rattle.pciv_format.specs.declared.CountsAnswer.TheVariants.{Counted}
 use Rattle.pciv_check_parts.proofs.PartsRefusalLaws.{parts-entry, parts-slot, parts-index, parts-done}
 use borrow.Author.Rules.{rules}
 use Rattle.pciv_check_parts.proofs.check_parts.Statement.{statement}
@@ -40,8 +39,7 @@ returns-then-entry-k : tie.Need-returns-then-entry-k
 returns-then-entry-k c =
     let a = c.args in
     c.refuse_counts.ensures
-    ∙ ap counts_answer
-    (sym
+    ∙ (sym
     (parts-entry a.map a.file.now a.n a.k c.first_bad_entry-entry.result c.first_bad_entry-entry.ensures
     c.if-entry-k.true))
 
@@ -55,8 +53,7 @@ returns-then-slot-n : tie.Need-returns-then-slot-n
 returns-then-slot-n c =
     let a = c.args in
     c.refuse_counts-then-slot-n.ensures
-    ∙ ap counts_answer
-    (sym
+    ∙ (sym
     (parts-slot a.map a.file.now a.n a.k c.first_bad_slot-slot.result (entries c.before.before.before)
     c.first_bad_slot-slot.ensures c.if-slot-n.true))
 
@@ -73,8 +70,7 @@ returns-then-index-index_len : tie.Need-returns-then-index-index_len
 returns-then-index-index_len c =
     let a = c.args in
     c.refuse_counts-then-index-index_len.ensures
-    ∙ ap counts_answer
-    (sym
+    ∙ (sym
     (parts-index a.map a.file.now a.n a.k c.first_bad_index_entry-index.result (entries c.before.before.before.before.before.before) (slots c.before.before.before.before)
     c.first_bad_index_entry-index.ensures (omega (arith, c.index_len.ensures, c.if-index-index_len.true))))
 
@@ -89,7 +85,7 @@ returns c =
     λ j h.
     first_below-all (bad_index_entry b a.n a.k) (index_len a.k) j
     (omega (arith, c.first_bad_index_entry-index.ensures, c.index_len.ensures, c.if-index-index_len.false)) h in
-    rw (parts-done a.map b a.n a.k 0 (entries c.before.before.before.before.before.before) (slots c.before.before.before.before) index) (ap Counted c.counts_of.ensures)
+    rw (parts-done a.map b a.n a.k 0 (entries c.before.before.before.before.before.before) (slots c.before.before.before.before) index) (ap Ok c.counts_of.ensures)
 
 pub check_parts_spec : {M : Type 1} → statement M
 check_parts_spec =

@@ -3,7 +3,6 @@ use mathlib.Core.Path.{◌≡◌, sym, ap, ◌∙◌}
 use native.Mathlib.Omega.{arith}
 use Rattle.pciv_bytes.specs.Ranges.{first_below}
 use Rattle.pciv_bytes.proofs.RangesLaws.{first_below-all, first_below-cong}
-use Rattle.pciv_format.specs.Refusals.{file_answer}
 use Rattle.pciv_format.specs.Parts.{Parts, bad_entry, bad_slot, EntriesRight, SoundParts}
 use Rattle.pciv_format.specs.Write.{close_parts}
 use Rattle.pciv_close.specs.Close.{slot_parts}
@@ -50,7 +49,7 @@ returns-then-n-gt-MAX_SLOTS : tie.Need-returns-then-n-gt-MAX_SLOTS
 returns-then-n-gt-MAX_SLOTS c =
     let a = c.args in
     let e = close-many a.primary.now a.slots.now a.distances.now a.out.now (omega arith) in
-    (c.refuse_file.ensures ∙ ap file_answer (sym e.0), sym e.1)
+    (c.refuse_file.ensures ∙ (sym e.0), sym e.1)
 
 first_bad_entry-entry-requires : tie.Need-first_bad_entry-entry-requires
 first_bad_entry-entry-requires c κs = search rules
@@ -67,7 +66,7 @@ returns-then-entry-larger c =
     let e = close-entry a.primary.now a.slots.now a.distances.now a.out.now (omega arith)
     c.first_bad_entry-entry.result c.first_bad_entry-entry.ensures
     (omega (arith, c.larger.ensures, c.if-entry-larger.true)) in
-    (c.refuse_file-then-entry-larger.ensures ∙ ap file_answer (sym e.0), sym e.1)
+    (c.refuse_file-then-entry-larger.ensures ∙ (sym e.0), sym e.1)
 
 first_bad_slot-slot-requires : tie.Need-first_bad_slot-slot-requires
 first_bad_slot-slot-requires c κs =
@@ -82,7 +81,7 @@ returns-then-is_missing c =
     let a = (start_of c.before.before.before).args in
     let e = close-slot a.primary.now a.slots.now a.distances.now a.out.now (omega arith)
     (right c.before.before.before) c.first_bad_slot-slot.result (first_slot c.before.before) (omega arith) in
-    (c.refuse_file-then-is_missing.ensures ∙ ap file_answer (sym e.0), sym e.1)
+    (c.refuse_file-then-is_missing.ensures ∙ (sym e.0), sym e.1)
 
 put_file-requires : tie.Need-put_file-requires
 put_file-requires c κs = (omega arith, sound c.before)
@@ -94,7 +93,7 @@ returns : tie.Need-returns
 returns c =
     let a = (start_of c.before.before.before.before.before.before).args in
     let e = close-sound a.primary.now a.slots.now a.distances.now a.out.now (omega arith) (sound c.before.before.before.before) in
-    (c.put_file.ensures.0 ∙ ap file_answer (sym e.0), c.put_file.ensures.1 ∙ sym e.1)
+    (c.put_file.ensures.0 ∙ (sym e.0), c.put_file.ensures.1 ∙ sym e.1)
 
 pub close_spec : {M : Type 1} → statement M
 close_spec =

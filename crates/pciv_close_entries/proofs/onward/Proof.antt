@@ -2,13 +2,12 @@
 use mathlib.Core.Path.{ap}
 use Prim.Native.Nat.{ℕ, ◌+◌}
 use borrow.Author.Rules.{rules}
-use Rattle.pciv_format.specs.declared.FileAnswer.{FileAnswer}
 use Rattle.pciv_close_entries.specs.declared.Job.{Job}
 use Rattle.pciv_close_entries.specs.declared.Pass.{Pass}
 use Rattle.pciv_close_entries.proofs.onward.Statement.{statement}
 use Rattle.pciv_close_entries.proofs.onward.Tie as tie
 
-abbrev job_of : ℕ → ℕ → Pass → FileAnswer → Job
+abbrev job_of : ℕ → ℕ → Pass → Outcome Summary → Job
 job_of next lowest pass answer = record { next = next; lowest = lowest; pass = pass; answer = answer }
 
 same-answer-requires : tie.Need-same-answer-requires

@@ -1,9 +1,9 @@
 -- Proves pciv_close_entries::open: what `begin` says decides.
+use Rattle.std.proofs.Common.{Ok}
 use mathlib.Core.Path.{◌≡◌, refl, sym, ◌∙◌}
 use native.Mathlib.Omega.{arith}
 use lib.ListN.{length}
 use Rattle.pciv_bytes.specs.LittleEndian.{Bytes}
-use Rattle.pciv_format.specs.Refusals.{done}
 use Rattle.pciv_format.proofs.RefusalsLaws.{counts_answer-counted, counts_answer-refused}
 use Rattle.pciv_build.specs.Build.{begin_outcome}
 use Rattle.pciv_build.proofs.BuildLaws.{begun}
@@ -18,7 +18,7 @@ bytes c i = omega (arith, c.shared_slice_known-1.given i)
 
 begun-done : (c : tie.In-Counted)
     → (let a = c.args in
-    begin_outcome (length a.primary.now) a.k (length a.out.now) ≡ done c.in-Counted.field-0)
+    begin_outcome (length a.primary.now) a.k (length a.out.now) ≡ Ok c.in-Counted.field-0)
 begun-done c =
     counts_answer-counted _ _ (sym c.in-Counted.is ∙ c.begin-begun.ensures.0)
 

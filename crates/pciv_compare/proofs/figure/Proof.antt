@@ -1,11 +1,10 @@
 -- Proves pciv_compare::figure.
+use Rattle.std.proofs.Common.{Ok, Err}
 use mathlib.Core.Path.{◌≡◌, sym, ap, ◌∙◌}
 use Prim.Native.Nat.{◌+◌, ◌-◌, ◌^◌, ◌≤◌}
 use native.Mathlib.Omega.{arith}
 use borrow.Author.Rules.{rules}
-use Rattle.pciv_format.specs.Refusals.{done, refused, figure_answer}
 use Rattle.pciv_format.specs.Figures.{quotient}
-use Rattle.pciv_format.specs.declared.FigureAnswer.TheVariants.{Quotient}
 use Rattle.pciv_check.specs.Pair.{pair_counts}
 use Rattle.pciv_check.proofs.PairLaws.{pair-checked, pair_answer-ready, pair_answer-refused}
 use Rattle.pciv_compare.specs.Figure.{divisor_of}
@@ -19,12 +18,12 @@ entry c = c.before.before.before
 -- what the check has shown: why the pair is refused, or its counts
 is-refused : (c : tie.In-Refused)
     → (let a = (entry c.before).args in
-    pair_counts a.a.now a.b.now ≡ refused c.in-Refused.r)
+    pair_counts a.a.now a.b.now ≡ Err c.in-Refused.r)
 is-refused c = pair_answer-refused _ _ (sym c.in-Refused.is ∙ c.check_pair-checked.ensures)
 
 are-maps : (c : tie.In-Ready)
     → (let a = (entry c.before).args in
-    pair_counts a.a.now a.b.now ≡ done c.in-Ready.c)
+    pair_counts a.a.now a.b.now ≡ Ok c.in-Ready.c)
 are-maps c = pair_answer-ready _ _ (sym c.in-Ready.is ∙ c.check_pair-checked.ensures)
 
 -- the parts of the quotient are in order, and not above 2 ^ 53
@@ -64,14 +63,14 @@ divide-requires c κs =
 returns-in-Refused : tie.Need-returns-in-Refused
 returns-in-Refused c =
     let a = (entry c.before).args in
-    ap figure_answer (sym (figure-refused a.of a.a.now a.b.now _ (is-refused c)))
+    (sym (figure-refused a.of a.a.now a.b.now _ (is-refused c)))
 
 returns-in-Ready : tie.Need-returns-in-Ready
 returns-in-Ready c =
     let a = (entry c.before.before.before.before).args in
     let r = c.weigh-sums.result in
-    ap Quotient (c.divide.ensures ∙ ap (quotient (r.most - r.least)) c.divisor-q.ensures)
-    ∙ ap figure_answer (sym (figure-ready a.of a.a.now a.b.now _ (are-maps c.before.before.before) r c.weigh-sums.ensures))
+    ap Ok (c.divide.ensures ∙ ap (quotient (r.most - r.least)) c.divisor-q.ensures)
+    ∙ (sym (figure-ready a.of a.a.now a.b.now _ (are-maps c.before.before.before) r c.weigh-sums.ensures))
 
 pub figure_spec : {M : Type 1} → statement M
 figure_spec =

@@ -10,7 +10,6 @@ use mir.Val.{Fits}
 use Rattle.pciv_bytes.specs.LittleEndian.{Bytes}
 use Rattle.pciv_bytes.specs.ByteAt.{byte_at}
 use Rattle.pciv_format.specs.Layout.{max_slots, max_distance, primary, overflow_count, at}
-use Rattle.pciv_format.specs.Refusals.{counts_answer, file_answer}
 use Rattle.pciv_format.specs.declared.Counts.{Counts}
 use Rattle.pciv_format.proofs.RefusalsLaws.{counts_answer-counted, counts_answer-refused}
 use Rattle.pciv_build.specs.Build.{begin_buffer}
@@ -57,10 +56,10 @@ few f = f.if-n-gt-MAX_SLOTS.false
 
 -- what the beginning of the file has answered and left
 answered : (f : tie.After-put_front-begun)
-    → f.put_front-begun.result ≡ counts_answer (front_outcome (bytes_of (table f)) (frame f) (length (buffer f)))
+    → f.put_front-begun.result ≡ (front_outcome (bytes_of (table f)) (frame f) (length (buffer f)))
 answered f =
     f.put_front-begun.ensures.0
-    ∙ ap (λ (B : List ℕ). counts_answer (front_outcome B (frame f) (length (buffer f))))
+    ∙ ap (λ (B : List ℕ). (front_outcome B (frame f) (length (buffer f))))
     f.primary_bytes-bytes.ensures
 
 left : (f : tie.After-put_front-begun) (k : ℕ) → k ≡ overflow_count (slots f) (distances f)
@@ -113,7 +112,7 @@ returns-then-n-gt-MAX_SLOTS : tie.Need-returns-then-n-gt-MAX_SLOTS
 returns-then-n-gt-MAX_SLOTS c =
     let a = c.args in
     let r = frame-long a.table a.frame.now a.out.now c.if-n-gt-MAX_SLOTS.true in
-    (c.refuse_file.ensures ∙ ap file_answer (sym r.0), sym r.1)
+    (c.refuse_file.ensures ∙ (sym r.0), sym r.1)
 
 primary_bytes-bytes-requires : tie.Need-primary_bytes-bytes-requires
 primary_bytes-bytes-requires c κs = search rules

@@ -3,7 +3,6 @@ use mathlib.Core.Path.{◌≡◌, sym, ap, ◌∙◌}
 use mathlib.Core.Bool.{true, false}
 use lib.ListN.{length}
 use borrow.Author.Tests.{not-true, not-false}
-use Rattle.pciv_format.specs.Refusals.{file_answer}
 use Rattle.pciv_format.specs.Mask.{bad_mask}
 use Rattle.pciv_format.proofs.MaskLaws.{bad_mask-good}
 use Rattle.pciv_mask_apply.proofs.MaskedLaws.{map-many, map-bad, map-good, map-buffer, map-refused}
@@ -28,7 +27,7 @@ returns-then-n-gt-MAX_SLOTS : tie.Need-returns-then-n-gt-MAX_SLOTS
 returns-then-n-gt-MAX_SLOTS c =
     let a = c.args in
     let o = map-many a.n a.words.now (length a.out.now) c.if-n-gt-MAX_SLOTS.true in
-    (c.refuse_file.ensures ∙ ap file_answer (sym o), sym (map-refused a.n a.words.now a.out.now _ o))
+    (c.refuse_file.ensures ∙ (sym o), sym (map-refused a.n a.words.now a.out.now _ o))
 
 is_mask-requires : tie.Need-is_mask-requires
 is_mask-requires c κs = search rules
@@ -40,7 +39,7 @@ returns-then-not-is_mask : tie.Need-returns-then-not-is_mask
 returns-then-not-is_mask c =
     let a = (entry c.before.before.before).args in
     let o = map-bad a.n a.words.now (length a.out.now) c.if-n-gt-MAX_SLOTS.false (bad c.before) in
-    (c.refuse_file-then-not-is_mask.ensures ∙ ap file_answer (sym o), sym (map-refused a.n a.words.now a.out.now _ o))
+    (c.refuse_file-then-not-is_mask.ensures ∙ (sym o), sym (map-refused a.n a.words.now a.out.now _ o))
 
 bits_into-requires : tie.Need-bits_into-requires
 bits_into-requires c κs =
@@ -54,7 +53,7 @@ returns : tie.Need-returns
 returns c =
     let a = (entry c.before.before.before.before.before.before).args in
     let o = map-good a.n a.words.now (length a.out.now) c.if-n-gt-MAX_SLOTS.false (good c.before.before.before.before) in (
-      c.bits_into.ensures.0 ∙ ap file_answer (sym o),
+      c.bits_into.ensures.0 ∙ (sym o),
       c.bits_into.ensures.1 ∙ map-buffer a.n a.words.now a.out.now _ o,
     )
 

@@ -1,9 +1,9 @@
 -- Proves pciv_mask_apply::mask_map.
+use Rattle.std.proofs.Common.{Ok, Err}
 use mathlib.Core.Path.{◌≡◌, sym, ap, ◌∙◌}
 use mathlib.Core.Bool.{true, false}
 use lib.ListN.{length}
 use borrow.Author.Tests.{not-true, not-false}
-use Rattle.pciv_format.specs.Refusals.{done, refused, file_answer}
 use Rattle.pciv_format.specs.Check.{counts_file}
 use Rattle.pciv_format.specs.Mask.{bad_mask}
 use Rattle.pciv_format.proofs.RefusalsLaws.{counts_answer-counted, counts_answer-refused}
@@ -20,11 +20,11 @@ entry c = c.before.before.before.before
 
 -- what the check has shown: why the file is refused, or its counts
 is-refused : (c : tie.In-Refused)
-    → counts_file 1 (entry c.before).args.file.now ≡ refused c.in-Refused.r
+    → counts_file 1 (entry c.before).args.file.now ≡ Err c.in-Refused.r
 is-refused c = counts_answer-refused _ _ (sym c.in-Refused.is ∙ c.check_counts-checked.ensures)
 
 is-map : (c : tie.In-Counted)
-    → counts_file 1 (entry c.before).args.file.now ≡ done c.in-Counted.s
+    → counts_file 1 (entry c.before).args.file.now ≡ Ok c.in-Counted.s
 is-map c = counts_answer-counted _ _ (sym c.in-Counted.is ∙ c.check_counts-checked.ensures)
 
 -- what the test of the mask says
@@ -59,7 +59,7 @@ returns-then-not-is_mask c =
     let o = masked-bad (masked_of a.op) a.file.now a.words.now _ (is-map c.before.before.before) (bad c.before)
     (length a.out.now) in (
       c.refuse_file.ensures
-          ∙ ap file_answer (sym o),
+          ∙ (sym o),
       sym (masked-kept (masked_of a.op) a.file.now a.words.now a.out.now _ o),
     )
 
@@ -72,7 +72,7 @@ returns-in-Refused : tie.Need-returns-in-Refused
 returns-in-Refused c =
     let a = (entry c.before).args in
     let o = masked-refused (masked_of a.op) a.file.now a.words.now _ (is-refused c) (length a.out.now) in
-    (ap file_answer (sym o), sym (masked-kept (masked_of a.op) a.file.now a.words.now a.out.now _ o))
+    ((sym o), sym (masked-kept (masked_of a.op) a.file.now a.words.now a.out.now _ o))
 
 shape_of-out : tie.Need-shape_of-out
 shape_of-out c = search rules

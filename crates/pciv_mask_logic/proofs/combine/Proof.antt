@@ -1,9 +1,9 @@
 -- Proves pciv_mask_logic::combine: refused, or both are masks and the words fit.
+use Rattle.std.proofs.Common.{Ok, Err}
 use mathlib.Core.Path.{◌≡◌, sym, ap, ap₂, ◌∙◌}
 use mathlib.Core.Bool.{Bool, not, ◌&&◌}
 use lib.ListN.{length}
 use borrow.Author.Rules.{rules}
-use Rattle.pciv_format.specs.Refusals.{done, refused, number_answer}
 use Rattle.pciv_format.specs.Read.{items_into}
 use Rattle.pciv_format.specs.Mask.{mask_len, refuse_masks, combine_outcome}
 use Rattle.pciv_format.proofs.RefusalsLaws.{number_answer-number, number_answer-refused}
@@ -16,21 +16,20 @@ entry c = c.before.before.before.before.before.before
 
 -- the answer is that of the definition
 answers : (c : tie.After-mask_into-answer) → (let a = (entry c).args in
-    c.mask_into-answer.result ≡ number_answer (combine_outcome a.op a.n a.a.now a.b.now (length a.out.now)))
+    c.mask_into-answer.result ≡ (combine_outcome a.op a.n a.a.now a.b.now (length a.out.now)))
 answers c =
     let a = (entry c).args in
     c.mask_into-answer.ensures
-    ∙ ap number_answer
-    (ap₂ (λ (p q : Bool). refuse_masks a.n (not (p && q)) (items_into (mask_len a.n) (length a.out.now)))
+    ∙ (ap₂ (λ (p q : Bool). refuse_masks a.n (not (p && q)) (items_into (mask_len a.n) (length a.out.now)))
     c.is_mask.ensures c.is_mask-2.ensures
     ∙ sym (combine-is a.op a.n a.a.now a.b.now a.out.now))
 
 is-refused : (c : tie.In-Refused) → (let a = (entry c.before).args in
-    combine_outcome a.op a.n a.a.now a.b.now (length a.out.now) ≡ refused c.in-Refused.field-0)
+    combine_outcome a.op a.n a.a.now a.b.now (length a.out.now) ≡ Err c.in-Refused.field-0)
 is-refused c = number_answer-refused _ _ (sym c.in-Refused.is ∙ answers c.before)
 
 is-done : (c : tie.In-Number) → (let a = (entry c.before).args in
-    combine_outcome a.op a.n a.a.now a.b.now (length a.out.now) ≡ done c.in-Number.field-0)
+    combine_outcome a.op a.n a.a.now a.b.now (length a.out.now) ≡ Ok c.in-Number.field-0)
 is-done c = number_answer-number _ _ (sym c.in-Number.is ∙ answers c.before)
 
 is_mask-requires : tie.Need-is_mask-requires

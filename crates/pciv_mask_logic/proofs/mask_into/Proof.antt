@@ -1,10 +1,11 @@
 -- Proves pciv_mask_logic::mask_into: too many slots, a mask at fault, too few words; or none of them.
+use Rattle.std.proofs.Common.{Ok}
 use mathlib.Core.Path.{sym, ap, ◌∙◌}
 use Prim.Native.Nat.{ℕ, ◌≤◌, ◌<◌}
 use native.Mathlib.Omega.{arith}
 use mathlib.Core.Bool.{not}
 use borrow.Author.Rules.{rules}
-use Rattle.pciv_format.specs.Refusals.{Outcome, done, number_answer}
+use Rattle.pciv_format.specs.Refusals.{Outcome}
 use Rattle.pciv_format.specs.Read.{items_into}
 use Rattle.pciv_format.specs.Mask.{mask_len}
 use Rattle.pciv_mask_logic.proofs.LogicOutcomeLaws.{masks-many, masks-bad, mask-short, mask_done}
@@ -21,7 +22,7 @@ refuse_number-requires c κs = search rules
 returns-then-n-gt-MAX_SLOTS : tie.Need-returns-then-n-gt-MAX_SLOTS
 returns-then-n-gt-MAX_SLOTS c =
     c.refuse_number.ensures
-    ∙ ap number_answer (sym (masks-many c.args.n (not c.args.good) (fitted c.before.before) c.if-n-gt-MAX_SLOTS.true))
+    ∙ (sym (masks-many c.args.n (not c.args.good) (fitted c.before.before) c.if-n-gt-MAX_SLOTS.true))
 
 refuse_number-requires-then-not-good : tie.Need-refuse_number-requires-then-not-good
 refuse_number-requires-then-not-good c κs = search rules
@@ -29,7 +30,7 @@ refuse_number-requires-then-not-good c κs = search rules
 returns-then-not-good : tie.Need-returns-then-not-good
 returns-then-not-good c =
     let bad = masks-bad c.args.n (not c.args.good) (fitted c.before.before.before) c.if-n-gt-MAX_SLOTS.false (ap not c.if-not-good.true) in
-    c.refuse_number-then-not-good.ensures ∙ ap number_answer (sym bad)
+    c.refuse_number-then-not-good.ensures ∙ (sym bad)
 
 mask_len-count-requires : tie.Need-mask_len-count-requires
 mask_len-count-requires c κs = search rules
@@ -42,14 +43,14 @@ returns-then-capacity-count c =
     let a = c.args in
     let few : a.capacity < mask_len a.n = omega (arith, c.if-capacity-count.true, c.mask_len-count.ensures) in
     let short = mask-short a.n (not a.good) a.capacity c.if-n-gt-MAX_SLOTS.false (ap not c.if-not-good.false) few in
-    c.refuse_number-then-capacity-count.ensures ∙ ap number_answer (sym short)
+    c.refuse_number-then-capacity-count.ensures ∙ (sym short)
 
 returns : tie.Need-returns
 returns c =
     let a = c.args in
     let fits : mask_len a.n ≤ a.capacity = omega (arith, c.if-capacity-count.false, c.mask_len-count.ensures) in
     let all = mask_done a.n (not a.good) a.capacity c.if-n-gt-MAX_SLOTS.false (ap not c.if-not-good.false) fits in
-    ap number_answer (ap done c.mask_len-count.ensures ∙ sym all)
+    (ap Ok c.mask_len-count.ensures ∙ sym all)
 
 pub mask_into_spec : {M : Type 1} → statement M
 mask_into_spec =

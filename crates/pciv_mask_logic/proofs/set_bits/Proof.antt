@@ -1,10 +1,10 @@
 -- Proves pciv_mask_logic::set_bits: too many slots, no mask of n slots, or all bits counted.
+use Rattle.std.proofs.Common.{Ok}
 use mathlib.Core.Path.{◌≡◌, sym, ap, ◌∙◌}
 use native.Mathlib.Omega.{arith}
 use mathlib.Core.Bool.{true}
 use borrow.Author.Rules.{rules}
 use borrow.Author.Tests.{not-true, not-false}
-use Rattle.pciv_format.specs.Refusals.{done, number_answer}
 use Rattle.pciv_format.specs.Mask.{bad_mask}
 use Rattle.pciv_format.specs.Words.{IsMask}
 use Rattle.pciv_format.proofs.MaskLaws.{bad_mask-good}
@@ -24,7 +24,7 @@ refuse_number-requires : tie.Need-refuse_number-requires
 refuse_number-requires c κs = search rules
 
 returns-then-n-gt-MAX_SLOTS : tie.Need-returns-then-n-gt-MAX_SLOTS
-returns-then-n-gt-MAX_SLOTS c = c.refuse_number.ensures ∙ ap number_answer (sym (set_bits-many _ _ c.if-n-gt-MAX_SLOTS.true))
+returns-then-n-gt-MAX_SLOTS c = c.refuse_number.ensures ∙ (sym (set_bits-many _ _ c.if-n-gt-MAX_SLOTS.true))
 
 is_mask-requires : tie.Need-is_mask-requires
 is_mask-requires c κs = search rules
@@ -34,7 +34,7 @@ refuse_number-requires-then-not-is_mask c κs = search rules
 
 returns-then-not-is_mask : tie.Need-returns-then-not-is_mask
 returns-then-not-is_mask c =
-    c.refuse_number-then-not-is_mask.ensures ∙ ap number_answer (sym (set_bits-bad _ _ c.if-n-gt-MAX_SLOTS.false (is-bad c.before)))
+    c.refuse_number-then-not-is_mask.ensures ∙ (sym (set_bits-bad _ _ c.if-n-gt-MAX_SLOTS.false (is-bad c.before)))
 
 count_bits-requires : tie.Need-count_bits-requires
 count_bits-requires c κs = omega (arith, (is-good c).count, c.if-n-gt-MAX_SLOTS.false)
@@ -42,7 +42,7 @@ count_bits-requires c κs = omega (arith, (is-good c).count, c.if-n-gt-MAX_SLOTS
 returns : tie.Need-returns
 returns c =
     let done-is = set_bits-done _ _ c.if-n-gt-MAX_SLOTS.false (is-good c.before) in
-    ap number_answer (ap done c.count_bits.ensures ∙ sym done-is)
+    (ap Ok c.count_bits.ensures ∙ sym done-is)
 
 pub set_bits_spec : {M : Type 1} → statement M
 set_bits_spec =

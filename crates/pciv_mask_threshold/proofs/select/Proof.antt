@@ -1,9 +1,9 @@
 -- Proves pciv_mask_threshold::select.
+use Rattle.std.proofs.Common.{Ok, Err}
 use mathlib.Core.Path.{◌≡◌, sym, ap, ◌∙◌}
 use Prim.Native.Nat.{◌≤◌, ◌<◌}
 use native.Mathlib.Omega.{arith}
 use lib.ListN.{length}
-use Rattle.pciv_format.specs.Refusals.{done, refused, number_answer}
 use Rattle.pciv_format.specs.Check.{counts_file}
 use Rattle.pciv_format.specs.Mask.{mask_len}
 use Rattle.pciv_format.proofs.RefusalsLaws.{counts_answer-counted, counts_answer-refused}
@@ -17,11 +17,11 @@ use Rattle.pciv_mask_threshold.proofs.select.Tie as tie
 
 -- what the check has shown: why the file is refused, or its counts
 is-refused : (c : tie.In-Refused)
-    → counts_file 1 c.args.file.now ≡ refused c.in-Refused.r
+    → counts_file 1 c.args.file.now ≡ Err c.in-Refused.r
 is-refused c = counts_answer-refused _ _ (sym c.in-Refused.is ∙ c.check_counts-checked.ensures)
 
 is-map : (c : tie.In-Counted)
-    → counts_file 1 c.args.file.now ≡ done c.in-Counted.s
+    → counts_file 1 c.args.file.now ≡ Ok c.in-Counted.s
 is-map c = counts_answer-counted _ _ (sym c.in-Counted.is ∙ c.check_counts-checked.ensures)
 
 check_counts-checked-requires : tie.Need-check_counts-checked-requires
@@ -45,7 +45,7 @@ returns-then-out-count c =
     let few : length a.out.now < mask_len c.in-Counted.s.n =
     omega (arith, c.if-out-count.true, c.mask_len-count.ensures) in
     let e = select_short a.file.now _ (is-map c.before.before.before) (length a.out.now) few in (
-      c.refuse_number.ensures ∙ ap number_answer (sym e),
+      c.refuse_number.ensures ∙ (sym e),
       sym (words-refused (asked_of a.asked) a.file.now a.out.now _ e),
     )
 
@@ -57,7 +57,7 @@ returns-in-Refused : tie.Need-returns-in-Refused
 returns-in-Refused c =
     let a = c.args in
     let e = select-refused a.file.now _ (is-refused c) (length a.out.now) in
-    (ap number_answer (sym e), sym (words-refused (asked_of a.asked) a.file.now a.out.now _ e))
+    ((sym e), sym (words-refused (asked_of a.asked) a.file.now a.out.now _ e))
 
 shape_of-out : tie.Need-shape_of-out
 shape_of-out c = search rules
@@ -68,7 +68,7 @@ returns-else-out-count c =
     let fits : mask_len c.in-Counted.s.n ≤ length a.out.now =
     omega (arith, c.if-out-count.false, c.mask_len-count.ensures) in
     let e = select-done a.file.now _ (is-map c.before.before.before.before.before.before) (length a.out.now) fits in (
-      ap number_answer (ap done c.mask_len-count.ensures ∙ sym e),
+      (ap Ok c.mask_len-count.ensures ∙ sym e),
       c.asked_into.ensures
           ∙ words-done a.file.now _ (is-map c.before.before.before.before.before.before) (asked_of a.asked) a.out.now fits,
     )

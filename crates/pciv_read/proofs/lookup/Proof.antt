@@ -1,6 +1,6 @@
 -- Proves pciv_read::lookup.
+use Rattle.std.proofs.Common.{Ok, Err}
 use mathlib.Core.Path.{◌≡◌, sym, ap, ◌∙◌}
-use Rattle.pciv_format.specs.Refusals.{done, refused, lookup_answer}
 use Rattle.pciv_format.specs.Check.{counts_file}
 use Rattle.pciv_format.specs.declared.Located.{Located}
 use Rattle.pciv_format.proofs.RefusalsLaws.{counts_answer-counted, counts_answer-refused}
@@ -11,11 +11,11 @@ use Rattle.pciv_read.proofs.lookup.Tie as tie
 
 -- what the check has shown: why the file is refused, or its counts
 is-refused : (c : tie.In-Refused)
-    → counts_file 1 c.args.file.now ≡ refused c.in-Refused.r
+    → counts_file 1 c.args.file.now ≡ Err c.in-Refused.r
 is-refused c = counts_answer-refused _ _ (sym c.in-Refused.is ∙ c.check_counts-checked.ensures)
 
 is-map : (c : tie.In-Counted)
-    → counts_file 1 c.args.file.now ≡ done c.in-Counted.s
+    → counts_file 1 c.args.file.now ≡ Ok c.in-Counted.s
 is-map c = counts_answer-counted _ _ (sym c.in-Counted.is ∙ c.check_counts-checked.ensures)
 
 check_counts-checked-requires : tie.Need-check_counts-checked-requires
@@ -30,7 +30,7 @@ enum_known-checked-in-Counted-1 c = search rules
 returns-then-n-slot : tie.Need-returns-then-n-slot
 returns-then-n-slot c =
     let a = c.args in
-    ap lookup_answer (sym (lookup-outside a.file.now _ (is-map c.before) a.slot c.if-n-slot.true))
+    (sym (lookup-outside a.file.now _ (is-map c.before) a.slot c.if-n-slot.true))
 
 locate-requires : tie.Need-locate-requires
 locate-requires c κs =
@@ -39,13 +39,13 @@ locate-requires c κs =
 returns-in-Refused : tie.Need-returns-in-Refused
 returns-in-Refused c =
     let a = c.args in
-    ap lookup_answer (sym (lookup-refused a.file.now _ (is-refused c) a.slot))
+    (sym (lookup-refused a.file.now _ (is-refused c) a.slot))
 
 returns-else-n-slot : tie.Need-returns-else-n-slot
 returns-else-n-slot c =
     let a = c.args in
-    ap (λ (x : Located). lookup_answer (done x)) c.locate.ensures
-    ∙ ap lookup_answer (sym (lookup-inside a.file.now _ (is-map c.before.before) a.slot c.if-n-slot.false))
+    ap (λ (x : Located). (Ok x)) c.locate.ensures
+    ∙ (sym (lookup-inside a.file.now _ (is-map c.before.before) a.slot c.if-n-slot.false))
 
 pub lookup_spec : {M : Type 1} → statement M
 lookup_spec =

@@ -1,5 +1,6 @@
 -- Proves pciv_read::lookup_list. What a test has shown is cited by its type, so that the tests can stand in either order as far as the
 -- names go.
+use Rattle.std.proofs.Common.{Ok}
 use mathlib.Core.Path.{◌≡◌, sym, ap, ◌∙◌}
 use Prim.Native.Nat.{ℕ, ◌≤◌, ◌<◌, min}
 use native.Mathlib.Omega.{arith}
@@ -8,7 +9,6 @@ use lib.ListN.{length, get_or}
 use lib.Dec.{leb, ltb}
 use borrow.Author.Tests.{ltb-true, ltb-false}
 use Rattle.pciv_bytes.specs.Ranges.{first_below}
-use Rattle.pciv_format.specs.Refusals.{done, refused, number_answer}
 use Rattle.pciv_format.specs.Check.{counts_file}
 use Rattle.pciv_format.specs.Read.{lookup_list_buffer, lookup_list_entries}
 use Rattle.pciv_format.proofs.RefusalsLaws.{counts_answer-counted, counts_answer-refused}
@@ -22,7 +22,7 @@ abbrev Inside : ℕ → List ℕ → Type 0
 Inside n xs = length xs ≤ first_below (λ (i : ℕ). leb n (get_or xs i 0)) (length xs)
 
 -- the counts of the file, which the check has shown
-is-map : (c : In-Counted) → counts_file 1 c.args.file.now ≡ done c.in-Counted.s
+is-map : (c : In-Counted) → counts_file 1 c.args.file.now ≡ Ok c.in-Counted.s
 is-map c = counts_answer-counted _ _ (sym c.in-Counted.is ∙ c.check_counts-checked.ensures.answer)
 
 pub returns-then-outside-slots : goal.returns-then-outside-slots
@@ -33,7 +33,7 @@ returns-then-outside-slots c =
     let o =
     list-outside a.file.now _ map a.slots.now (length a.distances.now) (length a.entries.now) _ c.first_outside-outside.ensures
     c.if-outside-slots.true in
-    record { answer = c.refuse_number-no_slot.ensures ∙ ap number_answer (sym o); buffer = rw o; entries = rw o }
+    record { answer = c.refuse_number-no_slot.ensures ∙ (sym o); buffer = rw o; entries = rw o }
 
 pub returns-then-short : goal.returns-then-short
 unfolding lookup_list_buffer lookup_list_entries
@@ -44,7 +44,7 @@ returns-then-short c =
     let o =
     list-short a.file.now _ map a.slots.now inside (length a.distances.now) (length a.entries.now)
     (ltb-true _ _ (sym c.either_short-short.ensures ∙ c.if-short.true)) in
-    record { answer = c.refuse_number-no_room.ensures ∙ ap number_answer (sym o); buffer = rw o; entries = rw o }
+    record { answer = c.refuse_number-no_room.ensures ∙ (sym o); buffer = rw o; entries = rw o }
 
 pub locate_into-requires : goal.locate_into-requires
 locate_into-requires c =
@@ -64,7 +64,7 @@ returns-in-Refused c =
     let a = c.args in
     let why = counts_answer-refused _ _ (sym c.in-Refused.is ∙ c.check_counts-checked.ensures.answer) in
     let o = list-refused a.file.now _ why a.slots.now (length a.distances.now) (length a.entries.now) in
-    record { answer = ap number_answer (sym o); buffer = rw o; entries = rw o }
+    record { answer = (sym o); buffer = rw o; entries = rw o }
 
 pub returns-else-short : goal.returns-else-short
 returns-else-short c =
@@ -75,7 +75,7 @@ returns-else-short c =
     let inside : Inside c.in-Counted.s.n slots = omega (arith, c.first_outside-outside.ensures) in
     let fits = ltb-false _ _ (sym c.either_short-short.ensures ∙ c.if-short.false) in
     record {
-      answer = ap number_answer (sym (list_done file _ map slots inside _ _ fits));
+      answer = (sym (list_done file _ map slots inside _ _ fits));
       buffer = c.locate_into.ensures.distances_after ∙ list-buffer file _ map slots inside _ a.distances.now fits;
       entries = c.locate_into.ensures.entries_after ∙ list-entries file _ map slots inside _ a.entries.now fits;
     }

@@ -1,7 +1,7 @@
 -- Proves pciv_read::primary.
+use Rattle.std.proofs.Common.{Ok, Err}
 use mathlib.Core.Path.{◌≡◌, sym, ◌∙◌}
 use native.Mathlib.Omega.{arith}
-use Rattle.pciv_format.specs.Refusals.{done, refused}
 use Rattle.pciv_format.specs.Check.{counts_file}
 use Rattle.pciv_format.proofs.RefusalsLaws.{counts_answer-counted, counts_answer-refused}
 use Rattle.pciv_format.proofs.MapLaws.{primary-inside}
@@ -12,11 +12,11 @@ use Rattle.pciv_read.proofs.primary.Tie as tie
 
 -- what the check has shown
 is-refused : (c : tie.In-Refused)
-    → counts_file 1 c.args.file.now ≡ refused c.in-Refused.field-0
+    → counts_file 1 c.args.file.now ≡ Err c.in-Refused.field-0
 is-refused c = counts_answer-refused _ _ (sym c.in-Refused.is ∙ c.check_counts-checked.ensures)
 
 is-map : (c : tie.In-Counted)
-    → counts_file 1 c.args.file.now ≡ done c.in-Counted.s
+    → counts_file 1 c.args.file.now ≡ Ok c.in-Counted.s
 is-map c = counts_answer-counted _ _ (sym c.in-Counted.is ∙ c.check_counts-checked.ensures)
 
 check_counts-checked-requires : tie.Need-check_counts-checked-requires

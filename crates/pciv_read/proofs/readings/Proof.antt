@@ -1,8 +1,8 @@
 -- Proves pciv_read::readings: the file is that of the list that it is read as, and the primary part is counted.
+use Rattle.std.proofs.Common.{Ok, Err}
 use mathlib.Core.Path.{◌≡◌, sym, ap, ◌∙◌}
 use Prim.Native.Nat.{ℕ, ◌+◌, ◌-◌}
 use native.Mathlib.Omega.{arith}
-use Rattle.pciv_format.specs.Refusals.{done, refused, number_answer}
 use Rattle.pciv_format.specs.Layout.{file_of}
 use Rattle.pciv_format.specs.Check.{counts_file}
 use Rattle.pciv_format.specs.Read.{list_of, primary_part}
@@ -18,11 +18,11 @@ use Rattle.pciv_read.proofs.readings.Tie as tie
 
 -- what the check has shown: why the file is refused, or its counts
 is-refused : (c : tie.In-Refused)
-    → counts_file 1 c.args.file.now ≡ refused c.in-Refused.r
+    → counts_file 1 c.args.file.now ≡ Err c.in-Refused.r
 is-refused c = counts_answer-refused _ _ (sym c.in-Refused.is ∙ c.check_counts-checked.ensures)
 
 is-map : (c : tie.In-Counted)
-    → counts_file 1 c.args.file.now ≡ done c.in-Counted.s
+    → counts_file 1 c.args.file.now ≡ Ok c.in-Counted.s
 is-map c = counts_answer-counted _ _ (sym c.in-Counted.is ∙ c.check_counts-checked.ensures)
 
 check_counts-checked-requires : tie.Need-check_counts-checked-requires
@@ -54,7 +54,7 @@ readings_of-requires : tie.Need-readings_of-requires
 readings_of-requires c κs = search rules
 
 returns-in-Refused : tie.Need-returns-in-Refused
-returns-in-Refused c = ap number_answer (sym (readings-refused _ _ (is-refused c)))
+returns-in-Refused c = (sym (readings-refused _ _ (is-refused c)))
 
 returns-in-Counted : tie.Need-returns-in-Counted
 returns-in-Counted c =
@@ -66,8 +66,8 @@ returns-in-Counted c =
     let n : 40 + s.n - 40 ≡ s.n = omega arith in
     let primary : primary_part (file_of (list_of b)) ≡ take (40 + s.n - 40) (drop 40 b) =
     ap primary_part (sym f.bytes) ∙ primary-done b s is ∙ ap (λ (z : ℕ). take z (drop 40 b)) (sym n) in
-    ap (λ (x : ℕ). number_answer (done x)) (c.readings_of.ensures.1 (list_of b) f.limits primary)
-    ∙ ap number_answer (sym (readings-done b s is))
+    ap (λ (x : ℕ). (Ok x)) (c.readings_of.ensures.1 (list_of b) f.limits primary)
+    ∙ (sym (readings-done b s is))
 
 pub readings_spec : {M : Type 1} → statement M
 readings_spec =

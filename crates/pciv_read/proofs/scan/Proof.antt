@@ -1,6 +1,6 @@
 -- Proves pciv_read::scan.
+use Rattle.std.proofs.Common.{Ok, Err}
 use mathlib.Core.Path.{◌≡◌, sym, ap, ◌∙◌}
-use Rattle.pciv_format.specs.Refusals.{done, refused, number_answer}
 use Rattle.pciv_format.specs.Check.{counts_file}
 use Rattle.pciv_format.proofs.RefusalsLaws.{counts_answer-counted, counts_answer-refused}
 use lib.ListN.{length}
@@ -12,11 +12,11 @@ use Rattle.pciv_read.proofs.scan.Tie as tie
 
 -- what the check has shown: why the file is refused, or its counts
 is-refused : (c : tie.In-Refused)
-    → counts_file 1 c.args.file.now ≡ refused c.in-Refused.r
+    → counts_file 1 c.args.file.now ≡ Err c.in-Refused.r
 is-refused c = counts_answer-refused _ _ (sym c.in-Refused.is ∙ c.check_counts-checked.ensures)
 
 is-map : (c : tie.In-Counted)
-    → counts_file 1 c.args.file.now ≡ done c.in-Counted.s
+    → counts_file 1 c.args.file.now ≡ Ok c.in-Counted.s
 is-map c = counts_answer-counted _ _ (sym c.in-Counted.is ∙ c.check_counts-checked.ensures)
 
 check_counts-checked-requires : tie.Need-check_counts-checked-requires
@@ -36,7 +36,7 @@ unfolding scan_buffer
 returns-then-out-n c =
     let a = c.args in
     let short = scan-short a.file.now _ (is-map c.before.before) (length a.out.now) c.if-out-n.true in
-    (c.refuse_number.ensures ∙ ap number_answer (sym short), rw short)
+    (c.refuse_number.ensures ∙ (sym short), rw short)
 
 scan_into-requires : tie.Need-scan_into-requires
 scan_into-requires c κs =
@@ -47,7 +47,7 @@ unfolding scan_buffer
 returns-in-Refused c =
     let a = c.args in
     let e = scan-refused a.file.now _ (is-refused c) (length a.out.now) in
-    (ap number_answer (sym e), rw e)
+    ((sym e), rw e)
 
 shape_of-out : tie.Need-shape_of-out
 shape_of-out c = search rules
@@ -56,7 +56,7 @@ returns-else-out-n : tie.Need-returns-else-out-n
 returns-else-out-n c =
     let a = c.args in
     let fits = c.if-out-n.false in (
-      ap number_answer (sym (scan-done a.file.now _ (is-map c.before.before.before.before.before) (length a.out.now) fits)),
+      (sym (scan-done a.file.now _ (is-map c.before.before.before.before.before) (length a.out.now) fits)),
       c.scan_into.ensures ∙ scan-buffer a.file.now _ (is-map c.before.before.before.before.before) a.out.now fits,
     )
 

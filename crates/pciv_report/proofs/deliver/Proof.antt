@@ -1,11 +1,11 @@
 -- Proves pciv_report::deliver.
+use Rattle.std.proofs.Common.{Ok}
 use borrow.Author.Rules.{rules}
 use borrow.Author.Tests.{lt-ltb, le-ltb}
 use mathlib.Core.Path.{◌≡◌, ap, ◌∙◌}
 use native.Mathlib.Omega.{arith}
 use lib.ListN.{length}
 use Rattle.pciv_bytes.proofs.WriteLaws.{sets-front}
-use Rattle.pciv_format.specs.declared.NumberAnswer.TheVariants as InNumber
 use Rattle.pciv_report.proofs.deliver.Statement.{statement}
 use Rattle.pciv_report.proofs.deliver.Tie as tie
 
@@ -27,7 +27,7 @@ returns c =
     let space = le-ltb _ _ c.if-out-text.false in
     let len : c.put_word.result ≡ length a.text.now = omega (arith, put.next) in
     let front = sets-front a.text.now a.out.now c.if-out-text.false in
-    (simp space (ap InNumber.Number len), simp space (put.bytes ∙ front))
+    (simp space (ap Ok len), simp space (put.bytes ∙ front))
 
 pub deliver_spec : {M : Type 1} → statement M
 deliver_spec = tie.close (tie.spec returns-then-out-text put_word-requires shape_of-out returns)

@@ -1,7 +1,7 @@
 -- Proves pciv_slot::edited.
+use Rattle.std.proofs.Common.{Ok}
 use mathlib.Core.Path.{ap, ◌∙◌}
 use Rattle.pciv_format.specs.Layout.{summarize}
-use Rattle.pciv_format.specs.Refusals.{done}
 use Rattle.pciv_format.specs.Edit.{edit_answer}
 use Rattle.pciv_format.specs.declared.Counts.{Counts}
 use Rattle.pciv_format.specs.declared.Summary.{Summary}
@@ -18,7 +18,7 @@ summarized-requires c κs = search rules
 returns : tie.Need-returns
 returns c =
     let a = c.args in
-    ap (λ (s : Summary). edit_answer (done s) a.moved)
+    ap (λ (s : Summary). edit_answer (Ok s) a.moved)
     (c.summarized.ensures ∙ ap (λ (z : Counts). summarize z a.sum) c.counts_of.ensures)
 
 pub edited_spec : {M : Type 1} → statement M

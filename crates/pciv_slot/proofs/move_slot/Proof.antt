@@ -1,11 +1,12 @@
 -- Proves pciv_slot::move_slot. The reasoning on lists is in ChangeLaws.antt.
+use Rattle.std.proofs.Common.{Ok}
 use mathlib.Core.Path.{◌≡◌, sym, ap, ap₂, ◌∙◌}
 use Prim.Native.Nat.{ℕ, ◌+◌, ◌-◌, ◌^◌, ◌≤◌, ◌<◌}
 use native.Mathlib.Omega.{arith}
 use lib.ListN.{length}
 use Rattle.pciv_bytes.specs.LittleEndian.{Bytes}
 use Rattle.pciv_format.specs.Layout.{file_len, max_slots, counts_of, summarize}
-use Rattle.pciv_format.specs.Refusals.{Outcome, done}
+use Rattle.pciv_format.specs.Refusals.{Outcome}
 use Rattle.pciv_format.specs.Read.{total, with_sum}
 use Rattle.pciv_format.specs.Edit.{Edit, edited, edit_answer}
 use Rattle.pciv_format.specs.declared.Counts.{Counts}
@@ -125,7 +126,7 @@ returns c =
     ∙ ap (λ (o : Outcome Counts). with_sum o (total (edited (held a.buffer.now) (the-edit c.before.before.before.before.before.before.before.before.before.before.before.before.before.before.before.before.before.before.before.before))))
     (begin-fits a.n a.count a.buffer.now (fits c.before.before.before.before.before.before.before.before.before.before.before.before.before.before.before.before.before)).0 in (
       c.edited.ensures
-          ∙ ap₂ edit_answer (ap (λ (x : ℕ). done (summarize (counts_of a.n a.count) x)) sum ∙ sym is)
+          ∙ ap₂ edit_answer (ap (λ (x : ℕ). Ok (summarize (counts_of a.n a.count) x)) sum ∙ sym is)
           (c.above_count.ensures
           ∙ sym ((law c.before.before.before.before.before.before.before.before.before.before.before.before.before.before.before.before.before.before.before).entries_moved c.entry_of-j.result c.entry_of-j.ensures (fits c.before.before.before.before.before.before.before.before.before.before.before.before.before.before.before.before.before))),
       (law c.before.before.before.before.before.before.before.before.before.before.before.before.before.before.before.before.before.before.before).buffer c.entry_of-j.result _ _ c.entry_of-j.ensures (fits c.before.before.before.before.before.before.before.before.before.before.before.before.before.before.before.before.before)

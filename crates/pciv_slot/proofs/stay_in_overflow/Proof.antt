@@ -1,11 +1,11 @@
 -- Proves pciv_slot::stay_in_overflow.
+use Rattle.std.proofs.Common.{Ok}
 use mathlib.Core.Path.{◌≡◌, sym, ap, ap₂, ◌∙◌}
 use Prim.Native.Nat.{ℕ, ◌+◌, ◌-◌, ◌*◌, ◌^◌, ◌≤◌, ◌<◌}
 use native.Mathlib.Omega.{arith}
 use lib.ListN.{length}
 use Rattle.pciv_bytes.specs.LittleEndian.{Bytes}
 use Rattle.pciv_format.specs.Layout.{counts_of, summarize}
-use Rattle.pciv_format.specs.Refusals.{done}
 use Rattle.pciv_format.specs.Read.{total}
 use Rattle.pciv_format.specs.Edit.{Edit, edited, edit_answer}
 use Rattle.pciv_format.proofs.LayoutLaws.{file_len-is}
@@ -85,7 +85,7 @@ returns c =
     entry.requires.1.0.1 c.entry_of-j.result c.entry_of-j.ensures in
     let sum = c.adjusted.ensures ∙ (adjusts c.before.before.before.before.before.before).2 in (
       c.stayed.ensures
-          ∙ ap₂ edit_answer (ap (λ (x : ℕ). done (summarize (counts_of a.n a.k) x)) sum ∙ sym is.0) (sym is.1),
+          ∙ ap₂ edit_answer (ap (λ (x : ℕ). Ok (summarize (counts_of a.n a.k) x)) sum ∙ sym is.0) (sym is.1),
       c.put32.ensures ∙ sym is.2,
     )
 

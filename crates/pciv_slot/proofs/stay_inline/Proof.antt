@@ -1,11 +1,11 @@
 -- Proves pciv_slot::stay_inline.
+use Rattle.std.proofs.Common.{Ok}
 use mathlib.Core.Path.{◌≡◌, sym, ap, ap₂, ◌∙◌}
 use Prim.Native.Nat.{ℕ, ◌+◌, ◌-◌, ◌^◌, ◌≤◌, ◌<◌}
 use native.Mathlib.Omega.{arith}
 use lib.ListN.{get_or}
 use Rattle.pciv_bytes.specs.LittleEndian.{Bytes}
 use Rattle.pciv_format.specs.Layout.{counts_of, summarize}
-use Rattle.pciv_format.specs.Refusals.{done}
 use Rattle.pciv_format.specs.Read.{total}
 use Rattle.pciv_format.specs.Edit.{Edit, edited, edit_answer}
 use Rattle.pciv_format.proofs.PartsLaws.{value_of-inline}
@@ -73,7 +73,7 @@ returns c =
     c.requires.1.0.1 in
     let sum = c.adjusted.ensures ∙ (adjusts c.before.before.before).2 in (
       c.stayed.ensures
-          ∙ ap₂ edit_answer (ap (λ (x : ℕ). done (summarize (counts_of a.n a.k) x)) sum ∙ sym is.0) (sym is.1),
+          ∙ ap₂ edit_answer (ap (λ (x : ℕ). Ok (summarize (counts_of a.n a.k) x)) sum ∙ sym is.0) (sym is.1),
       sym is.2,
     )
 

@@ -5,7 +5,6 @@ use native.Mathlib.Omega.{arith}
 use mathlib.Core.List.{List}
 use lib.ListN.{length}
 use Rattle.pciv_format.specs.Layout.{max_slots, at}
-use Rattle.pciv_format.specs.Refusals.{file_answer}
 use Rattle.pciv_format.specs.Write.{write_outcome}
 use Rattle.pciv_build.proofs.ChainLaws.{begin-few, Opened, opened-refused, opened-space, opened-entries}
 use Rattle.pciv_build.proofs.ChainLaws.{opened-finish, opened_map, opened-done}
@@ -47,7 +46,7 @@ returns-then-is_large : tie.Need-returns-then-is_large
 returns-then-is_large c =
     let a = c.args in
     let r = write-long a.distances.now a.out.now c.if-is_large.true in
-    (c.refuse_file.ensures ∙ ap file_answer (sym r.0), sym r.1)
+    (c.refuse_file.ensures ∙ (sym r.0), sym r.1)
 
 count_overflow-k-requires : tie.Need-count_overflow-k-requires
 count_overflow-k-requires c κs = search rules

@@ -1,10 +1,10 @@
 -- Proves pciv_bundle::write::write: one law for each answer. The eight frames are known to be eight as a slice.
+use Rattle.std.proofs.Common.{Ok, Err}
 use mathlib.Core.Path.{◌≡◌, sym, ap, ◌∙◌}
 use Prim.Native.Nat.{ℕ, ◌≤◌}
 use native.Mathlib.Omega.{arith}
 use mathlib.Core.List.{List, map}
 use lib.ListN.{length, take}
-use Rattle.pciv_format.specs.Refusals.{done, refused, number_answer}
 use Rattle.pciv_format.proofs.RefusalsLaws.{number_answer-number, number_answer-refused}
 use Rattle.pciv_bundle_records.specs.Records.{bundle_of}
 use Rattle.pciv_bundle_frames.specs.Frames.{frames_outcome}
@@ -31,7 +31,7 @@ returns-then-count-lt1 : tie.Need-returns-then-count-lt1
 unfolding bundle_write_buffer
 returns-then-count-lt1 c =
     let none = write-none (fs c.before.before.before.before) c.args.count (length c.args.out.now) c.if-count-lt1.true in
-    (c.refuse_number.ensures ∙ ap number_answer (sym none), rw none)
+    (c.refuse_number.ensures ∙ (sym none), rw none)
 
 refuse_number-requires-then-has_many : tie.Need-refuse_number-requires-then-has_many
 refuse_number-requires-then-has_many c κs = search rules
@@ -40,7 +40,7 @@ returns-then-has_many : tie.Need-returns-then-has_many
 unfolding bundle_write_buffer
 returns-then-has_many c =
     let many = write-many (fs c.before.before.before.before.before) c.args.count (length c.args.out.now) c.if-has_many.true in
-    (c.refuse_number-then-has_many.ensures ∙ ap number_answer (sym many), rw many)
+    (c.refuse_number-then-has_many.ensures ∙ (sym many), rw many)
 
 bounds-lent-0 : tie.Need-bounds-lent-0
 bounds-lent-0 c = search rules
@@ -73,27 +73,26 @@ there c = used-length (entry c).args.frames.now _ (eight c) (few c)
 -- what their check has found, against the n that was read of the first, and so against its n
 checked-used : (c : tie.After-check_lent-checked)
     → (let e = entry c.before.before.before in
-    c.check_lent-checked.result ≡ number_answer (frames_outcome c.slots_of.result (take e.args.count (fs e))))
+    c.check_lent-checked.result ≡ (frames_outcome c.slots_of.result (take e.args.count (fs e))))
 checked-used c = c.check_lent-checked.ensures
 
 checked-slots : (c : tie.After-check_lent-checked)
     → (let e = entry c.before.before.before in
-    c.check_lent-checked.result ≡ number_answer (frames_outcome (used_slots (fs e)) (take e.args.count (fs e))))
+    c.check_lent-checked.result ≡ (frames_outcome (used_slots (fs e)) (take e.args.count (fs e))))
 checked-slots c =
     let e = entry c.before.before.before in
     checked-used c
-    ∙ ap number_answer
-    (write-slots (fs e) e.args.count (some c.before.before.before) (few c.before.before.before) _ (there c.before.before.before)
+    ∙ (write-slots (fs e) e.args.count (some c.before.before.before) (few c.before.before.before) _ (there c.before.before.before)
     (rw (used-at e.args.frames.now e.args.count 0 (some c.before.before.before)) at c.slots_of.ensures))
 
 is-refused : (c : tie.In-Refused)
     → (let e = entry c.before.before.before.before in
-    frames_outcome (used_slots (fs e)) (take e.args.count (fs e)) ≡ refused c.in-Refused.r)
+    frames_outcome (used_slots (fs e)) (take e.args.count (fs e)) ≡ Err c.in-Refused.r)
 is-refused c = number_answer-refused _ _ (sym c.in-Refused.is ∙ checked-slots c.before)
 
 is-done : (c : tie.In-Number)
     → (let e = entry c.before.before.before.before in
-    frames_outcome (used_slots (fs e)) (take e.args.count (fs e)) ≡ done c.in-Number.n)
+    frames_outcome (used_slots (fs e)) (take e.args.count (fs e)) ≡ Ok c.in-Number.n)
 is-done c = number_answer-number _ _ (sym c.in-Number.is ∙ checked-slots c.before)
 
 bundle_len-len-requires : tie.Need-bundle_len-len-requires
@@ -110,7 +109,7 @@ returns-then-out-len c =
     let short =
     write-short (fs s) s.args.count (some c.before.before.before.before.before.before.before) (few c.before.before.before.before.before.before.before) _ (is-done c.before.before.before) (length s.args.out.now)
     (omega (arith, c.if-out-len.true, c.bundle_len-len.ensures c.in-Number.n)) in
-    (c.refuse_number-then-out-len.ensures ∙ ap number_answer (sym short), rw short)
+    (c.refuse_number-then-out-len.ensures ∙ (sym short), rw short)
 
 -- the bundle fits
 fits : (c : tie.Else-out-len)
@@ -131,7 +130,7 @@ returns-in-Refused c =
     let s = entry c.before.before.before.before in
     let no =
     write-refused (fs s) s.args.count (some c.before.before.before.before) (few c.before.before.before.before) (length s.args.out.now) _ (is-refused c) in
-    (ap number_answer (sym no), rw no)
+    ((sym no), rw no)
 
 shape_of-out : tie.Need-shape_of-out
 shape_of-out c = search rules
@@ -142,7 +141,7 @@ returns-else-out-len c =
     let n = c.in-Number.n in
     let space = fits c.before.before.before.before in
     let yes = write_done (fs s) s.args.count (some c.before.before.before.before.before.before.before.before.before.before) (few c.before.before.before.before.before.before.before.before.before.before) n (is-done c.before.before.before.before.before.before) (length s.args.out.now) space in (
-      ap number_answer (ap done (c.bundle_len-len.ensures n) ∙ sym yes),
+      (ap Ok (c.bundle_len-len.ensures n) ∙ sym yes),
       c.put_bundle.ensures
           ∙ write-buffer (fs s) s.args.count (some c.before.before.before.before.before.before.before.before.before.before) (few c.before.before.before.before.before.before.before.before.before.before) n (is-done c.before.before.before.before.before.before) s.args.out.now space,
     )

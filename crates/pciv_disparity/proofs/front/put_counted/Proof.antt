@@ -1,4 +1,5 @@
 -- Proves pciv_disparity::front::put_counted: the file does not fit; header and primary array, one after the other.
+use Rattle.std.proofs.Common.{Ok}
 use mathlib.Core.Path.{◌≡◌, sym, ap, ◌∙◌}
 use Prim.Native.Nat.{ℕ}
 use native.Mathlib.Omega.{arith}
@@ -6,7 +7,6 @@ use mathlib.Core.List.{List}
 use lib.ListN.{length}
 use lib.Seq.{sets, length-sets}
 use Rattle.pciv_format.specs.Layout.{primary, overflow_count, header}
-use Rattle.pciv_format.specs.Refusals.{done, counts_answer}
 use Rattle.pciv_format.proofs.RefusalsLaws.{counts_answer-counted, counts_answer-refused}
 use Rattle.pciv_build.specs.Build.{begin_outcome, begin_buffer}
 use Rattle.pciv_build.proofs.BuildLaws.{begun}
@@ -31,10 +31,10 @@ buffer b = (entry b).args.out.now
 
 -- what `begin` has answered and left
 answered : (b : tie.After-begin-begun)
-    → b.begin-begun.result ≡ counts_answer (begin_outcome (slots b) (overflow_count (slots b) (distances b)) (length (buffer b)))
+    → b.begin-begun.result ≡ (begin_outcome (slots b) (overflow_count (slots b) (distances b)) (length (buffer b)))
 answered b =
     b.begin-begun.ensures.0
-    ∙ ap (λ (k : ℕ). counts_answer (begin_outcome (slots b) k (length (buffer b)))) b.count_full.ensures
+    ∙ ap (λ (k : ℕ). (begin_outcome (slots b) k (length (buffer b)))) b.count_full.ensures
 
 left : (b : tie.After-begin-begun)
     → b.begin-begun.new.out ≡ begin_buffer (slots b) (overflow_count (slots b) (distances b)) (buffer b)
@@ -43,7 +43,7 @@ left b =
 
 -- it was done
 is-done : (c : tie.In-Counted)
-    → (begin_outcome (slots c.before.before.before) (overflow_count (slots c.before.before.before) (distances c.before.before.before)) (length (buffer c.before.before.before)) ≡ done c.in-Counted.field-0)
+    → (begin_outcome (slots c.before.before.before) (overflow_count (slots c.before.before.before) (distances c.before.before.before)) (length (buffer c.before.before.before)) ≡ Ok c.in-Counted.field-0)
 is-done c =
     counts_answer-counted _ _ (sym c.in-Counted.is ∙ answered c.before.before.before)
 

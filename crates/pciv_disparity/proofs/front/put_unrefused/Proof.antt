@@ -7,7 +7,6 @@ use mathlib.Core.List.{List}
 use lib.ListN.{length}
 use lib.Seq.{sets, length-sets}
 use Rattle.pciv_format.specs.Layout.{file_len, primary, overflow_count}
-use Rattle.pciv_format.specs.Refusals.{counts_answer}
 use Rattle.pciv_build.specs.Build.{begin_outcome}
 use Rattle.pciv_format.proofs.LayoutLaws.{file_len-most}
 use Rattle.pciv_build.proofs.ChainLaws.{begin-few}
@@ -80,7 +79,7 @@ returns c =
     let size : length (written c.before.before.before.before) ≡ length (buffer c.before.before.before.before) = ap length (put c.before.before.before.before)
     ∙ length-sets (buffer c.before.before.before.before) 40 (primary n (distances c.before.before.before.before)) in (
       c.begin.ensures.0
-          ∙ ap₂ (λ (k' c' : ℕ). counts_answer (begin_outcome n k' c')) (count c.before.before.before.before) size,
+          ∙ ap₂ (λ (k' c' : ℕ). (begin_outcome n k' c')) (count c.before.before.before.before) size,
       begun-after n _ (distances c.before.before.before.before) (buffer c.before.before.before.before) fits (written c.before.before.before.before) _ (put c.before.before.before.before) c.begin.ensures.1
           ∙ ap (λ (k' : ℕ). begun_buffer n k' (distances c.before.before.before.before) (buffer c.before.before.before.before)) (count c.before.before.before.before),
     )

@@ -1,9 +1,9 @@
 -- Proves pciv_edit::run::edit_list: the check, the two lists' lengths, the list of answers' length, then the run.
+use Rattle.std.proofs.Common.{Ok, Err}
 use mathlib.Core.Path.{◌≡◌, refl, sym, ◌∙◌}
 use Prim.Native.Nat.{◌*◌, ◌≤◌}
 use native.Mathlib.Omega.{arith}
 use lib.ListN.{length}
-use Rattle.pciv_format.specs.Refusals.{done, refused}
 use Rattle.pciv_format.specs.Check.{counts_buffer}
 use Rattle.pciv_format.specs.Read.{check_buffer}
 use Rattle.pciv_format.specs.Edit.{answer_len}
@@ -20,17 +20,17 @@ abbrev from-check : tie.After-check_buffer-checked → tie.Start
 from-check c = c.before.before.before.before.before
 
 is-refused : (c : tie.In-Refused)
-    → counts_buffer 1 (from-check c.before).args.buffer.now ≡ refused c.in-Refused.r
+    → counts_buffer 1 (from-check c.before).args.buffer.now ≡ Err c.in-Refused.r
 is-refused c =
     ((buffer-refuse-alike 1 _).0 _).0
     (file_answer-refused _ _ (sym c.in-Refused.is ∙ c.check_buffer-checked.ensures))
 
 is-done : (c : tie.In-Done)
-    → check_buffer 1 (from-check c.before).args.buffer.now ≡ done c.in-Done.s
+    → check_buffer 1 (from-check c.before).args.buffer.now ≡ Ok c.in-Done.s
 is-done c = file_answer-done _ _ (sym c.in-Done.is ∙ c.check_buffer-checked.ensures)
 
 is-map : (c : tie.In-Done)
-    → counts_buffer 1 (from-check c.before).args.buffer.now ≡ done (counts_in c.in-Done.s)
+    → counts_buffer 1 (from-check c.before).args.buffer.now ≡ Ok (counts_in c.in-Done.s)
 is-map c = (((buffer-refuse-alike 1 _).1 _).0 (is-done c)).0
 
 -- as many distances as slots

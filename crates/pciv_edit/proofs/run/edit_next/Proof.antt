@@ -1,11 +1,11 @@
 -- Proves pciv_edit::run::edit_next.
+use Rattle.std.proofs.Common.{Ok, Err}
 use mathlib.Core.Path.{◌≡◌, sym, ap, ◌∙◌}
 use Prim.Native.Nat.{◌≤◌}
 use native.Mathlib.Omega.{arith}
 use lib.Seq.{sets}
 use Rattle.pciv_bytes.specs.LittleEndian.{Bytes}
 use Rattle.pciv_format.specs.Layout.{max_distance}
-use Rattle.pciv_format.specs.Refusals.{done, refused}
 use Rattle.pciv_format.specs.Edit.{Edit, edit_outcome, edit_moved}
 use Rattle.pciv_format.specs.declared.EditAnswer.{EditAnswer}
 use Rattle.pciv_format.proofs.RefusalsLaws.{file_answer-done, file_answer-refused}
@@ -26,13 +26,13 @@ small : (s : tie.Start) → (the-edit s).distance ≤ max_distance
 small s = omega (arith, s.ranges.distance)
 
 is-refused : (c : tie.In-Refused)
-    → (edit_outcome c.args.buffer.now (the-edit c.before.before.before.before.before.before.before) ≡ refused c.in-Refused.r)
+    → (edit_outcome c.args.buffer.now (the-edit c.before.before.before.before.before.before.before) ≡ Err c.in-Refused.r)
 is-refused c =
     let answer = c.edit_checked-edited.ensures.0 in
     file_answer-refused _ _ (sym c.in-Refused.is ∙ ap (λ (r : EditAnswer). r.outcome) answer)
 
 is-done : (c : tie.In-Done)
-    → (edit_outcome c.args.buffer.now (the-edit c.before.before.before.before.before.before.before) ≡ done c.in-Done.s)
+    → (edit_outcome c.args.buffer.now (the-edit c.before.before.before.before.before.before.before) ≡ Ok c.in-Done.s)
 is-done c =
     let answer = c.edit_checked-edited.ensures.0 in
     file_answer-done _ _ (sym c.in-Done.is ∙ ap (λ (r : EditAnswer). r.outcome) answer)
