@@ -6,7 +6,6 @@
 --   MostOf, most-more, most-all    a distance that none is above: of the entries before j, one entry on, of all slots
 --   none-large    no slot is too large where the largest of both are not
 -- Axioms: none.
-use Rattle.std.proofs.Common.{Ok}
 use mathlib.Core.Path.{◌≡◌, refl, sym}
 use Prim.Native.Nat.{ℕ, ◌+◌, ◌-◌, ◌≤◌, ◌<◌, min}
 use native.Mathlib.Omega.{arith}
@@ -112,7 +111,7 @@ module _ {P Q : Parts} (p : SoundPair P Q) (of : Addend) (small : Small of) wher
       (lt-ltb max_distance (added_at of P Q slot) (omega (arith, walked-sum j t slot w here))))
 
   pub walked_none : (j t slot : ℕ) → Walked of P Q j t slot → P.n ≤ slot → P.n ≡ first_below (too_large of P Q) P.n
-  walked_none j t slot w Ok =
+  walked_none j t slot w done =
       sym (first_below-none (too_large of P Q) P.n (λ i h. w.fine i (omega arith)))
 
 -- ---- where the largest of both come to a distance

@@ -5,7 +5,6 @@
 --   fill_start, _more, _end    before the first entry; one entry on; after the last
 --   fill-over          what `put_slots` has written does not count then
 -- Axioms: none.
-use Rattle.std.proofs.Common.{Ok}
 use mathlib.Core.Path.{◌≡◌, refl, sym, ap, ◌∙◌}
 use Prim.Native.Nat.{ℕ, zero, suc, ◌+◌, ◌-◌, ◌*◌, ◌^◌, ◌≤◌, ◌<◌}
 use native.Mathlib.Nat.{le_refl}
@@ -202,4 +201,4 @@ module _ {n : ℕ} {v : ℕ → ℕ} {d₀ : List ℕ} {i : ℕ} {d : List ℕ} 
       length-entry s x = simp (length-append, length-le)
 
   pub fill_end : 40 + n + 12 * overflow_count n v ≤ at → d ≡ sets d₀ (40 + n) (overflow_part n v)
-  fill_end Ok = entries-all e.left Ok
+  fill_end done = entries-all e.left done

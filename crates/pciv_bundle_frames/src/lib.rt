@@ -70,8 +70,8 @@ pub fn check_lent(frames: &[&[u8]; 8], count: usize, n: usize) -> Result<usize, 
     ensures { result ≡ frames_outcome n (take count (map (λ x. x.now) frames.now)) }
 {
     let mut other: usize = 0;
-    for f in 0..count {
-        other = check_next(frames[f], f, other, n)?;
+    for passed in 0..count {
+        other = check_next(frames[passed], passed, other, n)?;
     }
     same_slots(other, count, n)
 }

@@ -50,7 +50,7 @@ module _ (a b : List ℕ) where
 
 module _ (a b : List ℕ) where
   both-checked : (s t : Counts) (c : PairCounts) → counts_file 1 a ≡ Ok s → counts_file 2 b ≡ Ok t → s.n ≡ t.n
-      → Ok (both_counts s t) ≡ Ok c → CheckedPair a b c.n c.ka c.kb
+      → ◌≡◌ {A = Outcome PairCounts} (Ok (both_counts s t)) (Ok c) → CheckedPair a b c.n c.ka c.kb
   both-checked s t c e f same is =
       let counts : both_counts s t ≡ c = cc in
       rw (← counts) (record { first = (done-counts 1 a s e).0; second = rw same (done-counts 2 b t f).0 })

@@ -2,9 +2,12 @@
 --   refuse_if-done, refuse_first-done    past a test that refuses, and past a test of every place
 --   refuse_first-none, -some            where no place is bad, and at the least place that is
 --   and_then-done, and_then-refused      past an outcome that something follows; it refuses where nothing else does
+--   passed_on                           what a `?` returns where it meets a refusal
 -- Axioms: none.
 use Rattle.std.proofs.Common.{Ok, Err}
-use mathlib.Core.Path.{◌≡◌, refl}
+use mathlib.Core.Path.{◌≡◌, refl, ap, ◌∙◌}
+use Rattle.std.specs.Result.{IsErrAnd}
+use Rattle.std.proofs.lemmas.Result.{err_from_is_err_and}
 use Prim.Native.Nat.{ℕ, ◌<◌}
 use native.Mathlib.Omega.{arith}
 use mathlib.Core.Bool.{Bool, true, false}
@@ -53,3 +56,10 @@ module _ {A B : Type 0} where
       → o ≡ Err r
   and_then-refused (Ok a) f r e = cc
   and_then-refused (Err x) f r e = cc
+
+-- ---- a `?`
+
+module _ {A : Type 0} where
+  -- what is returned where it meets a refusal
+  pub passed_on : (o : Outcome A) (r : Refusal) → IsErrAnd o (λ e. e ≡ r) → o ≡ Err r
+  passed_on o r e = let p = err_from_is_err_and o e in p.1 ∙ ap Err p.2

@@ -10,7 +10,6 @@
 --   Sample, sample-sorted        every `step`th number, which do not fall either
 --   block-between                the block that a sparse index names is such a part
 -- Axioms: none.
-use Rattle.std.proofs.Common.{Ok}
 use mathlib.Core.Path.{◌≡◌, sym, ap, ◌∙◌}
 use mathlib.Core.Bool.{Bool, true, false}
 use mathlib.Core.List.{List}
@@ -60,13 +59,13 @@ between_start f s c =
 -- where nothing is left between
 pub between-end : (f : ℕ → ℕ) (s c lo hi : ℕ) → Between f s c lo hi → hi ≤ lo → lo ≡ lower_bound f s c
 unfolding lower_bound
-between-end f s c lo hi w Ok =
+between-end f s c lo hi w done =
     let p : ℕ → Bool = λ j. leb s (f j) in
     let none : (j : ℕ) → j < lo → p j ≡ false = λ j h. lt-leb s (f j) (w.below j h) in
     elim (dec_le c lo) [
       | yes d ↦ (let q : lo ≡ c = omega (arith, w.ordered, w.within) in
           q ∙ sym (first_below-none p c (λ j h. none j (omega arith))))
-      | no d ↦ (let has : p lo ≡ true = le-leb s (f lo) (w.above lo Ok (omega arith)) in
+      | no d ↦ (let has : p lo ≡ true = le-leb s (f lo) (w.above lo done (omega arith)) in
           sym (first_below-at p c lo (omega arith) none has))
     ]
 

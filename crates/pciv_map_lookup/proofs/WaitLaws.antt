@@ -7,7 +7,6 @@
 --   walk_start, walk_more         the walk begins, and goes on with the next slot
 --   walk-filled, walk_end         the eight places are filled; the last places are
 -- Axioms: none.
-use Rattle.std.proofs.Common.{Ok}
 use mathlib.Core.Path.{◌≡◌, refl, sym, ap, ◌∙◌}
 use mathlib.Core.Bool.{Bool, true, false}
 use mathlib.Core.List.{List, map}
@@ -165,7 +164,7 @@ module _ (g : ℕ → ℕ) (xs d₀ : List ℕ) where
 
     filled-end : (d' : List ℕ) → length xs ≤ i → d' ≡ sets_at (at_place g xs) (take c ps) d
         → d' ≡ sets d₀ 0 (map g xs)
-    filled-end d' Ok e = sym (rest-filled d' e ∙ sets-copy-end (map g xs) d' i i (rw length-map Ok))
+    filled-end d' done e = sym (rest-filled d' e ∙ sets-copy-end (map g xs) d' i i (rw length-map done))
 
 -- ---- both lists
 

@@ -33,14 +33,14 @@ enum_known-checked c = search rules
 enum_known-checked-in-Ready-1 : tie.Need-enum_known-checked-in-Ready-1
 enum_known-checked-in-Ready-1 c = search rules
 
-refuse_number-requires : tie.Need-refuse_number-requires
-refuse_number-requires c κs = search rules
+refuse-requires : tie.Need-refuse-requires
+refuse-requires c κs = search rules
 
 returns-then-out-n : tie.Need-returns-then-out-n
 returns-then-out-n c =
     let a = (entry c.before.before.before).args in
     let e = difference-short a.a.now a.b.now _ (are-maps c.before.before) (length a.out.now) c.if-out-n.true in
-    (c.refuse_number.ensures ∙ (sym e), difference-kept a.a.now a.b.now _ a.out.now e)
+    (c.refuse.ensures ∙ (sym e), difference-kept a.a.now a.b.now _ a.out.now e)
 
 differences_into-requires : tie.Need-differences_into-requires
 differences_into-requires c κs =
@@ -68,7 +68,7 @@ signed_difference_spec =
     check_pair-checked-requires
     enum_known-checked
     enum_known-checked-in-Ready-1
-    refuse_number-requires
+    refuse-requires
     returns-then-out-n
     differences_into-requires
     returns-in-Refused

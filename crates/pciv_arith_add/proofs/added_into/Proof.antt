@@ -57,14 +57,14 @@ first_too_large-large-requires : tie.Need-first_too_large-large-requires
 first_too_large-large-requires c κs =
     (c.requires.0, c.requires.1)
 
-refuse_file-requires : tie.Need-refuse_file-requires
-refuse_file-requires c κs = search rules
+refuse-requires : tie.Need-refuse-requires
+refuse-requires c κs = search rules
 
 returns-then-large-n : tie.Need-returns-then-large-n
 returns-then-large-n c =
     let s = entry c.before.before in
     map-large s.args.n (v s) c.first_too_large-large.result c.first_too_large-large.ensures c.if-large-n.true
-    s.args.out.now c.refuse_file.result c.refuse_file.ensures
+    s.args.out.now c.refuse.result c.refuse.ensures
 
 count_added-k-requires : tie.Need-count_added-k-requires
 count_added-k-requires c κs = (entry c.before).requires.0
@@ -122,7 +122,7 @@ added_into_spec =
     tie.close
     (tie.spec
     first_too_large-large-requires
-    refuse_file-requires
+    refuse-requires
     returns-then-large-n
     count_added-k-requires
     begin-begun-requires

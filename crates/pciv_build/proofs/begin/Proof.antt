@@ -12,14 +12,14 @@ use Rattle.pciv_build.proofs.begin.Tie as tie
 file_len-requires : tie.Need-file_len-requires
 file_len-requires c κs = search rules
 
-refuse_counts-requires : tie.Need-refuse_counts-requires
-refuse_counts-requires c κs = search rules
+refuse-requires : tie.Need-refuse-requires
+refuse-requires c κs = search rules
 
 returns-then-out-file_len : tie.Need-returns-then-out-file_len
 returns-then-out-file_len c =
     let a = c.args in
     let r = begin-short a.n a.k a.out.now (omega arith) in
-    (c.refuse_counts.ensures ∙ (sym r.0), sym r.1)
+    (c.refuse.ensures ∙ (sym r.0), sym r.1)
 
 put_header-requires : tie.Need-put_header-requires
 put_header-requires c κs =
@@ -46,7 +46,7 @@ begin_spec =
     tie.close
     (tie.spec
     file_len-requires
-    refuse_counts-requires
+    refuse-requires
     returns-then-out-file_len
     put_header-requires
     counts_of-requires

@@ -30,15 +30,15 @@ enum_known-answer c = search rules
 enum_known-answer-in-Counted-1 : tie.Need-enum_known-answer-in-Counted-1
 enum_known-answer-in-Counted-1 c = search rules
 
-refuse_number-requires : tie.Need-refuse_number-requires
-refuse_number-requires c κs = search rules
+refuse-requires : tie.Need-refuse-requires
+refuse-requires c κs = search rules
 
 returns-then-out-n : tie.Need-returns-then-out-n
 unfolding nearest_buffer
 returns-then-out-n c =
     let a = c.args in
     let short = nearest-short a.bundle.now _ (is-bundle c.before.before) (length a.out.now) c.if-out-n.true in
-    (c.refuse_number.ensures ∙ (sym short), rw short)
+    (c.refuse.ensures ∙ (sym short), rw short)
 
 nearest_into-requires : tie.Need-nearest_into-requires
 nearest_into-requires c κs =
@@ -73,7 +73,7 @@ nearest_spec =
     check_bundle-split-requires
     enum_known-answer
     enum_known-answer-in-Counted-1
-    refuse_number-requires
+    refuse-requires
     returns-then-out-n
     nearest_into-requires
     returns-in-Refused

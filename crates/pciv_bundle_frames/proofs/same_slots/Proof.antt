@@ -7,16 +7,16 @@ use Rattle.pciv_bundle_frames.proofs.same_slots.Tie as tie
 overflow_add-other : tie.Need-overflow_add-other
 overflow_add-other c = search rules
 
-refuse_number-requires : tie.Need-refuse_number-requires
-refuse_number-requires c κs = search rules
+refuse-requires : tie.Need-refuse-requires
+refuse-requires c κs = search rules
 
 returns-then-other-count : tie.Need-returns-then-other-count
 returns-then-other-count c =
     let a = c.args in
-    rw (lt-ltb a.other a.count c.if-other-count.true) c.refuse_number.ensures
+    rw (lt-ltb a.other a.count c.if-other-count.true) c.refuse.ensures
 
 returns : tie.Need-returns
 returns c = rw (le-ltb c.args.other c.args.count c.if-other-count.false)
 
 pub same_slots_spec : {M : Type 1} → statement M
-same_slots_spec = tie.close (tie.spec overflow_add-other refuse_number-requires returns-then-other-count returns)
+same_slots_spec = tie.close (tie.spec overflow_add-other refuse-requires returns-then-other-count returns)

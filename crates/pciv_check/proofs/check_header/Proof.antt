@@ -44,48 +44,48 @@ len_is : (c : tie.After-counts_of-counts) → c.counts_of-counts.result.m ≡ in
 unfolding counts_of
 len_is c = ap (λ (s : Counts). s.m) c.counts_of-counts.ensures
 
-refuse_counts-requires : tie.Need-refuse_counts-requires
-refuse_counts-requires c κs = search rules
+refuse-requires : tie.Need-refuse-requires
+refuse-requires c κs = search rules
 
 returns-then-is_short : tie.Need-returns-then-is_short
 returns-then-is_short c =
     let a = c.args in
-    c.refuse_counts.ensures ∙ (sym (header-short a.map a.file.now (omega arith)))
+    c.refuse.ensures ∙ (sym (header-short a.map a.file.now (omega arith)))
 
 get64-magic-requires : tie.Need-get64-magic-requires
 get64-magic-requires c κs = search rules
 
-refuse_counts-requires-then-is_other : tie.Need-refuse_counts-requires-then-is_other
-refuse_counts-requires-then-is_other c κs = search rules
+refuse-requires-then-is_other : tie.Need-refuse-requires-then-is_other
+refuse-requires-then-is_other c κs = search rules
 
 returns-then-is_other : tie.Need-returns-then-is_other
 returns-then-is_other c =
     let a = c.args in
     let other : get 8 a.file.now 0 ≡ magic → ⊥ = λ e. c.if-is_other.true (c.get64-magic.ensures ∙ e) in
-    c.refuse_counts-then-is_other.ensures ∙ (sym (header-mark a.map a.file.now (omega arith) other))
+    c.refuse-then-is_other.ensures ∙ (sym (header-mark a.map a.file.now (omega arith) other))
 
 get64-n-requires : tie.Need-get64-n-requires
 get64-n-requires c κs = search rules
 
-refuse_counts-requires-then-is_large : tie.Need-refuse_counts-requires-then-is_large
-refuse_counts-requires-then-is_large c κs = search rules
+refuse-requires-then-is_large : tie.Need-refuse-requires-then-is_large
+refuse-requires-then-is_large c κs = search rules
 
 returns-then-is_large : tie.Need-returns-then-is_large
 returns-then-is_large c =
     let a = c.args in
-    c.refuse_counts-then-is_large.ensures
+    c.refuse-then-is_large.ensures
     ∙ (sym
     (header-slots a.map a.file.now (omega arith) (omega (arith, c.get64-magic.ensures)) (omega arith)))
 
 get64-k-requires : tie.Need-get64-k-requires
 get64-k-requires c κs = search rules
 
-refuse_counts-requires-then-n-k : tie.Need-refuse_counts-requires-then-n-k
-refuse_counts-requires-then-n-k c κs = search rules
+refuse-requires-then-n-k : tie.Need-refuse-requires-then-n-k
+refuse-requires-then-n-k c κs = search rules
 
 returns-then-n-k : tie.Need-returns-then-n-k
 returns-then-n-k c =
-    c.refuse_counts-then-n-k.ensures
+    c.refuse-then-n-k.ensures
     ∙ counts-refused c.before.before.before
     (bad_counts-k _ _ _ _ (omega (arith, c.get64-k.ensures, c.get64-n.ensures)))
 
@@ -95,12 +95,12 @@ counts_of-counts-requires c κs = search rules
 get64-requires : tie.Need-get64-requires
 get64-requires c κs = search rules
 
-refuse_counts-requires-then-get64-counts : tie.Need-refuse_counts-requires-then-get64-counts
-refuse_counts-requires-then-get64-counts c κs = search rules
+refuse-requires-then-get64-counts : tie.Need-refuse-requires-then-get64-counts
+refuse-requires-then-get64-counts c κs = search rules
 
 returns-then-get64-counts : tie.Need-returns-then-get64-counts
 returns-then-get64-counts c =
-    c.refuse_counts-then-get64-counts.ensures
+    c.refuse-then-get64-counts.ensures
     ∙ counts-refused c.before.before.before.before.before.before.before
     (bad_counts-step _ _ _ _
     (λ e. c.if-get64-counts.true (c.get64.ensures ∙ e ∙ sym (counted_step c.before.before.before.before ∙ ap index_step c.get64-k.ensures))))
@@ -108,12 +108,12 @@ returns-then-get64-counts c =
 get64-requires-2 : tie.Need-get64-requires-2
 get64-requires-2 c κs = search rules
 
-refuse_counts-requires-then-get64-counts-2 : tie.Need-refuse_counts-requires-then-get64-counts-2
-refuse_counts-requires-then-get64-counts-2 c κs = search rules
+refuse-requires-then-get64-counts-2 : tie.Need-refuse-requires-then-get64-counts-2
+refuse-requires-then-get64-counts-2 c κs = search rules
 
 returns-then-get64-counts-2 : tie.Need-returns-then-get64-counts-2
 returns-then-get64-counts-2 c =
-    c.refuse_counts-then-get64-counts-2.ensures
+    c.refuse-then-get64-counts-2.ensures
     ∙ counts-refused c.before.before.before.before.before.before.before.before.before.before
     (bad_counts-m _ _ _ _
     (λ e. c.if-get64-counts-2.true (c.get64-2.ensures ∙ e ∙ sym (len_is c.before.before.before.before.before.before.before ∙ ap index_len c.get64-k.ensures))))
@@ -122,7 +122,7 @@ returns : tie.Need-returns
 returns c =
     let a = c.args in
     let o = opened c.before.before.before.before.before.before.before.before.before in
-    let Ok =
+    let done =
     check_header-done a.map a.file.now c.get64-n.result c.get64-k.result o.0
     (record {
       mark = o.1;
@@ -133,28 +133,28 @@ returns c =
       small = omega arith;
       few = omega arith;
     }) in
-    ap Ok c.counts_of-counts.ensures ∙ (sym Ok)
+    ap Ok c.counts_of-counts.ensures ∙ (sym done)
 
 pub check_header_spec : {M : Type 1} → statement M
 check_header_spec =
     tie.close
     (tie.spec
-    refuse_counts-requires
+    refuse-requires
     returns-then-is_short
     get64-magic-requires
     get64-n-requires
-    refuse_counts-requires-then-is_other
+    refuse-requires-then-is_other
     returns-then-is_other
-    refuse_counts-requires-then-is_large
+    refuse-requires-then-is_large
     returns-then-is_large
     get64-k-requires
-    refuse_counts-requires-then-n-k
+    refuse-requires-then-n-k
     returns-then-n-k
     counts_of-counts-requires
     get64-requires
-    refuse_counts-requires-then-get64-counts
+    refuse-requires-then-get64-counts
     returns-then-get64-counts
     get64-requires-2
-    refuse_counts-requires-then-get64-counts-2
+    refuse-requires-then-get64-counts-2
     returns-then-get64-counts-2
     returns)

@@ -32,13 +32,13 @@ slots c i h =
 first_bad_entry-entry-requires : tie.Need-first_bad_entry-entry-requires
 first_bad_entry-entry-requires c κs = search rules
 
-refuse_counts-requires : tie.Need-refuse_counts-requires
-refuse_counts-requires c κs = search rules
+refuse-requires : tie.Need-refuse-requires
+refuse-requires c κs = search rules
 
 returns-then-entry-k : tie.Need-returns-then-entry-k
 returns-then-entry-k c =
     let a = c.args in
-    c.refuse_counts.ensures
+    c.refuse.ensures
     ∙ (sym
     (parts-entry a.map a.file.now a.n a.k c.first_bad_entry-entry.result c.first_bad_entry-entry.ensures
     c.if-entry-k.true))
@@ -46,13 +46,13 @@ returns-then-entry-k c =
 first_bad_slot-slot-requires : tie.Need-first_bad_slot-slot-requires
 first_bad_slot-slot-requires c κs = (c.requires, entries c)
 
-refuse_counts-requires-then-slot-n : tie.Need-refuse_counts-requires-then-slot-n
-refuse_counts-requires-then-slot-n c κs = search rules
+refuse-requires-then-slot-n : tie.Need-refuse-requires-then-slot-n
+refuse-requires-then-slot-n c κs = search rules
 
 returns-then-slot-n : tie.Need-returns-then-slot-n
 returns-then-slot-n c =
     let a = c.args in
-    c.refuse_counts-then-slot-n.ensures
+    c.refuse-then-slot-n.ensures
     ∙ (sym
     (parts-slot a.map a.file.now a.n a.k c.first_bad_slot-slot.result (entries c.before.before.before)
     c.first_bad_slot-slot.ensures c.if-slot-n.true))
@@ -63,13 +63,13 @@ index_len-requires c κs = search rules
 first_bad_index_entry-index-requires : tie.Need-first_bad_index_entry-index-requires
 first_bad_index_entry-index-requires c κs = search rules
 
-refuse_counts-requires-then-index-index_len : tie.Need-refuse_counts-requires-then-index-index_len
-refuse_counts-requires-then-index-index_len c κs = search rules
+refuse-requires-then-index-index_len : tie.Need-refuse-requires-then-index-index_len
+refuse-requires-then-index-index_len c κs = search rules
 
 returns-then-index-index_len : tie.Need-returns-then-index-index_len
 returns-then-index-index_len c =
     let a = c.args in
-    c.refuse_counts-then-index-index_len.ensures
+    c.refuse-then-index-index_len.ensures
     ∙ (sym
     (parts-index a.map a.file.now a.n a.k c.first_bad_index_entry-index.result (entries c.before.before.before.before.before.before) (slots c.before.before.before.before)
     c.first_bad_index_entry-index.ensures (omega (arith, c.index_len.ensures, c.if-index-index_len.true))))
@@ -92,14 +92,14 @@ check_parts_spec =
     tie.close
     (tie.spec
     first_bad_entry-entry-requires
-    refuse_counts-requires
+    refuse-requires
     returns-then-entry-k
     first_bad_slot-slot-requires
-    refuse_counts-requires-then-slot-n
+    refuse-requires-then-slot-n
     returns-then-slot-n
     first_bad_index_entry-index-requires
     index_len-requires
-    refuse_counts-requires-then-index-index_len
+    refuse-requires-then-index-index_len
     returns-then-index-index_len
     counts_of-requires
     returns)

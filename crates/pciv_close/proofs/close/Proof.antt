@@ -42,14 +42,14 @@ sound c =
           first_below-all (bad_slot (parts s)) (parts s).n i (omega (arith, first_slot c.before, c.if-is_missing.false)) h;
     }
 
-refuse_file-requires : tie.Need-refuse_file-requires
-refuse_file-requires c κs = search rules
+refuse-requires : tie.Need-refuse-requires
+refuse-requires c κs = search rules
 
 returns-then-n-gt-MAX_SLOTS : tie.Need-returns-then-n-gt-MAX_SLOTS
 returns-then-n-gt-MAX_SLOTS c =
     let a = c.args in
     let e = close-many a.primary.now a.slots.now a.distances.now a.out.now (omega arith) in
-    (c.refuse_file.ensures ∙ (sym e.0), sym e.1)
+    (c.refuse.ensures ∙ (sym e.0), sym e.1)
 
 first_bad_entry-entry-requires : tie.Need-first_bad_entry-entry-requires
 first_bad_entry-entry-requires c κs = search rules
@@ -57,8 +57,8 @@ first_bad_entry-entry-requires c κs = search rules
 larger-requires : tie.Need-larger-requires
 larger-requires c κs = search rules
 
-refuse_file-requires-then-entry-larger : tie.Need-refuse_file-requires-then-entry-larger
-refuse_file-requires-then-entry-larger c κs = search rules
+refuse-requires-then-entry-larger : tie.Need-refuse-requires-then-entry-larger
+refuse-requires-then-entry-larger c κs = search rules
 
 returns-then-entry-larger : tie.Need-returns-then-entry-larger
 returns-then-entry-larger c =
@@ -66,22 +66,22 @@ returns-then-entry-larger c =
     let e = close-entry a.primary.now a.slots.now a.distances.now a.out.now (omega arith)
     c.first_bad_entry-entry.result c.first_bad_entry-entry.ensures
     (omega (arith, c.larger.ensures, c.if-entry-larger.true)) in
-    (c.refuse_file-then-entry-larger.ensures ∙ (sym e.0), sym e.1)
+    (c.refuse-then-entry-larger.ensures ∙ (sym e.0), sym e.1)
 
 first_bad_slot-slot-requires : tie.Need-first_bad_slot-slot-requires
 first_bad_slot-slot-requires c κs =
     let a = (start_of c).args in
     slot_parts-right a.primary.now a.slots.now a.distances.now (right c)
 
-refuse_file-requires-then-is_missing : tie.Need-refuse_file-requires-then-is_missing
-refuse_file-requires-then-is_missing c κs = search rules
+refuse-requires-then-is_missing : tie.Need-refuse-requires-then-is_missing
+refuse-requires-then-is_missing c κs = search rules
 
 returns-then-is_missing : tie.Need-returns-then-is_missing
 returns-then-is_missing c =
     let a = (start_of c.before.before.before).args in
     let e = close-slot a.primary.now a.slots.now a.distances.now a.out.now (omega arith)
     (right c.before.before.before) c.first_bad_slot-slot.result (first_slot c.before.before) (omega arith) in
-    (c.refuse_file-then-is_missing.ensures ∙ (sym e.0), sym e.1)
+    (c.refuse-then-is_missing.ensures ∙ (sym e.0), sym e.1)
 
 put_file-requires : tie.Need-put_file-requires
 put_file-requires c κs = (omega arith, sound c.before)
@@ -99,14 +99,14 @@ pub close_spec : {M : Type 1} → statement M
 close_spec =
     tie.close
     (tie.spec
-    refuse_file-requires
+    refuse-requires
     returns-then-n-gt-MAX_SLOTS
     first_bad_entry-entry-requires
     larger-requires
-    refuse_file-requires-then-entry-larger
+    refuse-requires-then-entry-larger
     returns-then-entry-larger
     first_bad_slot-slot-requires
-    refuse_file-requires-then-is_missing
+    refuse-requires-then-is_missing
     returns-then-is_missing
     put_file-requires
     shape_of-out

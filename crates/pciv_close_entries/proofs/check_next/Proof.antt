@@ -34,8 +34,8 @@ last c = rw c.onward-then.ensures at c.if-then-k.false
 wrong_entry-requires : tie.Need-wrong_entry-requires
 wrong_entry-requires c κs = search rules
 
-refuse_file-requires : tie.Need-refuse_file-requires
-refuse_file-requires c κs = search rules
+refuse-requires : tie.Need-refuse-requires
+refuse-requires c κs = search rules
 
 ended-requires : tie.Need-ended-requires
 ended-requires c κs = search rules
@@ -46,7 +46,7 @@ returns-then-wrong_entry c =
     let wrong = sym c.wrong_entry.ensures ∙ c.if-wrong_entry.true in
     λ call nx d.
     step-ended a.primary.now call a.k a.job a.e nx _ c.ended.result a.out.now
-    (c.ended.ensures ∙ ap (ended_job a.k) c.refuse_file.ensures)
+    (c.ended.ensures ∙ ap (ended_job a.k) c.refuse.ensures)
     (checking-wrong a.primary.now call a.k a.job a.e nx a.out.now (checking c.before.before.before.before.before.before call nx d) wrong)
 
 overflow_add-slot : tie.Need-overflow_add-slot
@@ -93,7 +93,7 @@ check_next_spec =
     tie.close
     (tie.spec
     wrong_entry-requires
-    refuse_file-requires
+    refuse-requires
     ended-requires
     returns-then-wrong_entry
     overflow_add-slot

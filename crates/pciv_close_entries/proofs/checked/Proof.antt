@@ -28,8 +28,8 @@ returns-then-count_byte-k c =
     (sym c.count_byte.ensures ∙ c.if-count_byte-k.true)) in
     (d.0, omega (arith, d.1)))
 
-refuse_file-requires : tie.Need-refuse_file-requires
-refuse_file-requires c κs = search rules
+refuse-requires : tie.Need-refuse-requires
+refuse-requires c κs = search rules
 
 returns : tie.Need-returns
 returns c =
@@ -47,5 +47,5 @@ checked_spec =
     open-requires
     shape_of-out-then-count_byte-k
     returns-then-count_byte-k
-    refuse_file-requires
+    refuse-requires
     returns)

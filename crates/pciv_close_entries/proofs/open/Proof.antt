@@ -41,8 +41,8 @@ copy_bytes-requires c κs =
     let e = begun (length a.primary.now) a.k a.out.now c.in-Counted.field-0 (begun-done c.before) in
     omega (arith, e.entries, c.begin-begun.auto.out)
 
-refuse_file-requires : tie.Need-refuse_file-requires
-refuse_file-requires c κs = search rules
+refuse-requires : tie.Need-refuse-requires
+refuse-requires c κs = search rules
 
 shape_of-out-in-Refused : tie.Need-shape_of-out-in-Refused
 shape_of-out-in-Refused c = search rules
@@ -79,7 +79,7 @@ open_spec =
     ended-requires
     enum_told-1
     copy_bytes-requires
-    refuse_file-requires
+    refuse-requires
     shape_of-out-in-Refused
     returns-in-Refused
     shape_of-out-in-Counted

@@ -39,8 +39,8 @@ over c = rw c.onward-then.ensures at c.if-then-k.false
 find_byte-full-requires : tie.Need-find_byte-full-requires
 find_byte-full-requires c κs = (order c.before.before, omega (arith, inside c.before.before))
 
-refuse_file-requires : tie.Need-refuse_file-requires
-refuse_file-requires c κs = search rules
+refuse-requires : tie.Need-refuse-requires
+refuse-requires c κs = search rules
 
 ended-requires : tie.Need-ended-requires
 ended-requires c κs = search rules
@@ -50,7 +50,7 @@ returns-then-full-slot c =
     let a = c.args in
     λ call nx d.
     step-ended a.primary.now call a.k a.job a.e nx _ c.ended.result a.out.now
-    (c.ended.ensures ∙ ap (ended_job a.k) c.refuse_file.ensures)
+    (c.ended.ensures ∙ ap (ended_job a.k) c.refuse.ensures)
     (searching-found a.primary.now call a.k a.job a.e nx a.out.now (searching c.before.before.before.before.before.before call nx d)
     c.find_byte-full.result c.find_byte-full.ensures c.if-full-slot.true)
 
@@ -76,8 +76,8 @@ find_byte-last-requires : tie.Need-find_byte-last-requires
 find_byte-last-requires c κs =
     (omega (arith, inside c.before.before.before.before.before.before.before), omega arith)
 
-refuse_file-requires-then-last-n : tie.Need-refuse_file-requires-then-last-n
-refuse_file-requires-then-last-n c κs = search rules
+refuse-requires-then-last-n : tie.Need-refuse-requires-then-last-n
+refuse-requires-then-last-n c κs = search rules
 
 ended-requires-then-last-n : tie.Need-ended-requires-then-last-n
 ended-requires-then-last-n c κs = search rules
@@ -87,7 +87,7 @@ returns-then-last-n c =
     let a = c.args in
     λ call nx d.
     step-ended a.primary.now call a.k a.job a.e nx _ c.ended-then-last-n.result a.out.now
-    (c.ended-then-last-n.ensures ∙ ap (ended_job a.k) c.refuse_file-then-last-n.ensures)
+    (c.ended-then-last-n.ensures ∙ ap (ended_job a.k) c.refuse-then-last-n.ensures)
     (searching-last a.primary.now call a.k a.job a.e nx a.out.now (searching c.before.before.before.before.before.before.before.before.before.before.before call nx d)
     c.find_byte-full.result c.find_byte-full.ensures c.if-full-slot.false (over c.before.before.before.before) c.find_byte-last.result
     c.find_byte-last.ensures c.if-last-n.true)
@@ -120,7 +120,7 @@ search_next_spec =
     tie.close
     (tie.spec
     find_byte-full-requires
-    refuse_file-requires
+    refuse-requires
     ended-requires
     returns-then-full-slot
     overflow_add-slot
@@ -128,7 +128,7 @@ search_next_spec =
     returns-then-then-k
     overflow_add-slot-2
     find_byte-last-requires
-    refuse_file-requires-then-last-n
+    refuse-requires-then-last-n
     ended-requires-then-last-n
     returns-then-last-n
     open-requires

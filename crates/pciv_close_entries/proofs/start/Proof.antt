@@ -8,8 +8,8 @@ use borrow.Author.Rules.{rules}
 use Rattle.pciv_close_entries.proofs.start.Statement.{statement}
 use Rattle.pciv_close_entries.proofs.start.Tie as tie
 
-refuse_file-requires : tie.Need-refuse_file-requires
-refuse_file-requires c κs = search rules
+refuse-requires : tie.Need-refuse-requires
+refuse-requires c κs = search rules
 
 ended-requires : tie.Need-ended-requires
 ended-requires c κs = search rules
@@ -19,7 +19,7 @@ returns-then-primary-gt-MAX_SLOTS c =
     let a = c.args in
     λ call count is.
     doing-ended a.primary.now call a.k _ c.ended.result a.out.now count
-    (c.ended.ensures ∙ ap (ended_job a.k) c.refuse_file.ensures)
+    (c.ended.ensures ∙ ap (ended_job a.k) c.refuse.ensures)
     (start-many a.primary.now call a.out.now (omega arith) is)
 
 slice_bounds-close-end : tie.Need-slice_bounds-close-end
@@ -45,8 +45,8 @@ returns-then-k-eq0 c =
     (start-empty a.primary.now call _ a.out.now _ (count ∙ c.if-k-eq0.true) is c.close.ensures.0
     c.close.ensures.1)
 
-refuse_file-requires-2 : tie.Need-refuse_file-requires-2
-refuse_file-requires-2 c κs = search rules
+refuse-requires-2 : tie.Need-refuse-requires-2
+refuse-requires-2 c κs = search rules
 
 returns : tie.Need-returns
 returns c =
@@ -59,7 +59,7 @@ pub start_spec : {M : Type 1} → statement M
 start_spec =
     tie.close
     (tie.spec
-    refuse_file-requires
+    refuse-requires
     ended-requires
     returns-then-primary-gt-MAX_SLOTS
     slice_bounds-close-end
@@ -68,5 +68,5 @@ start_spec =
     ended-requires-then-k-eq0
     shape_of-out-then-k-eq0
     returns-then-k-eq0
-    refuse_file-requires-2
+    refuse-requires-2
     returns)

@@ -105,14 +105,14 @@ here : (b : tie.In-Counted)
     f.put_front-begun.result (begin_buffer (slots f) (counts b).k (buffer f)))
 here b = opened (front b) (counts b).k (count b)
 
-refuse_file-requires : tie.Need-refuse_file-requires
-refuse_file-requires c κs = search rules
+refuse-requires : tie.Need-refuse-requires
+refuse-requires c κs = search rules
 
 returns-then-n-gt-MAX_SLOTS : tie.Need-returns-then-n-gt-MAX_SLOTS
 returns-then-n-gt-MAX_SLOTS c =
     let a = c.args in
     let r = frame-long a.table a.frame.now a.out.now c.if-n-gt-MAX_SLOTS.true in
-    (c.refuse_file.ensures ∙ (sym r.0), sym r.1)
+    (c.refuse.ensures ∙ (sym r.0), sym r.1)
 
 primary_bytes-bytes-requires : tie.Need-primary_bytes-bytes-requires
 primary_bytes-bytes-requires c κs = search rules
@@ -170,7 +170,7 @@ pub map_of_frame_spec : {M : Type 1} → statement M
 map_of_frame_spec =
     tie.close
     (tie.spec
-    refuse_file-requires
+    refuse-requires
     returns-then-n-gt-MAX_SLOTS
     primary_bytes-bytes-requires
     put_front-begun-requires

@@ -20,26 +20,26 @@ bad c = not-false _ (sym c.is_mask.ensures ∙ c.if-not-is_mask.true)
 good : (c : tie.Else-not-is_mask) → (let a = (entry c.before.before).args in bad_mask a.n a.words.now ≡ false)
 good c = not-true _ (sym c.is_mask.ensures ∙ c.if-not-is_mask.false)
 
-refuse_file-requires : tie.Need-refuse_file-requires
-refuse_file-requires c κs = search rules
+refuse-requires : tie.Need-refuse-requires
+refuse-requires c κs = search rules
 
 returns-then-n-gt-MAX_SLOTS : tie.Need-returns-then-n-gt-MAX_SLOTS
 returns-then-n-gt-MAX_SLOTS c =
     let a = c.args in
     let o = map-many a.n a.words.now (length a.out.now) c.if-n-gt-MAX_SLOTS.true in
-    (c.refuse_file.ensures ∙ (sym o), sym (map-refused a.n a.words.now a.out.now _ o))
+    (c.refuse.ensures ∙ (sym o), sym (map-refused a.n a.words.now a.out.now _ o))
 
 is_mask-requires : tie.Need-is_mask-requires
 is_mask-requires c κs = search rules
 
-refuse_file-requires-then-not-is_mask : tie.Need-refuse_file-requires-then-not-is_mask
-refuse_file-requires-then-not-is_mask c κs = search rules
+refuse-requires-then-not-is_mask : tie.Need-refuse-requires-then-not-is_mask
+refuse-requires-then-not-is_mask c κs = search rules
 
 returns-then-not-is_mask : tie.Need-returns-then-not-is_mask
 returns-then-not-is_mask c =
     let a = (entry c.before.before.before).args in
     let o = map-bad a.n a.words.now (length a.out.now) c.if-n-gt-MAX_SLOTS.false (bad c.before) in
-    (c.refuse_file-then-not-is_mask.ensures ∙ (sym o), sym (map-refused a.n a.words.now a.out.now _ o))
+    (c.refuse-then-not-is_mask.ensures ∙ (sym o), sym (map-refused a.n a.words.now a.out.now _ o))
 
 bits_into-requires : tie.Need-bits_into-requires
 bits_into-requires c κs =
@@ -61,10 +61,10 @@ pub map_of_mask_spec : {M : Type 1} → statement M
 map_of_mask_spec =
     tie.close
     (tie.spec
-    refuse_file-requires
+    refuse-requires
     returns-then-n-gt-MAX_SLOTS
     is_mask-requires
-    refuse_file-requires-then-not-is_mask
+    refuse-requires-then-not-is_mask
     returns-then-not-is_mask
     bits_into-requires
     shape_of-out

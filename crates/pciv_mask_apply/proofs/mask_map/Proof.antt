@@ -50,15 +50,15 @@ enum_known-checked-in-Counted-1 c = search rules
 is_mask-requires : tie.Need-is_mask-requires
 is_mask-requires c κs = search rules
 
-refuse_file-requires : tie.Need-refuse_file-requires
-refuse_file-requires c κs = search rules
+refuse-requires : tie.Need-refuse-requires
+refuse-requires c κs = search rules
 
 returns-then-not-is_mask : tie.Need-returns-then-not-is_mask
 returns-then-not-is_mask c =
     let a = (entry c.before.before.before.before).args in
     let o = masked-bad (masked_of a.op) a.file.now a.words.now _ (is-map c.before.before.before) (bad c.before)
     (length a.out.now) in (
-      c.refuse_file.ensures
+      c.refuse.ensures
           ∙ (sym o),
       sym (masked-kept (masked_of a.op) a.file.now a.words.now a.out.now _ o),
     )
@@ -91,7 +91,7 @@ mask_map_spec =
     enum_known-checked
     enum_known-checked-in-Counted-1
     is_mask-requires
-    refuse_file-requires
+    refuse-requires
     returns-then-not-is_mask
     masked_into-requires
     returns-in-Refused

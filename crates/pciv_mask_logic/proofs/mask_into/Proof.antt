@@ -16,34 +16,34 @@ use Rattle.pciv_mask_logic.proofs.mask_into.Tie as tie
 abbrev fitted : tie.Start → Outcome ℕ
 fitted s = items_into (mask_len s.args.n) s.args.capacity
 
-refuse_number-requires : tie.Need-refuse_number-requires
-refuse_number-requires c κs = search rules
+refuse-requires : tie.Need-refuse-requires
+refuse-requires c κs = search rules
 
 returns-then-n-gt-MAX_SLOTS : tie.Need-returns-then-n-gt-MAX_SLOTS
 returns-then-n-gt-MAX_SLOTS c =
-    c.refuse_number.ensures
+    c.refuse.ensures
     ∙ (sym (masks-many c.args.n (not c.args.good) (fitted c.before.before) c.if-n-gt-MAX_SLOTS.true))
 
-refuse_number-requires-then-not-good : tie.Need-refuse_number-requires-then-not-good
-refuse_number-requires-then-not-good c κs = search rules
+refuse-requires-then-not-good : tie.Need-refuse-requires-then-not-good
+refuse-requires-then-not-good c κs = search rules
 
 returns-then-not-good : tie.Need-returns-then-not-good
 returns-then-not-good c =
     let bad = masks-bad c.args.n (not c.args.good) (fitted c.before.before.before) c.if-n-gt-MAX_SLOTS.false (ap not c.if-not-good.true) in
-    c.refuse_number-then-not-good.ensures ∙ (sym bad)
+    c.refuse-then-not-good.ensures ∙ (sym bad)
 
 mask_len-count-requires : tie.Need-mask_len-count-requires
 mask_len-count-requires c κs = search rules
 
-refuse_number-requires-then-capacity-count : tie.Need-refuse_number-requires-then-capacity-count
-refuse_number-requires-then-capacity-count c κs = search rules
+refuse-requires-then-capacity-count : tie.Need-refuse-requires-then-capacity-count
+refuse-requires-then-capacity-count c κs = search rules
 
 returns-then-capacity-count : tie.Need-returns-then-capacity-count
 returns-then-capacity-count c =
     let a = c.args in
     let few : a.capacity < mask_len a.n = omega (arith, c.if-capacity-count.true, c.mask_len-count.ensures) in
     let short = mask-short a.n (not a.good) a.capacity c.if-n-gt-MAX_SLOTS.false (ap not c.if-not-good.false) few in
-    c.refuse_number-then-capacity-count.ensures ∙ (sym short)
+    c.refuse-then-capacity-count.ensures ∙ (sym short)
 
 returns : tie.Need-returns
 returns c =
@@ -56,11 +56,11 @@ pub mask_into_spec : {M : Type 1} → statement M
 mask_into_spec =
     tie.close
     (tie.spec
-    refuse_number-requires
+    refuse-requires
     returns-then-n-gt-MAX_SLOTS
-    refuse_number-requires-then-not-good
+    refuse-requires-then-not-good
     returns-then-not-good
     mask_len-count-requires
-    refuse_number-requires-then-capacity-count
+    refuse-requires-then-capacity-count
     returns-then-capacity-count
     returns)

@@ -20,21 +20,21 @@ is-bad c = not-false _ (sym c.is_mask.ensures ∙ c.if-not-is_mask.true)
 is-good : (c : tie.Else-not-is_mask) → (let a = c.args in IsMask a.n a.words.now)
 is-good c = bad_mask-good _ _ (not-true _ (sym c.is_mask.ensures ∙ c.if-not-is_mask.false))
 
-refuse_number-requires : tie.Need-refuse_number-requires
-refuse_number-requires c κs = search rules
+refuse-requires : tie.Need-refuse-requires
+refuse-requires c κs = search rules
 
 returns-then-n-gt-MAX_SLOTS : tie.Need-returns-then-n-gt-MAX_SLOTS
-returns-then-n-gt-MAX_SLOTS c = c.refuse_number.ensures ∙ (sym (set_bits-many _ _ c.if-n-gt-MAX_SLOTS.true))
+returns-then-n-gt-MAX_SLOTS c = c.refuse.ensures ∙ (sym (set_bits-many _ _ c.if-n-gt-MAX_SLOTS.true))
 
 is_mask-requires : tie.Need-is_mask-requires
 is_mask-requires c κs = search rules
 
-refuse_number-requires-then-not-is_mask : tie.Need-refuse_number-requires-then-not-is_mask
-refuse_number-requires-then-not-is_mask c κs = search rules
+refuse-requires-then-not-is_mask : tie.Need-refuse-requires-then-not-is_mask
+refuse-requires-then-not-is_mask c κs = search rules
 
 returns-then-not-is_mask : tie.Need-returns-then-not-is_mask
 returns-then-not-is_mask c =
-    c.refuse_number-then-not-is_mask.ensures ∙ (sym (set_bits-bad _ _ c.if-n-gt-MAX_SLOTS.false (is-bad c.before)))
+    c.refuse-then-not-is_mask.ensures ∙ (sym (set_bits-bad _ _ c.if-n-gt-MAX_SLOTS.false (is-bad c.before)))
 
 count_bits-requires : tie.Need-count_bits-requires
 count_bits-requires c κs = omega (arith, (is-good c).count, c.if-n-gt-MAX_SLOTS.false)
@@ -48,10 +48,10 @@ pub set_bits_spec : {M : Type 1} → statement M
 set_bits_spec =
     tie.close
     (tie.spec
-    refuse_number-requires
+    refuse-requires
     returns-then-n-gt-MAX_SLOTS
     is_mask-requires
-    refuse_number-requires-then-not-is_mask
+    refuse-requires-then-not-is_mask
     returns-then-not-is_mask
     count_bits-requires
     returns)

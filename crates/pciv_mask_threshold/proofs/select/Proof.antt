@@ -36,8 +36,8 @@ enum_known-checked-in-Counted-1 c = search rules
 mask_len-count-requires : tie.Need-mask_len-count-requires
 mask_len-count-requires c κs = (checked _ _ (is-map c)).header.small
 
-refuse_number-requires : tie.Need-refuse_number-requires
-refuse_number-requires c κs = search rules
+refuse-requires : tie.Need-refuse-requires
+refuse-requires c κs = search rules
 
 returns-then-out-count : tie.Need-returns-then-out-count
 returns-then-out-count c =
@@ -45,7 +45,7 @@ returns-then-out-count c =
     let few : length a.out.now < mask_len c.in-Counted.s.n =
     omega (arith, c.if-out-count.true, c.mask_len-count.ensures) in
     let e = select_short a.file.now _ (is-map c.before.before.before) (length a.out.now) few in (
-      c.refuse_number.ensures ∙ (sym e),
+      c.refuse.ensures ∙ (sym e),
       sym (words-refused (asked_of a.asked) a.file.now a.out.now _ e),
     )
 
@@ -81,7 +81,7 @@ select_spec =
     enum_known-checked
     enum_known-checked-in-Counted-1
     mask_len-count-requires
-    refuse_number-requires
+    refuse-requires
     returns-then-out-count
     asked_into-requires
     returns-in-Refused

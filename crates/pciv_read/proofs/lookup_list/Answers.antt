@@ -33,7 +33,7 @@ returns-then-outside-slots c =
     let o =
     list-outside a.file.now _ map a.slots.now (length a.distances.now) (length a.entries.now) _ c.first_outside-outside.ensures
     c.if-outside-slots.true in
-    record { answer = c.refuse_number-no_slot.ensures ∙ (sym o); buffer = rw o; entries = rw o }
+    record { answer = c.refuse-no_slot.ensures ∙ (sym o); buffer = rw o; entries = rw o }
 
 pub returns-then-short : goal.returns-then-short
 unfolding lookup_list_buffer lookup_list_entries
@@ -44,7 +44,7 @@ returns-then-short c =
     let o =
     list-short a.file.now _ map a.slots.now inside (length a.distances.now) (length a.entries.now)
     (ltb-true _ _ (sym c.either_short-short.ensures ∙ c.if-short.true)) in
-    record { answer = c.refuse_number-no_room.ensures ∙ (sym o); buffer = rw o; entries = rw o }
+    record { answer = c.refuse-no_room.ensures ∙ (sym o); buffer = rw o; entries = rw o }
 
 pub locate_into-requires : goal.locate_into-requires
 locate_into-requires c =

@@ -28,15 +28,15 @@ enum_known-checked c = search rules
 enum_known-checked-in-Counted-1 : tie.Need-enum_known-checked-in-Counted-1
 enum_known-checked-in-Counted-1 c = search rules
 
-refuse_number-requires : tie.Need-refuse_number-requires
-refuse_number-requires c κs = search rules
+refuse-requires : tie.Need-refuse-requires
+refuse-requires c κs = search rules
 
 returns-then-out-n : tie.Need-returns-then-out-n
 unfolding scan_buffer
 returns-then-out-n c =
     let a = c.args in
     let short = scan-short a.file.now _ (is-map c.before.before) (length a.out.now) c.if-out-n.true in
-    (c.refuse_number.ensures ∙ (sym short), rw short)
+    (c.refuse.ensures ∙ (sym short), rw short)
 
 scan_into-requires : tie.Need-scan_into-requires
 scan_into-requires c κs =
@@ -67,7 +67,7 @@ scan_spec =
     check_counts-checked-requires
     enum_known-checked
     enum_known-checked-in-Counted-1
-    refuse_number-requires
+    refuse-requires
     returns-then-out-n
     scan_into-requires
     returns-in-Refused

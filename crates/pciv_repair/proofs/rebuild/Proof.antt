@@ -43,14 +43,14 @@ overflow_mul-lines c =
     let p = s.requires in
     omega (arith, c.count_lines-lines.ensures, lines-few _ _ _ (bytes c) p, p.few, p.small)
 
-refuse_repair-requires : tie.Need-refuse_repair-requires
-refuse_repair-requires c κs = search rules
+refuse-requires : tie.Need-refuse-requires
+refuse-requires c κs = search rules
 
 returns-then-list-lines : tie.Need-returns-then-list-lines
 returns-then-list-lines c =
     let s = start_of c.before.before in
     let a = s.args in
-    ends-unlisted a.file.now a.n a.k a.out.now a.list.now s.requires _ c.refuse_repair.ensures
+    ends-unlisted a.file.now a.n a.k a.out.now a.list.now s.requires _ c.refuse.ensures
     (omega (arith, c.if-list-lines.true, c.count_lines-lines.ensures))
 
 put_repaired-written-requires : tie.Need-put_repaired-written-requires
@@ -110,7 +110,7 @@ rebuild_spec =
     same_index-indexed-requires
     count_lines-lines-requires
     overflow_mul-lines
-    refuse_repair-requires
+    refuse-requires
     returns-then-list-lines
     put_repaired-written-requires
     enum_known-written

@@ -5,21 +5,21 @@ use borrow.Author.Rules.{rules}
 use Rattle.pciv_repair.proofs.repair.Statement.{statement}
 use Rattle.pciv_repair.proofs.repair.Tie as tie
 
-refuse_repair-requires : tie.Need-refuse_repair-requires
-refuse_repair-requires c κs = search rules
+refuse-requires : tie.Need-refuse-requires
+refuse-requires c κs = search rules
 
 returns-then-n-gt-MAX_SLOTS : tie.Need-returns-then-n-gt-MAX_SLOTS
 returns-then-n-gt-MAX_SLOTS c =
     let a = c.args in
-    ends-many a.file.now a.n a.k a.out.now a.list.now _ c.refuse_repair.ensures c.if-n-gt-MAX_SLOTS.true
+    ends-many a.file.now a.n a.k a.out.now a.list.now _ c.refuse.ensures c.if-n-gt-MAX_SLOTS.true
 
-refuse_repair-requires-then-n-k : tie.Need-refuse_repair-requires-then-n-k
-refuse_repair-requires-then-n-k c κs = search rules
+refuse-requires-then-n-k : tie.Need-refuse-requires-then-n-k
+refuse-requires-then-n-k c κs = search rules
 
 returns-then-n-k : tie.Need-returns-then-n-k
 returns-then-n-k c =
     let a = c.args in
-    ends-counts a.file.now a.n a.k a.out.now a.list.now (omega arith) _ c.refuse_repair-then-n-k.ensures
+    ends-counts a.file.now a.n a.k a.out.now a.list.now (omega arith) _ c.refuse-then-n-k.ensures
     c.if-n-k.true
 
 overflow_add-n : tie.Need-overflow_add-n
@@ -31,13 +31,13 @@ overflow_mul-k c = search rules
 overflow_add-n-2 : tie.Need-overflow_add-n-2
 overflow_add-n-2 c = search rules
 
-refuse_repair-requires-then-file-n : tie.Need-refuse_repair-requires-then-file-n
-refuse_repair-requires-then-file-n c κs = search rules
+refuse-requires-then-file-n : tie.Need-refuse-requires-then-file-n
+refuse-requires-then-file-n c κs = search rules
 
 returns-then-file-n : tie.Need-returns-then-file-n
 returns-then-file-n c =
     let a = c.args in
-    ends-short a.file.now a.n a.k a.out.now a.list.now (omega arith) _ c.refuse_repair-then-file-n.ensures
+    ends-short a.file.now a.n a.k a.out.now a.list.now (omega arith) _ c.refuse-then-file-n.ensures
     (omega arith) c.if-file-n.true
 
 rebuild-requires : tie.Need-rebuild-requires
@@ -61,14 +61,14 @@ pub repair_spec : {M : Type 1} → statement M
 repair_spec =
     tie.close
     (tie.spec
-    refuse_repair-requires
+    refuse-requires
     returns-then-n-gt-MAX_SLOTS
-    refuse_repair-requires-then-n-k
+    refuse-requires-then-n-k
     returns-then-n-k
     overflow_add-n
     overflow_mul-k
     overflow_add-n-2
-    refuse_repair-requires-then-file-n
+    refuse-requires-then-file-n
     returns-then-file-n
     rebuild-requires
     shape_of-out

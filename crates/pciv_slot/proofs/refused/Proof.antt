@@ -3,11 +3,11 @@ use borrow.Author.Rules.{rules}
 use Rattle.pciv_slot.proofs.refused.Statement.{statement}
 use Rattle.pciv_slot.proofs.refused.Tie as tie
 
-refuse_file-requires : tie.Need-refuse_file-requires
-refuse_file-requires c κs = search rules
+refuse-requires : tie.Need-refuse-requires
+refuse-requires c κs = search rules
 
 returns : tie.Need-returns
-returns c = rw c.refuse_file.ensures
+returns c = rw c.refuse.ensures
 
 pub refused_spec : {M : Type 1} → statement M
-refused_spec = tie.close (tie.spec refuse_file-requires returns)
+refused_spec = tie.close (tie.spec refuse-requires returns)

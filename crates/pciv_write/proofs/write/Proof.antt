@@ -39,14 +39,14 @@ opened b =
       buffer = b.begin-begun.ensures.1;
     }
 
-refuse_file-requires : tie.Need-refuse_file-requires
-refuse_file-requires c κs = search rules
+refuse-requires : tie.Need-refuse-requires
+refuse-requires c κs = search rules
 
 returns-then-is_large : tie.Need-returns-then-is_large
 returns-then-is_large c =
     let a = c.args in
     let r = write-long a.distances.now a.out.now c.if-is_large.true in
-    (c.refuse_file.ensures ∙ (sym r.0), sym r.1)
+    (c.refuse.ensures ∙ (sym r.0), sym r.1)
 
 count_overflow-k-requires : tie.Need-count_overflow-k-requires
 count_overflow-k-requires c κs = search rules
@@ -101,7 +101,7 @@ pub write_spec : {M : Type 1} → statement M
 write_spec =
     tie.close
     (tie.spec
-    refuse_file-requires
+    refuse-requires
     returns-then-is_large
     count_overflow-k-requires
     begin-begun-requires

@@ -1,5 +1,4 @@
 -- Proves pciv_bits::flags::part_word. Invariant: x is the word of the bytes from j up to `to`. Falls: j.
-use Rattle.std.proofs.Common.{Ok}
 use Rattle.std.proofs.Common.{◌≡◌, ℕ, ◌-◌, ◌^◌, ◌<◌, ◌≤◌, Bool, sym, ap, ◌∙◌, arith, rules}
 use Rattle.pciv_bytes.specs.Ranges.{flag}
 use Rattle.pciv_bytes.proofs.RangesLaws.{flag-le, bool_byte-flag}
@@ -27,7 +26,7 @@ fits d more =
 -- the word at the loop's end
 made : (d : tie.At-loop-j invariant-loop-j decreases-loop-j) → d.loop-j.j ≤ d.args.from
     → (d.loop-j.x ≡ word (flags d.before.before) d.args.from (d.args.to - d.args.from))
-made d Ok = let e : d.loop-j.j ≡ d.args.from = omega arith in d.loop-j.invariant.2 ∙ rw e
+made d done = let e : d.loop-j.j ≡ d.args.from = omega arith in d.loop-j.invariant.2 ∙ rw e
 
 loop-j-init : tie.Need-loop-j-init invariant-loop-j decreases-loop-j
 loop-j-init c =

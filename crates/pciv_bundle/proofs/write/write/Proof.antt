@@ -24,23 +24,23 @@ fs s = map (λ (x : Bor (List ℕ)). x.now) s.args.frames.now
 abbrev entry : tie.Else-has_many → tie.Start
 entry c = c.before.before.before.before
 
-refuse_number-requires : tie.Need-refuse_number-requires
-refuse_number-requires c κs = search rules
+refuse-requires : tie.Need-refuse-requires
+refuse-requires c κs = search rules
 
 returns-then-count-lt1 : tie.Need-returns-then-count-lt1
 unfolding bundle_write_buffer
 returns-then-count-lt1 c =
     let none = write-none (fs c.before.before.before.before) c.args.count (length c.args.out.now) c.if-count-lt1.true in
-    (c.refuse_number.ensures ∙ (sym none), rw none)
+    (c.refuse.ensures ∙ (sym none), rw none)
 
-refuse_number-requires-then-has_many : tie.Need-refuse_number-requires-then-has_many
-refuse_number-requires-then-has_many c κs = search rules
+refuse-requires-then-has_many : tie.Need-refuse-requires-then-has_many
+refuse-requires-then-has_many c κs = search rules
 
 returns-then-has_many : tie.Need-returns-then-has_many
 unfolding bundle_write_buffer
 returns-then-has_many c =
     let many = write-many (fs c.before.before.before.before.before) c.args.count (length c.args.out.now) c.if-has_many.true in
-    (c.refuse_number-then-has_many.ensures ∙ (sym many), rw many)
+    (c.refuse-then-has_many.ensures ∙ (sym many), rw many)
 
 bounds-lent-0 : tie.Need-bounds-lent-0
 bounds-lent-0 c = search rules
@@ -99,8 +99,8 @@ bundle_len-len-requires : tie.Need-bundle_len-len-requires
 bundle_len-len-requires c κs =
     (few c.before.before.before.before, eight c.before.before.before.before, write-frames (fs (entry c.before.before.before.before)) _ (some c.before.before.before.before) (few c.before.before.before.before) _ (is-done c))
 
-refuse_number-requires-then-out-len : tie.Need-refuse_number-requires-then-out-len
-refuse_number-requires-then-out-len c κs = search rules
+refuse-requires-then-out-len : tie.Need-refuse-requires-then-out-len
+refuse-requires-then-out-len c κs = search rules
 
 returns-then-out-len : tie.Need-returns-then-out-len
 unfolding bundle_write_buffer
@@ -109,7 +109,7 @@ returns-then-out-len c =
     let short =
     write-short (fs s) s.args.count (some c.before.before.before.before.before.before.before) (few c.before.before.before.before.before.before.before) _ (is-done c.before.before.before) (length s.args.out.now)
     (omega (arith, c.if-out-len.true, c.bundle_len-len.ensures c.in-Number.n)) in
-    (c.refuse_number-then-out-len.ensures ∙ (sym short), rw short)
+    (c.refuse-then-out-len.ensures ∙ (sym short), rw short)
 
 -- the bundle fits
 fits : (c : tie.Else-out-len)
@@ -150,9 +150,9 @@ pub write_spec : {M : Type 1} → statement M
 write_spec =
     tie.close
     (tie.spec
-    refuse_number-requires
+    refuse-requires
     returns-then-count-lt1
-    refuse_number-requires-then-has_many
+    refuse-requires-then-has_many
     returns-then-has_many
     bounds-lent-0
     slots_of-requires
@@ -160,7 +160,7 @@ write_spec =
     enum_known-checked
     enum_known-checked-in-Number-1
     bundle_len-len-requires
-    refuse_number-requires-then-out-len
+    refuse-requires-then-out-len
     returns-then-out-len
     put_bundle-requires
     returns-in-Refused

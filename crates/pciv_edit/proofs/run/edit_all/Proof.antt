@@ -1,6 +1,5 @@
 -- Proves pciv_edit::run::edit_all. Invariant: the buffer holds a checked map of n slots, `held` has its entries and its
 -- sum, and all edits from the start do what the rest does from here. Falls: length slots - i.
-use Rattle.std.proofs.Common.{Ok}
 use mathlib.Core.Path.{◌≡◌, refl, ◌∙◌}
 use Prim.Native.Nat.{◌+◌, ◌-◌, ◌*◌, ◌≤◌}
 use native.Mathlib.Omega.{arith}
@@ -62,15 +61,15 @@ loop-i-preserved c =
     let xs = a.slots.now in
     let ds = a.distances.now in
     let i = l.i in
-    let Ok = c.edit_next-held.ensures in (
+    let done = c.edit_next-held.ensures in (
       omega (arith, c.loop-i-test.true),
       c.edit_next-held.auto.buffer ∙ l.invariant.1,
       c.edit_next-held.auto.answers ∙ l.invariant.2,
-      Ok.0,
+      done.0,
       left-more a.buffer.now a.answers.now (edits_of xs ds) l.buffer l.answers (answer_len * i)
           (edits_from xs ds i) (edit_at xs ds i) (edits_from xs ds (i + 1))
           (edits-more xs ds i c.loop-i-test.true) l.invariant.4
-          c.edit_next-held.new.buffer c.edit_next-held.new.answers Ok.1.0 Ok.1.1 (answer_len * (i + 1))
+          c.edit_next-held.new.buffer c.edit_next-held.new.answers done.1.0 done.1.1 (answer_len * (i + 1))
           (omega arith),
     )
 

@@ -54,8 +54,8 @@ enum_known-checked c = search rules
 enum_known-checked-in-Done-1 : tie.Need-enum_known-checked-in-Done-1
 enum_known-checked-in-Done-1 c = search rules
 
-refuse_number-requires : tie.Need-refuse_number-requires
-refuse_number-requires c κs = search rules
+refuse-requires : tie.Need-refuse-requires
+refuse-requires c κs = search rules
 
 shape_of-buffer-then-slots-distances : tie.Need-shape_of-buffer-then-slots-distances
 shape_of-buffer-then-slots-distances c = search rules
@@ -66,11 +66,11 @@ returns-then-slots-distances c =
     let b = a.buffer.now in
     let xs = a.slots.now in
     let ds = a.distances.now in
-    refused-run b xs ds _ a.answers.now _ c.refuse_number.ensures
+    refused-run b xs ds _ a.answers.now _ c.refuse.ensures
     (list-fewer-slots b xs ds _ (is-map c.before.before) (length a.answers.now) c.if-slots-distances.true)
 
-refuse_number-requires-then-distances-slots : tie.Need-refuse_number-requires-then-distances-slots
-refuse_number-requires-then-distances-slots c κs = search rules
+refuse-requires-then-distances-slots : tie.Need-refuse-requires-then-distances-slots
+refuse-requires-then-distances-slots c κs = search rules
 
 shape_of-buffer-then-distances-slots : tie.Need-shape_of-buffer-then-distances-slots
 shape_of-buffer-then-distances-slots c = search rules
@@ -81,11 +81,11 @@ returns-then-distances-slots c =
     let b = a.buffer.now in
     let xs = a.slots.now in
     let ds = a.distances.now in
-    refused-run b xs ds _ a.answers.now _ c.refuse_number-then-distances-slots.ensures
+    refused-run b xs ds _ a.answers.now _ c.refuse-then-distances-slots.ensures
     (list-fewer-distances b xs ds _ (is-map c.before.before.before) (length a.answers.now) c.if-distances-slots.true)
 
-refuse_number-requires-then-answers-slots : tie.Need-refuse_number-requires-then-answers-slots
-refuse_number-requires-then-answers-slots c κs = search rules
+refuse-requires-then-answers-slots : tie.Need-refuse-requires-then-answers-slots
+refuse-requires-then-answers-slots c κs = search rules
 
 shape_of-buffer-then-answers-slots : tie.Need-shape_of-buffer-then-answers-slots
 shape_of-buffer-then-answers-slots c = search rules
@@ -96,7 +96,7 @@ returns-then-answers-slots c =
     let b = a.buffer.now in
     let xs = a.slots.now in
     let ds = a.distances.now in
-    refused-run b xs ds _ a.answers.now _ c.refuse_number-then-answers-slots.ensures
+    refused-run b xs ds _ a.answers.now _ c.refuse-then-answers-slots.ensures
     (list-short b xs ds _ (is-map c.before.before.before.before) (length a.answers.now) (as_many c.before.before)
     (omega (arith, c.if-answers-slots.true)))
 
@@ -142,13 +142,13 @@ edit_list_spec =
     check_buffer-checked-requires
     enum_known-checked
     enum_known-checked-in-Done-1
-    refuse_number-requires
+    refuse-requires
     shape_of-buffer-then-slots-distances
     returns-then-slots-distances
-    refuse_number-requires-then-distances-slots
+    refuse-requires-then-distances-slots
     shape_of-buffer-then-distances-slots
     returns-then-distances-slots
-    refuse_number-requires-then-answers-slots
+    refuse-requires-then-answers-slots
     shape_of-buffer-then-answers-slots
     returns-then-answers-slots
     edit_all-requires
