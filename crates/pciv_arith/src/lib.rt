@@ -26,10 +26,10 @@ fn combine(op: MergeOp, a: &[u8], b: &[u8], out: &mut [u8]) -> Result<Summary, R
     ensures answer { result ≡ combine_maps_outcome (slot_op_of op) a.now b.now (length out.old) }
     ensures buffer { out.new ≡ combine_maps_buffer (slot_op_of op) a.now b.now out.old }
 {
-    let s = check_pair(a, b)?;
-    let n = s.n;
-    let ka = s.ka;
-    let kb = s.kb;
+    let pair = check_pair(a, b)?;
+    let n = pair.n;
+    let ka = pair.ka;
+    let kb = pair.kb;
     combine_into(out, op, a, b, n, ka, kb)
 }
 
@@ -55,10 +55,10 @@ pub fn sum_maps(a: &[u8], b: &[u8], out: &mut [u8]) -> Result<Summary, Refusal>
     ensures answer { result ≡ combine_maps_outcome Sum a.now b.now (length out.old) }
     ensures buffer { out.new ≡ combine_maps_buffer Sum a.now b.now out.old }
 {
-    let c = check_pair(a, b)?;
-    let n = c.n;
-    let ka = c.ka;
-    let kb = c.kb;
+    let pair = check_pair(a, b)?;
+    let n = pair.n;
+    let ka = pair.ka;
+    let kb = pair.kb;
     added_into(Addend::Map, a, b, n, ka, kb, out)
 }
 
@@ -94,9 +94,9 @@ pub fn shift(file: &[u8], by: i32, out: &mut [u8]) -> Result<Summary, Refusal>
     ensures answer { result ≡ shift_outcome file.now by (length out.old) }
     ensures buffer { out.new ≡ shift_buffer file.now by out.old }
 {
-    let s = check_counts(file, 1)?;
-    let n = s.n;
-    let k = s.k;
+    let counts = check_counts(file, 1)?;
+    let n = counts.n;
+    let k = counts.k;
     let way = which_way(by);
     match way {
         Direction::Down(m) => lowered_into(file, n, k, m, out),
@@ -109,10 +109,10 @@ pub fn signed_difference(a: &[u8], b: &[u8], out: &mut [i64]) -> Result<usize, R
     ensures answer { result ≡ signed_difference_outcome a.now b.now (length out.old) }
     ensures list { out.new ≡ signed_difference_list a.now b.now out.old }
 {
-    let c = check_pair(a, b)?;
-    let n = c.n;
-    let ka = c.ka;
-    let kb = c.kb;
+    let pair = check_pair(a, b)?;
+    let n = pair.n;
+    let ka = pair.ka;
+    let kb = pair.kb;
     if out.len() < n {
         return refuse(RefusalKind::BufferTooSmall, 0, 0);
     }

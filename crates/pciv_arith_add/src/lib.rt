@@ -41,9 +41,9 @@ pub fn added_into(
         return refuse(RefusalKind::DistanceOverflow, 0, large);
     }
     let k = count_added(of, a, b, n, ka, kb);
-    let c = begin(out, n, k)?;
+    let counts = begin(out, n, k)?;
     put_primary(out, of, a, b, n, ka, kb);
     put_entries(out, of, a, b, n, ka, kb, k);
     finish(out, n, k);
-    Ok(summary_of(out, c))
+    Ok(summary_of(out, counts))
 }

@@ -89,9 +89,9 @@ pub fn lowered_into(file: &[u8], n: usize, k: usize, m: u32, out: &mut [u8]) -> 
     ensures buffer { out.new ≡ file_buffer (map_into n (lowered_at (file_parts file.now n k) m) (length out.old)) n (lowered_at (file_parts file.now n k) m) out.old }
 {
     let count = count_lowered(file, n, k, m);
-    let c = begin(out, n, count)?;
+    let counts = begin(out, n, count)?;
     put_primary(out, file, n, k, m);
     put_entries(out, file, n, k, m);
     finish(out, n, count);
-    Ok(summary_of(out, c))
+    Ok(summary_of(out, counts))
 }

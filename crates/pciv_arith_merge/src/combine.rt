@@ -72,9 +72,9 @@ pub fn combine_into(
     ensures buffer { out.new ≡ combined_buffer op a.now b.now n ka kb out.old }
 {
     let k = count_overflow(op, a, b, n, ka, kb);
-    let c = begin(out, n, k)?;
+    let counts = begin(out, n, k)?;
     put_parts(out, op, a, b, n, ka, kb);
     finish(out, n, k);
     let result: &[u8] = out;
-    Ok(summary_of(result, c))
+    Ok(summary_of(result, counts))
 }

@@ -26,7 +26,6 @@ use Rattle.pciv_format.specs.declared.Counts.{Counts}
 use Rattle.pciv_format.specs.declared.Summary.{Summary}
 use Rattle.pciv_format.specs.declared.Refusal.{Refusal}
 use Rattle.pciv_format.proofs.LayoutLaws.{overflow_count-le}
-use Rattle.pciv_format.proofs.RefusalsLaws.{counts_answer-counted, counts_answer-refused}
 use Rattle.pciv_build.specs.Build.{Fits, begin_outcome, begin_buffer, index_from}
 use Rattle.pciv_build.specs.Slots.{HoldsPrimary}
 use Rattle.pciv_build.proofs.BuildLaws.{Begun, begun, begun-is, built-done, built-refused}
@@ -41,7 +40,7 @@ pub record Opened (n k : ℕ) (v : ℕ → ℕ) (o : Outcome Summary) (d : List 
   pub each : Fits n v
   pub count : k ≡ overflow_count n v
   pub into : o ≡ file_into n v (length d)
-  pub answer : a ≡ (begin_outcome n k (length d))
+  pub answer : a ≡ begin_outcome n k (length d)
   pub buffer : d₁ ≡ begin_buffer n k d
 
 module _ {n k : ℕ} {v : ℕ → ℕ} {o : Outcome Summary} {d : List ℕ} {a : Outcome Counts} {d₁ : List ℕ}
@@ -53,14 +52,14 @@ module _ {n k : ℕ} {v : ℕ → ℕ} {o : Outcome Summary} {d : List ℕ} {a :
   pub opened-refused : (r : Refusal) → a ≡ Err r
       → (Err r ≡ o) × (d₁ ≡ file_buffer o n v d)
   opened-refused r is =
-      let no : begin_outcome n k (length d) ≡ Err r = counts_answer-refused _ r (sym is ∙ e.answer) in (
+      let no : begin_outcome n k (length d) ≡ Err r = sym e.answer ∙ is in (
         (begun-is n k v e.count (length d) (Err r) no ∙ sym e.into),
         buffer-is d₁ (built-refused n k v e.count e.few d d₁ r no e.buffer),
       )
 
   module _ (s : Counts) (is : a ≡ Ok s) where
     ok : begin_outcome n k (length d) ≡ Ok s
-    ok = counts_answer-counted _ s (sym is ∙ e.answer)
+    ok = sym e.answer ∙ is
 
     here : Begun n k d s
     here = begun n k d s ok

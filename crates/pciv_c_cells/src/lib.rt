@@ -44,7 +44,7 @@ pub fn tell_file(a: Result<Summary, Refusal>, summary: &mut [usize; 6], refusal:
             *summary = [s.n, s.k, s.m, s.step, s.len, s.sum];
             tell_done(refusal)
         }
-        Err(r) => tell_refused(r, refusal),
+        Err(why) => tell_refused(why, refusal),
     }
 }
 

@@ -66,10 +66,10 @@ fn wrong_length(whole: bool, have: usize, len: usize) -> bool
 fn check_with(file: &[u8], map: usize, whole: bool) -> Result<Counts, Refusal>
     ensures { result ≡ check_with (wrong_length whole) map file.now }
 {
-    let s = check_header(file, map)?;
-    let n = s.n;
-    let k = s.k;
-    let len = s.len;
+    let counts = check_header(file, map)?;
+    let n = counts.n;
+    let k = counts.k;
+    let len = counts.len;
     if wrong_length(whole, file.len(), len) {
         return refuse(RefusalKind::BadLength, map, 0);
     }

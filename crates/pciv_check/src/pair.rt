@@ -19,14 +19,14 @@ pub struct PairCounts {
 pub fn check_pair(a: &[u8], b: &[u8]) -> Result<PairCounts, Refusal>
     ensures answer { result ≡ pair_counts a.now b.now }
 {
-    let s = check_counts(a, 1)?;
-    let t = check_counts(b, 2)?;
-    if s.n != t.n {
+    let first = check_counts(a, 1)?;
+    let second = check_counts(b, 2)?;
+    if first.n != second.n {
         return refuse(RefusalKind::SizeMismatch, 0, 0);
     }
     Ok(PairCounts {
-        n: s.n,
-        ka: s.k,
-        kb: t.k,
+        n: first.n,
+        ka: first.k,
+        kb: second.k,
     })
 }

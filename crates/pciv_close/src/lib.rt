@@ -93,11 +93,11 @@ fn put_file(out: &mut [u8], primary: &[u8], slots: &[usize], distances: &[u32]) 
 {
     let n = primary.len();
     let k = slots.len();
-    let c = begin(out, n, k)?;
+    let counts = begin(out, n, k)?;
     copy_bytes(primary, out, HEADER_LEN);
     put_entries(out, HEADER_LEN + n, slots, distances);
     finish(out, n, k);
-    Ok(summary_of(out, c))
+    Ok(summary_of(out, counts))
 }
 
 // Writes the file of a primary array and its overflow entries, entry j being slots[j] with distances[j], to the

@@ -38,10 +38,10 @@ fn divisor(of: Weight, least: usize, most: usize) -> usize
 fn figure(of: Weight, a: &[u8], b: &[u8]) -> Result<f64, Refusal>
     ensures { result ≡ figure_outcome of a.now b.now }
 {
-    let c = check_pair(a, b)?;
-    let n = c.n;
-    let ka = c.ka;
-    let kb = c.kb;
+    let pair = check_pair(a, b)?;
+    let n = pair.n;
+    let ka = pair.ka;
+    let kb = pair.kb;
     let sums = weigh(of, a, b, n, ka, kb);
     let least = sums.least;
     let most = sums.most;

@@ -93,9 +93,9 @@ pub fn map_of_frame(frame: &[u8], table: [u32; 256], out: &mut [u8]) -> Result<S
         return refuse(RefusalKind::TooManySlots, 1, 0);
     }
     let bytes = primary_bytes(&table);
-    let c = put_front(out, frame, &bytes)?;
-    let k = c.k;
+    let counts = put_front(out, frame, &bytes)?;
+    let k = counts.k;
     put_entries(out, frame, &table, k);
     finish(out, n, k);
-    Ok(summary_of(out, c))
+    Ok(summary_of(out, counts))
 }

@@ -124,10 +124,10 @@ pub fn edit_list(
     ensures buffer { buffer.new ≡ edit_list_buffer buffer.old slots.now distances.now (length answers.old) }
     ensures answers { answers.new ≡ edit_list_answers buffer.old slots.now distances.now answers.old }
 {
-    let s = check_buffer(buffer)?;
-    let n = s.n;
-    let k = s.k;
-    let sum = s.sum;
+    let summary = check_buffer(buffer)?;
+    let n = summary.n;
+    let k = summary.k;
+    let sum = summary.sum;
     if slots.len() < distances.len() {
         return refuse(RefusalKind::SlotOutOfRange, 0, slots.len());
     }

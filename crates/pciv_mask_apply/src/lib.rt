@@ -31,9 +31,9 @@ fn bits_into(n: usize, words: &[u64], out: &mut [u8]) -> Result<Summary, Refusal
     ensures answer { result ≡ file_into n (mask_value words.now) (length out.old) }
     ensures buffer { out.new ≡ file_buffer (file_into n (mask_value words.now) (length out.old)) n (mask_value words.now) out.old }
 {
-    let c = begin(out, n, 0)?;
+    let counts = begin(out, n, 0)?;
     put_bits(out, n, words);
-    Ok(summarized(c, count_bits(words)))
+    Ok(summarized(counts, count_bits(words)))
 }
 
 // Writes the file of a mask of n slots as a map of 0 and 1 to the front of the caller's buffer. Refusals: 3, then 13,
@@ -56,9 +56,9 @@ fn mask_map(op: MaskedOp, file: &[u8], words: &[u64], out: &mut [u8]) -> Result<
     ensures answer { result ≡ masked_outcome (masked_of op) file.now words.now (length out.old) }
     ensures buffer { out.new ≡ masked_buffer (masked_of op) file.now words.now out.old }
 {
-    let s = check_counts(file, 1)?;
-    let n = s.n;
-    let k = s.k;
+    let counts = check_counts(file, 1)?;
+    let n = counts.n;
+    let k = counts.k;
     if !is_mask(n, words) {
         return refuse(RefusalKind::BadMask, 0, 0);
     }

@@ -85,9 +85,9 @@ pub(crate) fn masked_into(
         return refuse(RefusalKind::DistanceOverflow, 0, large);
     }
     let count = count_overflow(op, file, n, k, words);
-    let c = begin(out, n, count)?;
+    let counts = begin(out, n, count)?;
     put_primary(out, op, file, n, k, words);
     put_entries(out, op, file, n, k, words, count);
     finish(out, n, count);
-    Ok(summary_of(out, c))
+    Ok(summary_of(out, counts))
 }

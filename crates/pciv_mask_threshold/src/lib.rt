@@ -124,9 +124,9 @@ fn select(file: &[u8], asked: Asked, out: &mut [u64]) -> Result<usize, Refusal>
     ensures answer { result ≡ select_outcome file.now (length out.old) }
     ensures words { out.new ≡ select_words (asked_of asked) file.now out.old }
 {
-    let s = check_counts(file, 1)?;
-    let n = s.n;
-    let k = s.k;
+    let counts = check_counts(file, 1)?;
+    let n = counts.n;
+    let k = counts.k;
     let count = mask_len(n);
     if out.len() < count {
         return refuse(RefusalKind::BufferTooSmall, 0, 0);

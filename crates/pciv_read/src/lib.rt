@@ -48,9 +48,9 @@ pub fn primary(file: &[u8]) -> &[u8]
 pub fn lookup(file: &[u8], slot: usize) -> Result<Located, Refusal>
     ensures answer { result ≡ lookup_outcome file.now slot }
 {
-    let s = check_counts(file, 1)?;
-    let n = s.n;
-    let k = s.k;
+    let counts = check_counts(file, 1)?;
+    let n = counts.n;
+    let k = counts.k;
     if n <= slot {
         return Err(Refusal {
             kind: RefusalKind::SlotOutOfRange,
@@ -105,9 +105,9 @@ pub fn lookup_list(
         ≡ lookup_list_entries file.now slots.now
         (length distances.old) entries.old }
 {
-    let s = check_counts(file, 1)?;
-    let n = s.n;
-    let k = s.k;
+    let counts = check_counts(file, 1)?;
+    let n = counts.n;
+    let k = counts.k;
     let outside = first_outside(slots, n);
     let short = either_short(distances.len(), entries.len(), slots.len());
     if outside < slots.len() {
@@ -127,9 +127,9 @@ pub fn scan(file: &[u8], out: &mut [u32]) -> Result<usize, Refusal>
     ensures answer { result ≡ scan_outcome file.now (length out.old) }
     ensures buffer { out.new ≡ scan_buffer file.now out.old }
 {
-    let s = check_counts(file, 1)?;
-    let n = s.n;
-    let k = s.k;
+    let counts = check_counts(file, 1)?;
+    let n = counts.n;
+    let k = counts.k;
     if out.len() < n {
         return refuse(RefusalKind::BufferTooSmall, 0, 0);
     }
@@ -141,19 +141,16 @@ pub fn scan(file: &[u8], out: &mut [u32]) -> Result<usize, Refusal>
 pub fn sum(file: &[u8]) -> Result<usize, Refusal>
     ensures answer { result ≡ sum_outcome file.now }
 {
-    let checked = check(file);
-    match checked {
-        Err(r) => Err(r),
-        Ok(s) => Ok(s.sum),
-    }
+    let summary = check(file)?;
+    Ok(summary.sum)
 }
 
 // The number of readings, distances that are not 0. Refusals: 1 to 8.
 pub fn readings(file: &[u8]) -> Result<usize, Refusal>
     ensures answer { result ≡ readings_outcome file.now }
 {
-    let s = check_counts(file, 1)?;
-    let n = s.n;
+    let counts = check_counts(file, 1)?;
+    let n = counts.n;
     let end = HEADER_LEN + n;
     Ok(readings_of(&file[HEADER_LEN..end]))
 }

@@ -76,9 +76,9 @@ pub fn put_repaired(
         ≡ file_buffer (file_into n (repaired_at file.now n k) (length out.old)) n
         (repaired_at file.now n k) out.old }
 {
-    let c = begin(out, n, kept)?;
+    let counts = begin(out, n, kept)?;
     put_primary(file, n, k, kept, full, out);
     put_kept(file, n, k, kept, out);
     finish(out, n, kept);
-    Ok(summary_of(out, c))
+    Ok(summary_of(out, counts))
 }

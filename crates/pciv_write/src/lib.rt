@@ -85,9 +85,9 @@ pub fn write(distances: &[u32], out: &mut [u8]) -> Result<Summary, Refusal>
         return refuse(RefusalKind::TooManySlots, 1, 0);
     }
     let k = count_overflow(distances);
-    let c = begin(out, n, k)?;
+    let counts = begin(out, n, k)?;
     put_primary(out, distances);
     put_entries(out, distances, k);
     finish(out, n, k);
-    Ok(summary_of(out, c))
+    Ok(summary_of(out, counts))
 }
