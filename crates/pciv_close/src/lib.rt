@@ -14,7 +14,6 @@ ghost use Rattle.pciv_close.specs.Close.{slot_parts, entries_from, parts_outcome
 use pciv_build::{begin, finish, put_entry};
 use pciv_bytes::copies::copy_bytes;
 use pciv_bytes::find::find_byte;
-use pciv_bytes::numbers::{larger, smaller};
 use pciv_format::{HEADER_LEN, MAX_SLOTS, SENTINEL, Refusal, RefusalKind, Summary};
 use pciv_layout::entries::wrong_entry;
 use pciv_layout::refusals::refuse;
@@ -27,15 +26,13 @@ use pciv_passes::counts::count_byte;
 fn first_bad_entry(primary: &[u8], slots: &[usize], distances: &[u32]) -> usize
     ensures { result ≡ first_below (bad_entry (close_parts primary.now slots.now distances.now)) (max (length slots.now) (length distances.now)) }
 {
-    let end = smaller(slots.len(), distances.len());
-    let mut lowest: usize = 0;
-    let mut j: usize = 0;
-    while j < end {
+    let end = slots.len().min(distances.len());
+    let mut lowest = 0;
+    for j in 0..end {
         if wrong_entry(primary, lowest, slots[j], distances[j]) {
             return j;
         }
         lowest = slots[j] + 1;
-        j += 1;
     }
     end
 }
@@ -45,16 +42,13 @@ fn search_slots(primary: &[u8], slots: &[usize]) -> usize
     requires { EntriesRight (slot_parts primary.now slots.now) }
     ensures { result ≡ first_below (bad_slot (slot_parts primary.now slots.now)) (length primary.now) }
 {
-    let mut from: usize = 0;
-    let mut j: usize = 0;
-    while j < slots.len() {
-        let slot = slots[j];
-        let full = find_byte(primary, from, slot, SENTINEL);
-        if full < slot {
+    let mut from = 0;
+    for slot in slots {
+        let full = find_byte(primary, from, *slot, SENTINEL);
+        if full < *slot {
             return full;
         }
-        from = slot + 1;
-        j += 1;
+        from = *slot + 1;
     }
     find_byte(primary, from, primary.len(), SENTINEL)
 }
@@ -77,10 +71,8 @@ fn put_entries(out: &mut [u8], start: usize, slots: &[usize], distances: &[u32])
     requires { (length slots.now ≡ length distances.now) × (start + 12 * length slots.now ≤ length out.old) }
     ensures { out.new ≡ sets out.old start (entries_from (at slots.now) (at distances.now) 0 (length slots.now)) }
 {
-    let mut j: usize = 0;
-    while j < slots.len() {
-        put_entry(out, start + 12 * j, slots[j], distances[j]);
-        j += 1;
+    for (j, slot) in slots.iter().enumerate() {
+        put_entry(out, start + 12 * j, *slot, distances[j]);
     }
 }
 
@@ -113,7 +105,8 @@ pub fn close(primary: &[u8], slots: &[usize], distances: &[u32], out: &mut [u8])
         return refuse(RefusalKind::TooManySlots, 1, 0);
     }
     let entry = first_bad_entry(primary, slots, distances);
-    if entry < larger(slots.len(), distances.len()) {
+    let count = slots.len().max(distances.len());
+    if entry < count {
         return refuse(RefusalKind::BadOverflowEntry, 1, entry);
     }
     let slot = first_bad_slot(primary, slots);

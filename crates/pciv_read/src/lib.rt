@@ -4,7 +4,7 @@
 #![tactic(auto)]
 
 ghost use Rattle.std.specs.Prelude.{◌≡◌, ℕ, ◌+◌, ◌≤◌, ◌<◌, min, length, get_or, take, drop, ltb, leb};
-ghost use Rattle.pciv_bytes.specs.Ranges.{first_below};
+ghost use Rattle.std.specs.List.{position};
 ghost use Rattle.pciv_format.specs.Read.{primary_part, behind, primary_place, lookup_outcome};
 ghost use Rattle.pciv_format.specs.Read.{lookup_list_outcome, lookup_list_buffer, lookup_list_entries};
 ghost use Rattle.pciv_format.specs.Read.{scan_outcome, scan_buffer};
@@ -18,28 +18,17 @@ use pciv_map::totals::readings_of;
 use pciv_map_lookup::list::locate_into;
 use pciv_map_lookup::locate;
 
-// The `len` bytes from `start` on, as a part of the file.
-fn part(file: &[u8], start: usize, len: usize) -> &[u8]
-    requires { start + len ≤ length file.now }
-    ensures bytes { result.now ≡ take len (drop start file.now) }
-    ensures place { result.ref_ptr ≡ behind start file.entry.ref_ptr }
-{
-    let end = start + len;
-    &file[start..end]
-}
-
 // The map's own primary bytes, the part of the caller's file from byte 40 on. Refusals: none; where the check refuses
 // the file, the part of length 0 at the file's start.
 pub fn primary(file: &[u8]) -> &[u8]
     ensures part { result.now ≡ primary_part file.now }
     ensures place { result.ref_ptr ≡ primary_place file.now file.entry.ref_ptr }
 {
-    let checked = check_counts(file, 1);
-    match checked {
-        Err(_) => part(file, 0, 0),
-        Ok(s) => {
-            let n = s.n;
-            part(file, HEADER_LEN, n)
+    match check_counts(file, 1) {
+        Err(_) => &file[..0],
+        Ok(counts) => {
+            let end = HEADER_LEN + counts.n;
+            &file[HEADER_LEN..end]
         }
     }
 }
@@ -61,29 +50,11 @@ pub fn lookup(file: &[u8], slot: usize) -> Result<Located, Refusal>
     Ok(locate(file, n, k, slot))
 }
 
-// The least position in the list of a slot that is n or more, or the list's length.
-fn first_outside(slots: &[usize], n: usize) -> usize
-    ensures { result
-        ≡ first_below (λ (i : ℕ). leb n (get_or slots.now i 0)) (length slots.now) }
+// The least position in the list of a slot that is n or more, if there is one.
+fn first_outside(slots: &[usize], n: usize) -> Option<usize>
+    ensures { result ≡ position (λ slot. leb n slot) slots.now }
 {
-    let mut i = 0;
-    while i < slots.len() {
-        if n <= slots[i] {
-            return i;
-        }
-        i += 1;
-    }
-    i
-}
-
-// One of two lists of these lengths holds fewer than `count` items.
-fn either_short(first: usize, second: usize, count: usize) -> bool
-    ensures { result ≡ ltb (min first second) count }
-{
-    if first < count {
-        return true;
-    }
-    second < count
+    slots.iter().position(|slot| n <= *slot)
 }
 
 // The distances at a list of slots, to the front of one list of the caller, and the numbers of their overflow entries, or
@@ -109,9 +80,9 @@ pub fn lookup_list(
     let n = counts.n;
     let k = counts.k;
     let outside = first_outside(slots, n);
-    let short = either_short(distances.len(), entries.len(), slots.len());
-    if outside < slots.len() {
-        let no_slot = refuse(RefusalKind::SlotOutOfRange, 0, outside);
+    let short = distances.len().min(entries.len()) < slots.len();
+    if let Some(place) = outside {
+        let no_slot = refuse(RefusalKind::SlotOutOfRange, 0, place);
         return no_slot;
     }
     if short {

@@ -34,10 +34,8 @@ fn count_overflow(distances: &[u32]) -> usize
     ensures { result ≡ overflow_count (length distances.now) (at distances.now) }
 {
     let mut count: u32 = 0;
-    let mut i = 0;
-    while i < distances.len() {
-        count += overflow_flag(distances[i]);
-        i += 1;
+    for x in distances {
+        count += overflow_flag(*x);
     }
     count as usize
 }
@@ -47,10 +45,8 @@ fn put_primary(out: &mut [u8], distances: &[u32])
     requires { 40 + length distances.now ≤ length out.old }
     ensures { out.new ≡ sets out.old 40 (primary (length distances.now) (at distances.now)) }
 {
-    let mut i = 0;
-    while i < distances.len() {
-        out[HEADER_LEN + i] = primary_byte(distances[i]);
-        i += 1;
+    for (i, x) in distances.iter().enumerate() {
+        out[HEADER_LEN + i] = primary_byte(*x);
     }
 }
 
@@ -65,11 +61,11 @@ fn put_entries(out: &mut [u8], distances: &[u32], k: usize)
 {
     let n = distances.len();
     put_slots(out, n);
-    let mut place = HEADER_LEN + n;
-    let end = place + 12 * k;
-    while place < end {
+    let start = HEADER_LEN + n;
+    for j in 0..k {
+        let place = start + 12 * j;
         let slot = get64(out, place);
-        place = put_entry(out, place, slot, distances[slot]);
+        put_entry(out, place, slot, distances[slot]);
     }
 }
 

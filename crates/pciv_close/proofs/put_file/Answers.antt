@@ -2,7 +2,7 @@
 use Rattle.std.proofs.Common.{◌≡◌, ◌+◌, length, refl, ◌∙◌, arith}
 use Rattle.std.proofs.lemmas.List.Edits.{sets}
 use Rattle.pciv_bytes.specs.LittleEndian.{Bytes}
-use Rattle.pciv_format.specs.Layout.{primary, overflow_count, overflow_part}
+use Rattle.pciv_format.specs.Layout.{primary, overflow_part}
 use Rattle.pciv_format.specs.Parts.{Parts, value_of}
 use Rattle.pciv_format.specs.Write.{close_parts}
 use Rattle.pciv_format.proofs.PartsLaws.{value_of-le}
