@@ -1,12 +1,11 @@
 -- Proves pciv_arith_merge::combine::combine_into: the parts of the file, one after another.
 use Rattle.std.proofs.Common.{ℕ, ◌∙◌, length, refl, arith}
 use Rattle.pciv_format.proofs.RefusalsLaws.{passed_on}
-use Rattle.pciv_check.proofs.SoundPairLaws.{Maps, sound}
 use Rattle.pciv_build.proofs.IntoLaws.{map-fits}
 use Rattle.pciv_build.proofs.ChainLaws.{begin-few, Opened, opened-refused, opened-space, opened-finish}
 use Rattle.pciv_build.proofs.ChainLaws.{opened_map, opened-done}
 use Rattle.pciv_arith_merge.specs.Merge.{result_of, combined_into}
-use Rattle.pciv_arith_merge.proofs.CombineLaws.{combined-fits}
+use Rattle.pciv_arith_merge.proofs.CombineLaws.{checked-sound, combined-fits}
 use Rattle.pciv_arith_merge.proofs.combine.combine_into.Goals as goal
 use Rattle.pciv_arith_merge.proofs.combine.combine_into.Goals.{After-begin}
 
@@ -14,20 +13,12 @@ use Rattle.pciv_arith_merge.proofs.combine.combine_into.Goals.{After-begin}
 abbrev v : After-begin → ℕ → ℕ
 v c = result_of c.args.op c.args.a.now c.args.b.now c.args.n c.args.ka c.args.kb
 
-maps : (c : After-begin) → Maps c.args.a.now c.args.b.now c.args.n c.args.ka c.args.kb
-maps c =
-    record {
-      pair = c.requires;
-      bytes-a = λ i. (c.type_inv.a i).fits;
-      bytes-b = λ i. (c.type_inv.b i).fits;
-    }
-
 opened : (c : After-begin)
     → Opened c.args.n c.count_overflow-k.result (v c)
     (combined_into c.args.op c.args.a.now c.args.b.now c.args.n c.args.ka c.args.kb (length c.args.out.now))
     c.args.out.now c.begin.result c.begin.new.out
 opened c =
-    let fits = combined-fits c.args.op (sound (maps c)) in
+    let fits = combined-fits c.args.op (checked-sound c.requires c.type_inv.a c.type_inv.b) in
     record {
       few = c.requires.first.header.small;
       each = fits;
