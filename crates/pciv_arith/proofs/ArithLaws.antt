@@ -4,7 +4,7 @@
 --   combined-written     else the file of the result is written
 -- Axioms: none.
 use Rattle.std.proofs.Common.{Ok, Err}
-use mathlib.Core.Path.{◌≡◌, sym, ap, ap₂, ◌∙◌}
+use mathlib.Core.Path.{◌≡◌, sym, ap₂, ◌∙◌}
 use Prim.Native.Nat.{ℕ, ◌<◌}
 use mathlib.Core.List.{List}
 use lib.ListN.{length}
@@ -14,7 +14,9 @@ use Rattle.pciv_format.specs.Check.{file_parts}
 use Rattle.pciv_format.specs.Read.{list_of}
 use Rattle.pciv_format.specs.Write.{map_into, file_buffer}
 use Rattle.pciv_format.specs.Arith.{slot_op, combined_at, combine_maps_outcome, combine_maps_buffer}
+use Rattle.pciv_format.specs.Refusals.{Outcome}
 use Rattle.pciv_format.specs.declared.Refusal.{Refusal}
+use Rattle.pciv_format.specs.declared.Summary.{Summary}
 use Rattle.pciv_format.specs.declared.SlotOp.{SlotOp}
 use Rattle.pciv_format.proofs.ReadLaws.{length-list_of, at-list}
 use Rattle.pciv_check.specs.Pair.{pair_counts, CheckedPair}

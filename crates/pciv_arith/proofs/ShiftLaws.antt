@@ -27,7 +27,9 @@ use Rattle.pciv_format.specs.Read.{list_of}
 use Rattle.pciv_format.specs.Write.{map_into, file_buffer}
 use Rattle.pciv_format.specs.Arith.{shifted_by, shift_outcome, shift_buffer}
 use Rattle.pciv_format.specs.declared.Counts.{Counts}
+use Rattle.pciv_format.specs.Refusals.{Outcome}
 use Rattle.pciv_format.specs.declared.Refusal.{Refusal}
+use Rattle.pciv_format.specs.declared.Summary.{Summary}
 use Rattle.pciv_format.proofs.CheckLaws.{done-counts}
 use Rattle.pciv_format.proofs.ReadLaws.{length-list_of, at-list}
 use Rattle.pciv_format.proofs.ZeroLaws.{shift-up, shift-down}

@@ -5,7 +5,7 @@
 -- Axioms: none.
 use Rattle.std.proofs.Common.{Ok, Err}
 use Rattle.pciv_format.specs.declared.RefusalKind.TheVariants.{BufferTooSmall}
-use mathlib.Core.Path.{◌≡◌, sym, ap, ◌∙◌}
+use mathlib.Core.Path.{◌≡◌, sym, ◌∙◌}
 use Prim.Native.Nat.{ℕ, ◌≤◌, ◌<◌}
 use native.Mathlib.Omega.{arith}
 use mathlib.Core.List.{List}

@@ -75,6 +75,5 @@ pub fn combine_into(
     let counts = begin(out, n, k)?;
     put_parts(out, op, a, b, n, ka, kb);
     finish(out, n, k);
-    let result: &[u8] = out;
-    Ok(summary_of(result, counts))
+    Ok(summary_of(out, counts))
 }

@@ -11,6 +11,7 @@ ghost use Rattle.pciv_compare.specs.Figure.{divisor_of, figure_outcome};
 
 use crate::weigh::{Weight, weigh};
 use pciv_check::pair::check_pair;
+use pciv_format::Refusal;
 
 // The first number over the second, or 0.0 where that is 0. Neither conversion loses anything.
 fn divide(p: usize, q: usize) -> f64
