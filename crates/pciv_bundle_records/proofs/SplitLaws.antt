@@ -27,7 +27,6 @@ use Rattle.pciv_bundle_records.specs.Records.{behind_record, record_at, record_l
 use Rattle.pciv_bundle_records.specs.Records.{frame_count, is_frame, frames_before, bad_header, bad_record}
 use Rattle.pciv_bundle_records.specs.Records.{wrong_record, counts_in, records_outcome}
 use Rattle.pciv_bundle_records.specs.Records.{no_place, PlacedFrame, PlacedFrames}
-use Rattle.pciv_bundle_records.specs.declared.BundleCounts.{BundleCounts}
 use Rattle.pciv_bundle_records.specs.declared.Span.{Span}
 use Rattle.pciv_bundle_records.proofs.RecordsLaws.{record_at-next, record_count-end}
 use Rattle.pciv_bundle_records.proofs.RecordsLaws.{frames_to, length-frames_to, frames-all, frames_to-frame, frames_to-other}

@@ -1,9 +1,9 @@
 -- Proves pciv_bundle_records::split_records: the laws of the walk, from record to record.
-use Rattle.std.proofs.Common.{◌≡◌, ◌<◌, ◌≤◌, length, get_or, false, refl, sym, ap, ap₂, ◌∙◌, arith, ltb, ℕ, ◌+◌, Ok}
+use Rattle.std.proofs.Common.{◌≡◌, ◌<◌, ◌≤◌, length, false, refl, sym, ap, ◌∙◌, arith, ltb, ℕ, ◌+◌}
 use borrow.Author.Tests.{ltb-false}
 use Rattle.pciv_bytes.specs.LittleEndian.{get}
 use Rattle.pciv_format.proofs.PartsLaws.{or-false}
-use Rattle.pciv_bundle_records.specs.Records.{counts_in, behind_record, frame_count, bad_header, wrong_record}
+use Rattle.pciv_bundle_records.specs.Records.{behind_record, frame_count, bad_header, wrong_record}
 use Rattle.pciv_bundle_records.proofs.RecordsLaws.{record_at-low, records-header, Later, wrong-right}
 use Rattle.pciv_bundle_records.proofs.SplitLaws.{splitting-start, splitting-header, splitting-refused}
 use Rattle.pciv_bundle_records.proofs.SplitLaws.{splitting-other, splitting-frame, splitting-missing, splitting-done, splitting-placed}
