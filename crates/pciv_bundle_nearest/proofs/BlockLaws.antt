@@ -5,6 +5,7 @@
 --   caps fs i        what the bytes of slot i stand for, in each of the frames fs
 --   bytes-nearest    the pass over the bytes yields the nearest of them
 --   part_length, bytes-turn    the part of a frame that a block takes; the block lowered by it
+--   left_block       past a block, where a list of distances is written block by block
 --   raised-block     a block that every frame has lowered, as distances
 -- Axioms: none.
 use Rattle.std.proofs.Common.{◌≡◌, ℕ, suc, ◌+◌, ◌-◌, ◌%◌, ◌<◌, ◌≤◌, min, cond, eqb, List, [], ◌∷◌, map, length, get_or, take, drop, sym, refl, ap, ◌∙◌, subst, ap₂, zero-add, arith, length-drop, length-take-le, get_or-drop, get_or-take, eq-eqb, ne_eqb}
@@ -12,7 +13,9 @@ use native.Mathlib.Decide.{dec_le}
 use mathlib.Core.List.{foldl}
 use Rattle.pciv_bytes.specs.LittleEndian.{Bytes}
 use Rattle.pciv_bytes.specs.Ranges.{table}
-use Rattle.pciv_bytes.proofs.RangesLaws.{table-shift}
+use Rattle.pciv_bytes.proofs.RangesLaws.{table-shift, table_done}
+use Rattle.pciv_bytes.proofs.WriteLaws.{Left, left-part, left_end}
+use lib.Seq.{sets}
 use Rattle.pciv_format.specs.Layout.{max_distance, at}
 use Rattle.pciv_bundle_nearest.specs.Nearest.{nearer, nearest_of}
 use Rattle.pciv_bundle_nearest.specs.Passes.{less_one, lowered_byte, raised_byte, byte_step, nearest_byte, Changed}
@@ -178,6 +181,20 @@ module _ (b frame : List ℕ) (is : b ≡ frame) {old new : List ℕ} where
       ∙ ap₂ at is (omega arith) in
       changed-cong (subst (λ (l : ℕ). Changed (λ (t m : ℕ). lowered_byte m (at part t)) l old new) long c)
       (λ (t m : ℕ). byte_step (start + t) m frame) (λ t m h. ap (lowered_byte m) (same t h))
+
+-- a block of 4096 slots on, or of as many as there are
+pub left_block : {v : ℕ → ℕ} {n : ℕ} {out₀ out : List ℕ} {start : ℕ} → Left v n out₀ out start → start < n
+    → (len : ℕ) → len ≡ min 4096 (n - start) → (next : List ℕ) → next ≡ sets out start (table v start len)
+    → Left v n out₀ next (start + 4096)
+left_block {v} {n} {out₀} {out} {start} left more len is next e =
+    let on : Left v n out₀ next (start + len) = left-part left len next (omega arith) e in
+    elim (dec_le (n - start) 4096) [
+      | yes d ↦ record {
+          same = on.same;
+          rest = sym (ap (sets next (start + 4096)) (table_done v n (start + 4096) (omega arith)) ∙ left_end on (omega arith));
+        }
+      | no d ↦ (let full : len ≡ 4096 = omega arith in subst (λ (z : ℕ). Left v n out₀ next (start + z)) full on)
+    ]
 
 -- a block that every frame has lowered, as distances
 pub raised-block : (fs : List (List ℕ)) (start len : ℕ) {old new : List ℕ}
