@@ -15,6 +15,7 @@ use pciv_format::{HEADER_LEN, INLINE_MAX, MAX_DISTANCE};
 const BLOCK: usize = 4096;
 
 // The smaller of a byte and another one less 1.
+#[tactic(auto, unfolding(crate::specs::Passes::lowered_byte))]
 fn lowered(least: u8, byte: u8) -> u8
     ensures { result ≡ lowered_byte least byte }
 {
@@ -23,6 +24,7 @@ fn lowered(least: u8, byte: u8) -> u8
 }
 
 // The distance of a byte that was taken less 1. 254 was byte 255, whose distance is in overflow: it becomes the largest one.
+#[tactic(auto, unfolding(crate::specs::Passes::raised_byte))]
 fn raised(least: u8) -> u32
     ensures { result ≡ raised_byte least }
 {
