@@ -24,13 +24,12 @@ use borrow.Author.Tests.{lt-ltb, ltb-false}
 use Rattle.pciv_bytes.specs.Ranges.{first_below}
 use Rattle.pciv_bytes.proofs.RangesLaws.{first_below-none, first_below-le, first_below-all, first_below-more}
 use Rattle.pciv_format.specs.Layout.{file_len, counts_of}
-use Rattle.pciv_format.specs.Refusals.{refuse, refuse_if, and_then}
+use Rattle.pciv_format.specs.Refusals.{Outcome, refuse, refuse_if, and_then}
 use Rattle.pciv_format.specs.Check.{n_field, k_field, counts_file, check_header, check_with, other_length, CheckedMap}
 use Rattle.pciv_format.specs.declared.Counts.{Counts}
 use Rattle.pciv_format.specs.declared.Refusal.{Refusal}
 use Rattle.pciv_format.proofs.PartsLaws.{not_eqb}
 use Rattle.pciv_format.proofs.RefusalsLaws.{refuse_if-done, and_then-done, and_then-refused}
-use Rattle.pciv_format.proofs.RefusalsLaws.{number_answer-number, number_answer-refused}
 use Rattle.pciv_format.proofs.LayoutLaws.{file_len-is, index_len-le, index_step-le}
 use Rattle.pciv_format.proofs.CheckLaws.{Accepted, done-counts_file, accepted-length}
 use Rattle.pciv_bundle_frames.specs.Frames.{sound_frames, other_slots, first_other, frames_outcome}
@@ -69,26 +68,17 @@ module _ {n : ℕ} {fs : List (List ℕ)} {f other : ℕ} (e : Passed n fs f oth
     unfolding sound_frames
     step = e.rest ∙ rw (drop-cons fs f [], add-one (f + 1), add-one f)
 
-    -- frame f, whose bytes are b, and what the code is told of it
-    module _ (b : List ℕ) (is : b ≡ get_or fs f []) (answer : Outcome ℕ)
-        (told : answer ≡ (next_frame n f other b)) where
-      found : answer ≡ (next_frame n f other (get_or fs f []))
-      found = told ∙ ap (λ (x : List ℕ). (next_frame n f other x)) is
+    -- what the check of frame f says
+    pub passed-refused : (r : Refusal) → next_frame n f other (get_or fs f []) ≡ Err r → frames_outcome n fs ≡ Err r
+    unfolding frames_outcome
+    passed-refused r q =
+        rw (step, and_then-refused (counts_file (f + 1) (get_or fs f [])) (λ s. next_other n f other s.n) r q)
 
-      pub passed-refused : (r : Refusal) → answer ≡ Err r
-          → Err r ≡ (frames_outcome n fs)
-      unfolding frames_outcome
-      passed-refused r q =
-          let refuses = number_answer-refused (next_frame n f other (get_or fs f [])) r (sym q ∙ found) in
-          rw (step, and_then-refused (counts_file (f + 1) (get_or fs f [])) (λ s. next_other n f other s.n) r refuses)
-
-      pub passed-more : (least : ℕ) → answer ≡ Ok least → Passed n fs (f + 1) least
-      passed-more least q =
-          let passes = number_answer-number (next_frame n f other (get_or fs f [])) least (sym q ∙ found) in
-          let h =
-          and_then-done (counts_file (f + 1) (get_or fs f [])) (λ s. Ok (next_other n f other s.n)) least passes in
-          let next : next_other n f other h.0.n ≡ least = cc h.2 in
-          record { inside = omega arith; rest = step ∙ rw h.1; least = sym next ∙ next-least h.0 h.1 }
+    pub passed-more : (least : ℕ) → next_frame n f other (get_or fs f []) ≡ Ok least → Passed n fs (f + 1) least
+    passed-more least q =
+        let h = and_then-done (counts_file (f + 1) (get_or fs f [])) (λ s. Ok (next_other n f other s.n)) least q in
+        let next : next_other n f other h.0.n ≡ least = cc h.2 in
+        record { inside = omega arith; rest = step ∙ rw h.1; least = sym next ∙ next-least h.0 h.1 }
 
   pub frames-end : (count : ℕ) → length fs ≡ count → count ≤ f
       → frames_outcome n fs ≡ refuse_if (ltb other count) (refuse SizeMismatch 0 (other + 1)) (Ok n)
@@ -114,7 +104,7 @@ sound-each (b ∷ fs) f m e (suc j) h =
     (r.0, rw same r.1)
 
 module _ (n : ℕ) (fs : List (List ℕ)) (m : ℕ) (e : frames_outcome n fs ≡ Ok m) where
-  passed : (s : ℕ) × (sound_frames 1 fs ≡ Ok s) × (ltb (first_other n fs) (length fs) ≡ false) × (Ok n ≡ Ok m)
+  passed : (s : ℕ) × (sound_frames 1 fs ≡ Ok s) × (ltb (first_other n fs) (length fs) ≡ false) × (◌≡◌ {A = Outcome ℕ} (Ok n) (Ok m))
   unfolding frames_outcome
   passed =
       let d = and_then-done (sound_frames 1 fs) _ m e in

@@ -4,12 +4,13 @@
 --   used-length          they are `count`, where the array has eight
 --   used-at              one of them, from the array's element
 -- Axioms: none.
-use mathlib.Core.Path.{◌≡◌, sym, ◌∙◌}
-use Prim.Native.Nat.{ℕ, ◌≤◌, ◌<◌}
+use mathlib.Core.Path.{◌≡◌, sym, ap, ◌∙◌}
+use Prim.Native.Nat.{ℕ, ◌≤◌}
 use native.Mathlib.Omega.{arith}
 use mathlib.Core.List.{List, [], map}
 use lib.ListN.{length, get_or, take, length-map, get_or-map}
-use lib.Seq.{length-take-le, get_or-take}
+use lib.Seq.{length-take-le}
+use Rattle.std.proofs.lemmas.List.{take-map}
 use Rattle.std.specs.Borrow.{Bor}
 
 abbrev pub no_frame : Bor (List ℕ)
@@ -24,7 +25,7 @@ module _ (frames : List (Bor (List ℕ))) (count : ℕ) where
       length-take-le count (map (λ (x : Bor (List ℕ)). x.now) frames)
       (omega (arith, length-map frames (λ (x : Bor (List ℕ)). x.now)))
 
-  pub used-at : (f : ℕ) → f < count → (get_or frames f no_frame).now ≡ get_or (used frames count) f []
-  used-at f h =
-      sym (get_or-map (λ (x : Bor (List ℕ)). x.now) frames f no_frame)
-      ∙ sym (get_or-take count (map (λ (x : Bor (List ℕ)). x.now) frames) f [] h)
+  pub used-at : (f : ℕ) → (get_or (take count frames) f no_frame).now ≡ get_or (used frames count) f []
+  used-at f =
+      sym (get_or-map (λ (x : Bor (List ℕ)). x.now) (take count frames) f no_frame)
+      ∙ ap (λ (fs : List (List ℕ)). get_or fs f []) (sym (take-map (λ (x : Bor (List ℕ)). x.now) count frames))

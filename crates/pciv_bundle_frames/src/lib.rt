@@ -8,7 +8,7 @@ ghost use Rattle.pciv_bundle_records.specs.Records.{frames, PlacedFrames};
 ghost use Rattle.pciv_bundle_frames.specs.Frames.{frames_outcome, next_other, next_frame, CheckedFrames, row_of};
 ghost use Rattle.pciv_format.specs.declared.RefusalKind.TheVariants.{SizeMismatch};
 
-use pciv_bundle_records::{Places, frame_at};
+use pciv_bundle_records::{MAX_FRAMES, Span, frame_at};
 use pciv_bytes::little_endian::get64;
 use pciv_check::check_counts;
 use pciv_format::{Refusal, RefusalKind};
@@ -21,13 +21,7 @@ fn next_other(other: usize, f: usize, have: usize, n: usize) -> usize
     requires { f < 8 }
     ensures { result ≡ next_other n f other have }
 {
-    if other != f {
-        return other;
-    }
-    if have != n {
-        return other;
-    }
-    f + 1
+    if other == f && have == n { f + 1 } else { other }
 }
 
 // The check of frame f, then the least of the frames up to it that has not n slots, or f + 1, where `other` is that of
@@ -52,12 +46,12 @@ fn same_slots(other: usize, count: usize, n: usize) -> Result<usize, Refusal>
 }
 
 // The check of a bundle's frames, of which each has to have n slots. Refusals: 1 to 8, then 10.
-pub fn check_frames(bundle: &[u8], places: Places, count: usize, n: usize) -> Result<usize, Refusal>
+pub fn check_frames(bundle: &[u8], places: [Span; MAX_FRAMES], count: usize, n: usize) -> Result<usize, Refusal>
     requires count_bound { (count ≤ 8) × (count ≡ length (frames bundle.now)) }
     requires placed_frames { PlacedFrames bundle.now places }
     ensures { result ≡ frames_outcome n (frames bundle.now) }
 {
-    let mut other: usize = 0;
+    let mut other = 0;
     for f in 0..count {
         other = check_next(frame_at(bundle, places, f), f, other, n)?;
     }
@@ -65,31 +59,27 @@ pub fn check_frames(bundle: &[u8], places: Places, count: usize, n: usize) -> Re
 }
 
 // The same of the first `count` of eight frames that a caller lends.
-pub fn check_lent(frames: &[&[u8]; 8], count: usize, n: usize) -> Result<usize, Refusal>
+pub fn check_lent(frames: &[&[u8]; MAX_FRAMES], count: usize, n: usize) -> Result<usize, Refusal>
     requires { count ≤ 8 }
     ensures { result ≡ frames_outcome n (take count (map (λ x. x.now) frames.now)) }
 {
-    let mut other: usize = 0;
-    for passed in 0..count {
-        other = check_next(frames[passed], passed, other, n)?;
+    let mut other = 0;
+    for (f, frame) in frames[..count].iter().enumerate() {
+        other = check_next(frame, f, other, n)?;
     }
     same_slots(other, count, n)
 }
 
 // The distance at a slot in each frame of a bundle, 0 where there is no frame.
-pub fn row_of(bundle: &[u8], places: Places, count: usize, n: usize, slot: usize) -> [u32; 8]
+pub fn row_of(bundle: &[u8], places: [Span; MAX_FRAMES], count: usize, n: usize, slot: usize) -> [u32; MAX_FRAMES]
     requires count_bound { (count ≤ 8) × (count ≡ length (frames bundle.now)) × (slot < n) }
     requires placed_frames { PlacedFrames bundle.now places × CheckedFrames (frames bundle.now) n }
     ensures { result ≡ row_of (frames bundle.now) slot }
 {
-    let mut row: [u32; 8] = [0; 8];
-    let mut f: usize = 0;
-    while f < count {
+    let mut row = [0; MAX_FRAMES];
+    for (f, distance) in row[..count].iter_mut().enumerate() {
         let frame = frame_at(bundle, places, f);
-        let k = get64(frame, 16);
-        let found = locate(frame, n, k, slot);
-        row[f] = found.distance;
-        f += 1;
+        *distance = locate(frame, n, get64(frame, 16), slot).distance;
     }
     row
 }

@@ -33,28 +33,27 @@ pub struct BundleCounts {
     pub frames: usize,
 }
 
-// Where each frame starts, and where it ends.
+// Where a frame stands in a bundle: from `start` up to `end`.
 #[derive(Clone, Copy)]
-pub struct Places {
-    pub starts: [usize; 8],
-    pub ends: [usize; 8],
+pub struct Span {
+    pub start: usize,
+    pub end: usize,
 }
 
 // What the walk over the records of a bundle finds: its counts and the places of its frames.
 #[derive(Clone, Copy)]
 pub struct Split {
     pub counts: BundleCounts,
-    pub places: Places,
+    pub places: [Span; MAX_FRAMES],
 }
 
 // The frame with this number, here from 0, as a part of the bundle.
-pub fn frame_at(bundle: &[u8], places: Places, f: usize) -> &[u8]
+pub fn frame_at(bundle: &[u8], places: [Span; MAX_FRAMES], f: usize) -> &[u8]
     requires { (f < 8) × PlacedFrame bundle.now places (frames bundle.now) f }
     ensures { result.now ≡ get_or (frames bundle.now) f [] }
 {
-    let start = places.starts[f];
-    let end = places.ends[f];
-    &bundle[start..end]
+    let place = places[f];
+    &bundle[place.start..place.end]
 }
 
 // Whether record 0 is at fault or missing. A right one has 12 bytes, kind 0, length 8 and a frame count from 1 to 8.
@@ -67,16 +66,7 @@ fn bad_header(bundle: &[u8]) -> bool
     let len = get32(bundle, 0) as usize;
     let kind = get16(bundle, 4);
     let count = get16(bundle, 10);
-    if kind != HEADER_KIND {
-        return true;
-    }
-    if len != HEADER_RECORD_LEN - 4 {
-        return true;
-    }
-    if count < 1 {
-        return true;
-    }
-    MAX_FRAMES < count
+    kind != HEADER_KIND || len != HEADER_RECORD_LEN - 4 || count < 1 || MAX_FRAMES < count
 }
 
 // Whether the record that starts at `at`, behind record 0 and `found` of `count` frames, is at fault.
@@ -90,20 +80,8 @@ fn wrong_record(bundle: &[u8], at: usize, found: usize, count: usize) -> bool
     }
     let len = get32(bundle, at) as usize;
     let kind = get16(bundle, at + 4);
-    if left - 4 < len {
-        return true;
-    }
-    if len < KIND_LEN {
-        return true;
-    }
     let is_header = kind == HEADER_KIND;
-    if is_header {
-        return true;
-    }
-    if kind != FRAME_KIND {
-        return false;
-    }
-    count <= found
+    left - 4 < len || len < KIND_LEN || is_header || (kind == FRAME_KIND && count <= found)
 }
 
 // The counts of a bundle and the places of its frames, which are not checked yet, or why it is none. Refusals: 14, with
@@ -116,24 +94,24 @@ pub fn split_records(bundle: &[u8]) -> Result<Split, Refusal>
     }
     let slots = get32(bundle, 6) as usize;
     let count = get16(bundle, 10);
-    let mut starts: [usize; 8] = [0; 8];
-    let mut ends: [usize; 8] = [0; 8];
-    let mut found: usize = 0;
-    let mut number: usize = 1;
-    let mut at: usize = HEADER_RECORD_LEN;
+    let mut places = [Span { start: 0, end: 0 }; MAX_FRAMES];
+    let mut found = 0;
+    let mut number = 1;
+    let mut at = HEADER_RECORD_LEN;
     while at < bundle.len() {
-        let this = number;
-        let start = at;
-        number += 1;
-        if wrong_record(bundle, start, found, count) {
-            return refuse(RefusalKind::BadBundle, 0, this);
+        if wrong_record(bundle, at, found, count) {
+            return refuse(RefusalKind::BadBundle, 0, number);
         }
-        at = start + 4 + get32(bundle, start) as usize;
-        if get16(bundle, start + 4) == FRAME_KIND {
-            starts[found] = start + PREFIX_LEN;
-            ends[found] = at;
+        let end = at + 4 + get32(bundle, at) as usize;
+        if get16(bundle, at + 4) == FRAME_KIND {
+            places[found] = Span {
+                start: at + PREFIX_LEN,
+                end,
+            };
             found += 1;
         }
+        number += 1;
+        at = end;
     }
     if found < count {
         return refuse(RefusalKind::BadBundle, 0, number);
@@ -143,6 +121,6 @@ pub fn split_records(bundle: &[u8]) -> Result<Split, Refusal>
             slots,
             frames: count,
         },
-        places: Places { starts, ends },
+        places,
     })
 }
