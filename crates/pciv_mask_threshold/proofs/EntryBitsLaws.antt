@@ -51,10 +51,6 @@ passes-flip limit negated x =
       | no d ↦ rw (lt-ltb x limit (omega arith), lt-leb limit x (omega arith)) (flip-true negated)
     ]
 
-pub asked-high : (a : Asked) → bytes_tell a ≡ false → 255 ≤ limit_asked a
-asked-high (Limit limit negated) e = ltb-false limit 255 e
-asked-high (Near t) e = omega (arith, ltb-false t 255 e)
-
 -- for t from 255 on: an inline distance, and one in overflow, whose byte is 255
 near-inline : (t x : ℕ) → x < 255 → 255 ≤ t → flip_if (leb (t + 1) x) (passes 1 true x) ≡ is_near t x
 near-inline t x small high =
@@ -156,10 +152,10 @@ module _ (P : Parts) (s : SoundParts P) (bytes : (i : ℕ) → P.byte i < 256)
       (mask_of-cong P.n (flip_at (settled P limit p j) (P.slot j) (leb limit (P.distance j)))
       (settled P limit p (suc j)) (λ i h. entry-settled j i here h))
 
-  pub settled-end : mask_of P.n (settled P limit p P.k) ≡ mask_of P.n (flipped_from P limit p)
-  settled-end =
-      mask_of-cong P.n (settled P limit p P.k) (flipped_from P limit p)
-      (λ i h. up_to P.k i (omega arith) (λ more. absurd (omega arith)) h)
+  pub settled-end : (j : ℕ) → j ≡ P.k → mask_of P.n (settled P limit p j) ≡ mask_of P.n (flipped_from P limit p)
+  settled-end j all =
+      mask_of-cong P.n (settled P limit p j) (flipped_from P limit p)
+      (λ i h. up_to j i (omega arith) (λ more. absurd (omega arith)) h)
 
 -- ---- at the front of a list
 
