@@ -1,20 +1,20 @@
 -- What the mask routines answer and write, case by case.
 --   masks-many, -bad, -good    too many slots, a mask at fault, or what follows
---   mask-short, _done          a mask into a list of too few words, or enough
 --   combine-is, complement-is  the outcome by the test of the masks that the code makes
 --   combine-refused, complement-refused          a refused call changes no word
 --   combine-fits, -written, complement-fits, -written    where it is done the words fit, and are those that are written
 --   set_bits-many, -bad, -done  the number of set bits
 -- Axioms: none.
-use Rattle.std.proofs.Common.{Ok, Err}
-use Rattle.pciv_format.specs.declared.RefusalKind.TheVariants.{TooManySlots, BufferTooSmall, BadMask}
-use mathlib.Core.Path.{◌≡◌, refl, sym, ap, ◌∙◌}
+use Rattle.std.proofs.Common.{Ok, Err, arith}
+use Rattle.pciv_format.specs.declared.RefusalKind.TheVariants.{TooManySlots, BadMask}
+use mathlib.Core.Path.{◌≡◌, sym, ap, ◌∙◌}
 use Prim.Native.Nat.{ℕ, ◌*◌, ◌≤◌, ◌<◌}
 use mathlib.Core.Bool.{Bool, true, false, not, ◌&&◌, ◌||◌}
 use mathlib.Core.List.{List}
 use lib.ListN.{length}
 use lib.Seq.{sets}
 use lib.Dec.{ltb}
+use Rattle.std.proofs.lemmas.Bool.Decides.{nat_tests}
 use borrow.Author.Tests.{lt-ltb, le-ltb, ltb-false}
 use Rattle.pciv_bytes.specs.Ranges.{flag, table, sum_from}
 use Rattle.pciv_bytes.proofs.WriteLaws.{sets-front}
@@ -46,13 +46,6 @@ module _ {A : Type 0} (n : ℕ) (bad : Bool) (o : Outcome A) where
 
 -- ---- a mask into a list of words
 
-module _ (n : ℕ) (bad : Bool) (capacity : ℕ) (few : n ≤ max_slots) (good : bad ≡ false) where
-  pub mask-short : capacity < mask_len n → refuse_masks n bad (items_into (mask_len n) capacity) ≡ refuse BufferTooSmall 0 0
-  mask-short short = masks-good n bad (items_into (mask_len n) capacity) few good ∙ rw (lt-ltb capacity (mask_len n) short)
-
-  pub mask_done : mask_len n ≤ capacity → refuse_masks n bad (items_into (mask_len n) capacity) ≡ Ok (mask_len n)
-  mask_done fits = masks-good n bad (items_into (mask_len n) capacity) few good ∙ rw (le-ltb capacity (mask_len n) fits)
-
 module _ (n : ℕ) (bad : Bool) (out : List ℕ) (x : ℕ)
     (e : refuse_masks n bad (items_into (mask_len n) (length out)) ≡ Ok x) where
   after-slots : (ltb max_slots n ≡ false) × (refuse_if bad (refuse BadMask 0 0) (items_into (mask_len n) (length out)) ≡ Ok x)
@@ -71,15 +64,10 @@ module _ (n : ℕ) (bad : Bool) (out : List ℕ) (x : ℕ)
       → sets out 0 f ≡ written (refuse_masks n bad (items_into (mask_len n) (length out))) f out
   mask-written f full = rw e (sets-front f out (rw full mask_fits))
 
-not-not : (a : Bool) → not (not a) ≡ a
-not-not true = refl
-not-not false = refl
-
 -- ---- and, or, exclusive or
 
 or-not : (a b : Bool) → a || b ≡ not (not a && not b)
-or-not true b = refl
-or-not false b = sym (not-not b)
+or-not a b = grind (arith, nat_tests)
 
 module _ (op : MaskOp) (n : ℕ) (xs ys out : List ℕ) where
   pub combine-is : combine_outcome op n xs ys (length out)
@@ -126,7 +114,7 @@ module _ (n : ℕ) (ws out : List ℕ) where
       ≡ refuse_masks n (not (not (bad_mask n ws))) (items_into (mask_len n) (length out))
   unfolding complement_outcome
   complement-is =
-      ap (λ (bad : Bool). refuse_masks n bad (items_into (mask_len n) (length out))) (sym (not-not (bad_mask n ws)))
+      ap (λ (bad : Bool). refuse_masks n bad (items_into (mask_len n) (length out))) (grind (arith, nat_tests))
 
   pub complement-refused : (r : Refusal) → complement_outcome n ws (length out) ≡ Err r
       → complement_words n ws out ≡ out
