@@ -1,25 +1,24 @@
 -- What the mask routines answer and write, case by case.
---   masks-many, -bad, -good    too many slots, a mask at fault, or what follows
 --   combine-is, complement-is  the outcome by the test of the masks that the code makes
 --   combine-refused, complement-refused          a refused call changes no word
 --   combine-fits, -written, complement-fits, -written    where it is done the words fit, and are those that are written
---   set_bits-many, -bad, -done  the number of set bits
+--   set_bits-done              the number of set bits
 -- Axioms: none.
 use Rattle.std.proofs.Common.{Ok, Err, arith}
-use Rattle.pciv_format.specs.declared.RefusalKind.TheVariants.{TooManySlots, BadMask}
+use Rattle.pciv_format.specs.declared.RefusalKind.TheVariants.{BadMask}
 use mathlib.Core.Path.{◌≡◌, sym, ap, ◌∙◌}
-use Prim.Native.Nat.{ℕ, ◌*◌, ◌≤◌, ◌<◌}
-use mathlib.Core.Bool.{Bool, true, false, not, ◌&&◌, ◌||◌}
+use Prim.Native.Nat.{ℕ, ◌*◌, ◌≤◌}
+use mathlib.Core.Bool.{Bool, false, not, ◌&&◌, ◌||◌}
 use mathlib.Core.List.{List}
 use lib.ListN.{length}
 use lib.Seq.{sets}
 use lib.Dec.{ltb}
 use Rattle.std.proofs.lemmas.Bool.Decides.{nat_tests}
-use borrow.Author.Tests.{lt-ltb, le-ltb, ltb-false}
+use borrow.Author.Tests.{le-ltb, ltb-false}
 use Rattle.pciv_bytes.specs.Ranges.{flag, table, sum_from}
 use Rattle.pciv_bytes.proofs.WriteLaws.{sets-front}
 use Rattle.pciv_format.specs.Layout.{max_slots}
-use Rattle.pciv_format.specs.Refusals.{Outcome, refuse, refuse_if, written}
+use Rattle.pciv_format.specs.Refusals.{refuse, refuse_if, written}
 use Rattle.pciv_format.specs.Read.{items_into}
 use Rattle.pciv_format.specs.Mask.{mask_len, mask_has, mask_of, bad_mask, combined, refuse_masks, combine_outcome}
 use Rattle.pciv_format.specs.Mask.{combine_words, complement_outcome, complement_words, set_bits}
@@ -31,18 +30,6 @@ use Rattle.pciv_format.specs.Words.{Words, IsMask}
 use Rattle.pciv_format.proofs.MaskLaws.{or-false, bad_mask-good, good-bad_mask, length-mask_of, set_bits-sum}
 use Rattle.pciv_mask_logic.specs.Logic.{op_at, flip_at}
 use Rattle.pciv_mask_logic.proofs.LogicLaws.{combined-words, flipped-words}
-
--- ---- too many slots, then a mask at fault, then what follows
-
-module _ {A : Type 0} (n : ℕ) (bad : Bool) (o : Outcome A) where
-  pub masks-many : max_slots < n → refuse_masks n bad o ≡ refuse TooManySlots 1 0
-  masks-many many = rw (lt-ltb max_slots n many)
-
-  pub masks-bad : n ≤ max_slots → bad ≡ true → refuse_masks n bad o ≡ refuse BadMask 0 0
-  masks-bad few is-bad = rw (le-ltb max_slots n few, is-bad)
-
-  pub masks-good : n ≤ max_slots → bad ≡ false → refuse_masks n bad o ≡ o
-  masks-good few good = rw (le-ltb max_slots n few, good)
 
 -- ---- a mask into a list of words
 
@@ -139,18 +126,8 @@ module _ (n : ℕ) (ws out : List ℕ) where
 -- ---- set bits
 
 module _ (n : ℕ) (ws : List ℕ) where
-  pub set_bits-many : max_slots < n → set_bits_outcome n ws ≡ refuse TooManySlots 1 0
-  unfolding set_bits_outcome
-  set_bits-many many = masks-many n (bad_mask n ws) (Ok (set_bits n ws)) many
-
-  module _ (few : n ≤ max_slots) where
-    pub set_bits-bad : bad_mask n ws ≡ true → set_bits_outcome n ws ≡ refuse BadMask 0 0
-    unfolding set_bits_outcome
-    set_bits-bad bad = masks-bad n (bad_mask n ws) (Ok (set_bits n ws)) few bad
-
-    pub set_bits-done : IsMask n ws
-        → set_bits_outcome n ws ≡ Ok (sum_from (λ (i : ℕ). flag (mask_has ws i)) 0 (64 * length ws))
-    unfolding set_bits_outcome set_bits
-    set_bits-done mask =
-        masks-good n (bad_mask n ws) (Ok (set_bits n ws)) few (good-bad_mask n ws mask)
-        ∙ ap Ok (sym (set_bits-sum n ws mask))
+  pub set_bits-done : n ≤ max_slots → IsMask n ws
+      → set_bits_outcome n ws ≡ Ok (sum_from (λ (i : ℕ). flag (mask_has ws i)) 0 (64 * length ws))
+  unfolding set_bits_outcome set_bits
+  set_bits-done few mask =
+      rw (le-ltb max_slots n few, good-bad_mask n ws mask) (ap Ok (sym (set_bits-sum n ws mask)))

@@ -1,9 +1,10 @@
 -- Proves pciv_mask_logic::set_bits: too many slots, no mask of n slots, or all bits counted.
-use Rattle.std.proofs.Common.{sym, ap, ◌∙◌, Ok, arith}
-use borrow.Author.Tests.{not-true, not-false}
+use Rattle.std.proofs.Common.{rules, sym, ap, ◌∙◌, Ok, arith}
+use borrow.Author.Tests.{not-true}
+use Rattle.pciv_format.specs.Mask.{set_bits_outcome}
 use Rattle.pciv_format.specs.Words.{IsMask}
 use Rattle.pciv_format.proofs.MaskLaws.{bad_mask-good}
-use Rattle.pciv_mask_logic.proofs.LogicOutcomeLaws.{set_bits-many, set_bits-bad, set_bits-done}
+use Rattle.pciv_mask_logic.proofs.LogicOutcomeLaws.{set_bits-done}
 use Rattle.pciv_mask_logic.proofs.set_bits.Goals as goal
 use Rattle.pciv_mask_logic.proofs.set_bits.Goals.{Else-not-is_mask}
 
@@ -12,14 +13,12 @@ is-good : (c : Else-not-is_mask) → IsMask c.args.n c.args.words.now
 is-good c = bad_mask-good _ _ (not-true _ (sym c.is_mask.ensures ∙ c.if-not-is_mask.false))
 
 pub returns-then-n-gt-MAX_SLOTS : goal.returns-then-n-gt-MAX_SLOTS
-returns-then-n-gt-MAX_SLOTS c = record { answer = c.refuse.ensures ∙ sym (set_bits-many _ _ c.if-n-gt-MAX_SLOTS.true) }
+unfolding set_bits_outcome
+returns-then-n-gt-MAX_SLOTS c = search rules
 
 pub returns-then-not-is_mask : goal.returns-then-not-is_mask
-returns-then-not-is_mask c =
-    record {
-      answer = c.refuse-then-not-is_mask.ensures
-      ∙ sym (set_bits-bad _ _ c.if-n-gt-MAX_SLOTS.false (not-false _ (sym c.is_mask.ensures ∙ c.if-not-is_mask.true)));
-    }
+unfolding set_bits_outcome
+returns-then-not-is_mask c = search rules
 
 pub count_bits-requires : goal.count_bits-requires
 count_bits-requires c = omega (arith, (is-good (goal.at.count_bits-requires c).Else-not-is_mask).count)
