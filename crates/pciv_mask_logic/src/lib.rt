@@ -51,10 +51,8 @@ fn zip_words(op: MaskOp, a: &[u64], b: &[u64], out: &mut [u64])
     requires { (length a.now ≡ length b.now) × (length a.now ≤ length out.old) }
     ensures { out.new ≡ sets out.old 0 (table (op_at op a.now b.now) 0 (length a.now)) }
 {
-    let mut i = 0;
-    while i < a.len() {
+    for i in 0..a.len() {
         out[i] = bit_op(op, a[i], b[i]);
-        i += 1;
     }
 }
 
@@ -63,14 +61,9 @@ fn combine(op: MaskOp, n: usize, a: &[u64], b: &[u64], out: &mut [u64]) -> Resul
     ensures answer { result ≡ combine_outcome op n a.now b.now (length out.old) }
     ensures words { out.new ≡ combine_words op n a.now b.now out.old }
 {
-    let answer = mask_into(n, is_mask(n, a) & is_mask(n, b), out.len());
-    match answer {
-        Err(_) => answer,
-        Ok(_) => {
-            zip_words(op, a, b, out);
-            answer
-        }
-    }
+    let count = mask_into(n, is_mask(n, a) & is_mask(n, b), out.len())?;
+    zip_words(op, a, b, out);
+    Ok(count)
 }
 
 // The slots that are set in both masks.
@@ -104,13 +97,11 @@ fn flip_words(n: usize, words: &[u64], out: &mut [u64])
     ensures { out.new ≡ sets out.old 0 (table (flip_at n words.now) 0 (mask_len n)) }
 {
     let full = n / 64;
-    let mut i = 0;
-    while i < full {
+    for i in 0..full {
         out[i] = words[i] ^ ALL_BITS;
-        i += 1;
     }
-    if i < words.len() {
-        out[i] = words[i] ^ ((1 << (n % 64)) - 1);
+    if full < words.len() {
+        out[full] = words[full] ^ ((1 << (n % 64)) - 1);
     }
 }
 
@@ -119,14 +110,9 @@ pub fn complement(n: usize, words: &[u64], out: &mut [u64]) -> Result<usize, Ref
     ensures answer { result ≡ complement_outcome n words.now (length out.old) }
     ensures words { out.new ≡ complement_words n words.now out.old }
 {
-    let answer = mask_into(n, is_mask(n, words), out.len());
-    match answer {
-        Err(_) => answer,
-        Ok(_) => {
-            flip_words(n, words, out);
-            answer
-        }
-    }
+    let count = mask_into(n, is_mask(n, words), out.len())?;
+    flip_words(n, words, out);
+    Ok(count)
 }
 
 // The number of set bits. Refusals: 3 with map 1, then 13.
