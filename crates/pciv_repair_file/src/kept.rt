@@ -35,12 +35,10 @@ pub fn count_kept(file: &[u8], n: usize, k: usize) -> usize
 {
     let mut kept: usize = 0;
     let mut lowest: usize = 0;
-    let mut j: usize = 0;
-    while j < k {
+    for j in 0..k {
         let next = lowest_after(file, n, lowest, j);
         kept += (lowest < next) as usize;
         lowest = next;
-        j += 1;
     }
     kept
 }
@@ -62,15 +60,13 @@ fn put_some(file: &[u8], n: usize, k: usize, out: &mut [u8])
 {
     let mut place = HEADER_LEN + n;
     let mut lowest: usize = 0;
-    let mut j: usize = 0;
-    while j < k {
-        let free = lowest;
-        let distance = get32(file, HEADER_LEN + n + 12 * j + 8);
-        lowest = lowest_after(file, n, free, j);
-        j += 1;
-        if free < lowest {
-            place = put_entry(out, place, lowest - 1, distance);
+    for j in 0..k {
+        let next = lowest_after(file, n, lowest, j);
+        if lowest < next {
+            let distance = get32(file, HEADER_LEN + n + 12 * j + 8);
+            place = put_entry(out, place, next - 1, distance);
         }
+        lowest = next;
     }
 }
 

@@ -34,14 +34,12 @@ fn put_lowered(file: &[u8], n: usize, k: usize, out: &mut [u8])
         HEADER_LEN,
     );
     let mut lowest: usize = 0;
-    let mut j: usize = 0;
-    while j < k {
-        let free = lowest;
-        lowest = lowest_after(file, n, free, j);
-        j += 1;
-        if free < lowest {
-            out[HEADER_LEN + (lowest - 1)] = SENTINEL;
+    for j in 0..k {
+        let next = lowest_after(file, n, lowest, j);
+        if lowest < next {
+            out[HEADER_LEN + (next - 1)] = SENTINEL;
         }
+        lowest = next;
     }
 }
 
