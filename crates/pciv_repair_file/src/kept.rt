@@ -6,7 +6,6 @@ ghost use Rattle.pciv_format.specs.Check.{file_parts};
 ghost use Rattle.pciv_repair_file.specs.Repaired.{lowest_after, kept_entries, full_count, kept_bytes, PartsGiven};
 
 use pciv_build::put_entry;
-use pciv_bytes::copies::copy_bytes;
 use pciv_bytes::little_endian::{get32, get64};
 use pciv_format::{HEADER_LEN, SENTINEL};
 use pciv_layout::entries::wrong_entry;
@@ -78,9 +77,10 @@ pub fn put_kept(file: &[u8], n: usize, k: usize, kept: usize, out: &mut [u8])
     ensures { out.new
         ≡ sets out.old (40 + n) (kept_bytes (file_parts file.now n k)) }
 {
-    let start = HEADER_LEN + n;
     if kept == k {
-        copy_bytes(&file[start..start + 12 * k], out, start);
+        let start = HEADER_LEN + n;
+        let end = start + 12 * k;
+        out[start..end].copy_from_slice(&file[start..end]);
     } else {
         put_some(file, n, k, out);
     }

@@ -10,5 +10,5 @@ use Rattle.pciv_repair_file.proofs.put_lowered.Given as goal
 abbrev pub invariant-loop-j : goal.invariant-loop-j
 invariant-loop-j l = record {
   judged : Judged (file_parts l.file l.n l.k) l.j l.lowest;
-  put : l.out ≡ sets l.initial.out 40 (table (lowered (file_parts l.file l.n l.k) l.lowest) 0 l.n)
+  put : l.out ≡ sets l.initial.out 40 (table (lowered (file_parts l.file l.n l.k) l.lowest) 0 l.n);
 }

@@ -7,5 +7,5 @@ use Rattle.pciv_repair_file.proofs.kept.count_kept.Given as goal
 abbrev pub invariant-loop-j : goal.invariant-loop-j
 invariant-loop-j l = record {
   judged : Judged (file_parts l.file l.n l.k) l.j l.lowest;
-  counted : l.kept ≡ kept_count (file_parts l.file l.n l.k) l.j
+  counted : l.kept ≡ kept_count (file_parts l.file l.n l.k) l.j;
 }
