@@ -29,6 +29,7 @@ use Rattle.pciv_bytes.proofs.SumLaws.{sum_from-cong}
 use Rattle.pciv_bytes.proofs.WriteLaws.{sets-swap}
 use Rattle.pciv_format.specs.Layout.{max_slots, primary_byte, in_overflow, primary, overflow_count, file_len, header}
 use Rattle.pciv_format.specs.Layout.{counts_of, at}
+use Rattle.pciv_format.specs.Refusals.{Outcome}
 use Rattle.pciv_format.specs.declared.Counts.{Counts}
 use Rattle.pciv_format.specs.declared.Refusal.{Refusal}
 use Rattle.pciv_format.proofs.RefusalsLaws.{refuse_if-done}
@@ -184,7 +185,7 @@ module _ (n k : ℕ) (v : ℕ → ℕ) (d : List ℕ) where
 module _ (T frame : List ℕ) (small : Bytes frame) (few : length frame ≤ max_slots)
     (each : Fits (length frame) (frame_distance T frame)) (d : List ℕ) where
   pub front-opened : (k : ℕ) (a : Outcome Counts) → k ≡ overflow_count (length frame) (frame_distance T frame)
-      → a ≡ (front_outcome (bytes_of T) frame (length d))
+      → a ≡ front_outcome (bytes_of T) frame (length d)
       → Opened (length frame) k (frame_distance T frame) (frame_outcome T frame (length d)) d a
       (begin_buffer (length frame) k d)
   front-opened k a count answer =

@@ -130,14 +130,9 @@ fn put_counted(out: &mut [u8], frame: &[u8], bytes: &[u8; 256]) -> Result<Counts
     ensures buffer { out.new
         ≡ front_buffer bytes.now frame.now out.old }
 {
-    let begun = begin(out, frame.len(), count_full(frame, bytes));
-    match begun {
-        Err(_) => begun,
-        Ok(_) => {
-            put_primary(out, frame, bytes);
-            begun
-        }
-    }
+    let counts = begin(out, frame.len(), count_full(frame, bytes))?;
+    put_primary(out, frame, bytes);
+    Ok(counts)
 }
 
 // The same in a buffer that holds any file of so many slots: the bytes are written first, and those that are 255 counted.

@@ -22,7 +22,7 @@ use Rattle.pciv_format.specs.Write.{file_into, file_buffer}
 use Rattle.pciv_format.specs.declared.Summary.{Summary}
 use Rattle.pciv_format.specs.declared.Refusal.{Refusal}
 use Rattle.pciv_format.proofs.PartsLaws.{or-false, or-true}
-use Rattle.pciv_format.proofs.RefusalsLaws.{refuse_if-done, file_answer-done, file_answer-refused}
+use Rattle.pciv_format.proofs.RefusalsLaws.{refuse_if-done}
 use Rattle.pciv_repair_file.specs.Repaired.{repaired_at, repaired_file, PartsGiven}
 use Rattle.pciv_repair.specs.Repair.{corrections, numbers_of, repaired_of, repair_outcome, repair_buffer, repair_list}
 use Rattle.pciv_repair.specs.declared.Repaired.{Repaired}
@@ -75,25 +75,25 @@ module _ (b : List ℕ) (n k capacity room : ℕ) where
 module _ (b : List ℕ) (n k : ℕ) (out list : List ℕ) where
   abbrev pub Ends : Outcome Repaired → List ℕ → List ℕ → Type 0
   Ends a out' list' =
-      (a ≡ (repair_outcome b n k (length out) (length list)))
+      (a ≡ repair_outcome b n k (length out) (length list))
       × ((out' ≡ repair_buffer b n k (length list) out) × (list' ≡ repair_list b n k (length out) list))
 
   -- what goes with an outcome
   ends : (o : Outcome Repaired) → repair_outcome b n k (length out) (length list) ≡ o
-      → Ends (o) (written o (repaired_file b n k) out) (written o (numbers_of (corrections b n k)) list)
+      → Ends o (written o (repaired_file b n k) out) (written o (numbers_of (corrections b n k)) list)
   unfolding repair_buffer repair_list
   ends o e = rw e (refl, (refl, refl))
 
-  pub ends-many : (a : Outcome Repaired) → a ≡ (refuse TooManySlots 1 0) → max_slots < n → Ends a out list
+  pub ends-many : (a : Outcome Repaired) → a ≡ refuse TooManySlots 1 0 → max_slots < n → Ends a out list
   unfolding repair_outcome
   ends-many a is many = rw is (ends (refuse TooManySlots 1 0) (rw (lt-ltb max_slots n many)))
 
   module _ (small : n ≤ max_slots) where
-    pub ends-counts : (a : Outcome Repaired) → a ≡ (refuse BadCounts 1 0) → n < k → Ends a out list
+    pub ends-counts : (a : Outcome Repaired) → a ≡ refuse BadCounts 1 0 → n < k → Ends a out list
     unfolding repair_outcome
     ends-counts a is more = rw is (ends (refuse BadCounts 1 0) (rw (le-ltb max_slots n small, lt-ltb n k more)))
 
-    pub ends-short : (a : Outcome Repaired) → a ≡ (refuse BadLength 1 0) → k ≤ n → length b < 40 + n + 12 * k
+    pub ends-short : (a : Outcome Repaired) → a ≡ refuse BadLength 1 0 → k ≤ n → length b < 40 + n + 12 * k
         → Ends a out list
     unfolding repair_outcome
     ends-short a is few short =
@@ -102,7 +102,7 @@ module _ (b : List ℕ) (n k : ℕ) (out list : List ℕ) where
         (rw (le-ltb max_slots n small, le-ltb n k few, lt-ltb (length b) (40 + n + 12 * k) short)))
 
   module _ (given : PartsGiven b n k) where
-    pub ends-unlisted : (a : Outcome Repaired) → a ≡ (refuse BufferTooSmall 0 0)
+    pub ends-unlisted : (a : Outcome Repaired) → a ≡ refuse BufferTooSmall 0 0
         → length list < 4 * length (corrections b n k) → Ends a out list
     unfolding repair_outcome
     ends-unlisted a is many =
@@ -138,20 +138,18 @@ module _ (b : List ℕ) (n k : ℕ) (out list : List ℕ) where
           go true = refl
           go false = refl
 
-      module _ (a : Outcome Summary) (out' : List ℕ) (answered : a ≡ (file_into n (repaired_at b n k) (length out)))
+      module _ (a : Outcome Summary) (out' : List ℕ) (answered : a ≡ file_into n (repaired_at b n k) (length out))
           (left : out' ≡ file_buffer (file_into n (repaired_at b n k) (length out)) n (repaired_at b n k) out) where
         pub ends-refused : (r : Refusal) → a ≡ Err r → Ends (Err r) out' list
         ends-refused r is =
-            let no : file_into n (repaired_at b n k) (length out) ≡ Err r =
-            file_answer-refused _ r (sym is ∙ answered) in
+            let no : file_into n (repaired_at b n k) (length out) ≡ Err r = sym answered ∙ is in
             rw (left, no) (ends (Err r) (by-file ∙ rw no))
 
         pub ends-done : (s : Summary) → a ≡ Ok s → (list' : List ℕ)
             → list' ≡ sets list 0 (numbers_of (corrections b n k)) → (lines : ℕ) → lines ≡ length (corrections b n k)
             → Ends (Ok (record { summary = s; lines = lines })) out' list'
         ends-done s is list' put lines count =
-            let ok : file_into n (repaired_at b n k) (length out) ≡ Ok s =
-            file_answer-done _ s (sym is ∙ answered) in
+            let ok : file_into n (repaired_at b n k) (length out) ≡ Ok s = sym answered ∙ is in
             rw (count, left, ok, put ∙ sets-front (numbers_of (corrections b n k)) list (rw length-numbers_of listed))
             (ends (Ok (told s)) (by-file ∙ rw ok))
 
@@ -159,8 +157,7 @@ module _ (b : List ℕ) (n k : ℕ) (out list : List ℕ) where
         pub stands : (s : Summary) → a ≡ Ok s
             → out' ≡ repaired_file b n k ++ drop (length (repaired_file b n k)) out'
         stands s is =
-            let ok : file_into n (repaired_at b n k) (length out) ≡ Ok s =
-            file_answer-done _ s (sym is ∙ answered) in
+            let ok : file_into n (repaired_at b n k) (length out) ≡ Ok s = sym answered ∙ is in
             let e : out' ≡ repaired_file b n k ++ drop (length (repaired_file b n k)) out =
             left ∙ ap (λ (o : Outcome Summary). file_buffer o n (repaired_at b n k) out) ok in
             e

@@ -11,7 +11,6 @@
 --   repaired_of b n k          the answer of a repair that is done
 --   repair_outcome             the answer, for an output of `capacity` bytes and a list of `room` numbers
 --   repair_buffer, repair_list  the output and the list afterwards
---   repair_answer              the outcome as a value of the answer's type
 -- Laws are in proofs/. Axioms: none.
 use Rattle.std.specs.Prelude.{Ok}
 use Rattle.pciv_format.specs.declared.RefusalKind.TheVariants.{TooManySlots, BadCounts, BadLength, BufferTooSmall}

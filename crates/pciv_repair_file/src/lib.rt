@@ -14,8 +14,7 @@ ghost use Rattle.pciv_repair_file.specs.Repaired.{kept_entries, repaired_parts, 
 
 use crate::kept::{lowest_after, put_kept};
 use pciv_build::{begin, finish};
-use pciv_bytes::copies::copy_bytes;
-use pciv_format::{HEADER_LEN, INLINE_MAX, SENTINEL, Refusal, Summary};
+use pciv_format::{HEADER_LEN, INLINE_MAX, Refusal, SENTINEL, Summary};
 use pciv_map::totals::summary_of;
 use pciv_passes::pairs::{ByteOp, map_into};
 
@@ -34,14 +33,12 @@ fn put_lowered(file: &[u8], n: usize, k: usize, out: &mut [u8])
         HEADER_LEN,
     );
     let mut lowest: usize = 0;
-    let mut j: usize = 0;
-    while j < k {
-        let free = lowest;
-        lowest = lowest_after(file, n, free, j);
-        j += 1;
-        if free < lowest {
-            out[HEADER_LEN + (lowest - 1)] = SENTINEL;
+    for j in 0..k {
+        let next = lowest_after(file, n, lowest, j);
+        if lowest < next {
+            out[HEADER_LEN + (next - 1)] = SENTINEL;
         }
+        lowest = next;
     }
 }
 
@@ -54,7 +51,8 @@ fn put_primary(file: &[u8], n: usize, k: usize, kept: usize, full: usize, out: &
         ≡ sets out.old 40 (table (repaired_parts (file_parts file.now n k)).byte 0 n) }
 {
     if full == kept {
-        copy_bytes(&file[HEADER_LEN..HEADER_LEN + n], out, HEADER_LEN);
+        let end = HEADER_LEN + n;
+        out[HEADER_LEN..end].copy_from_slice(&file[HEADER_LEN..end]);
     } else {
         put_lowered(file, n, k, out);
     }
