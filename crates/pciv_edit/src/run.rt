@@ -27,9 +27,7 @@ fn put_cells(answers: &mut [usize], at: usize, why: [usize; 3], s: Summary, move
     let cells = [
         why[0], why[1], why[2], s.n, s.k, s.m, s.step, s.len, s.sum, moved,
     ];
-    for j in 0..ANSWER_LEN {
-        answers[at + j] = cells[j];
-    }
+    answers[at..at + ANSWER_LEN].copy_from_slice(&cells);
 }
 
 // One edit of a checked map; its answer goes to the caller's list. Answers what the next edit has to know.
@@ -90,9 +88,8 @@ fn edit_all(
     ensures answers { answers.new ≡ sets answers.old 0 (all_cells (edit_outcomes buffer.old (edits_of slots.now distances.now))
         (edit_moves buffer.old (edits_of slots.now distances.now))) }
 {
-    let mut i = 0;
     let mut held = Carried { k, sum };
-    while i < slots.len() {
+    for i in 0..slots.len() {
         held = edit_next(
             buffer,
             answers,
@@ -103,7 +100,6 @@ fn edit_all(
             slots[i],
             distances[i],
         );
-        i += 1;
     }
 }
 
