@@ -121,9 +121,6 @@ pub fn edit_list(
     ensures answers { answers.new ≡ edit_list_answers buffer.old slots.now distances.now answers.old }
 {
     let summary = check_buffer(buffer)?;
-    let n = summary.n;
-    let k = summary.k;
-    let sum = summary.sum;
     if slots.len() < distances.len() {
         return refuse(RefusalKind::SlotOutOfRange, 0, slots.len());
     }
@@ -133,6 +130,14 @@ pub fn edit_list(
     if answers.len() / ANSWER_LEN < slots.len() {
         return refuse(RefusalKind::BufferTooSmall, 0, 0);
     }
-    edit_all(buffer, answers, n, k, sum, slots, distances);
+    edit_all(
+        buffer,
+        answers,
+        summary.n,
+        summary.k,
+        summary.sum,
+        slots,
+        distances,
+    );
     Ok(slots.len())
 }

@@ -16,7 +16,7 @@ loop-i-preserved c =
       map = c.edit_next-held.ensures.map;
       rest =
           left-more _ _ _ _ _ _ _ (edit_at a.slots.now a.distances.now l.i) (edits_from a.slots.now a.distances.now (l.i + 1))
-          (edits-more _ _ l.i c.loop-i-test.true) l.invariant.rest _ _ c.edit_next-held.ensures.buffer
+          (edits-more _ _ l.i (omega arith)) l.invariant.rest _ _ c.edit_next-held.ensures.buffer
           c.edit_next-held.ensures.answers _ (omega arith);
     }
 
@@ -24,5 +24,5 @@ pub returns : goal.returns
 returns c =
     let a = c.args in
     let l = c.loop-i in
-    let r = left_end _ _ _ _ _ _ _ (edits-end a.slots.now a.distances.now l.i c.loop-i-test.false) l.invariant.rest in
+    let r = left_end _ _ _ _ _ _ _ (edits-end a.slots.now a.distances.now l.i (omega arith)) l.invariant.rest in
     record { buffer = r.0; answers = r.1 }
