@@ -15,9 +15,10 @@ use mathlib.Core.Path.{◌≡◌, refl, sym, ap, ◌∙◌}
 use Prim.Native.Nat.{ℕ, ◌+◌, ◌-◌, ◌*◌, ◌≤◌, ◌<◌, min}
 use native.Mathlib.Nat.{sub-zero}
 use native.Mathlib.Omega.{arith}
-use mathlib.Core.List.{List, [], ◌∷◌}
-use lib.ListN.{length, length-append}
-use lib.Seq.{sets}
+use mathlib.Core.List.{List, [], ◌∷◌, append_assoc}
+use lib.ListN.{length, length-append, get_or, take, drop}
+use lib.Seq.{sets, sets-eq, drop-drop}
+use borrow.Rule.Slice.PartMut.{put_mid}
 use borrow.Author.Tests.{le-ltb, lt-ltb, ne_eqb}
 use Rattle.pciv_bytes.specs.Ranges.{table}
 use Rattle.pciv_bytes.specs.LittleEndian.{Bytes}
@@ -27,7 +28,7 @@ use Rattle.pciv_format.specs.Layout.{max_distance, at}
 use Rattle.pciv_format.specs.Refusals.{Outcome, refuse}
 use Rattle.pciv_format.specs.Check.{counts_buffer}
 use Rattle.pciv_format.specs.Edit.{Edit, edit_outcome, edit_moved, edit_buffer, edit_run, edit_outcomes, edit_moves}
-use Rattle.pciv_format.specs.Edit.{answer_len, cells_of, no_refusal, no_summary, answer_cells, all_cells}
+use Rattle.pciv_format.specs.Edit.{answer_len, cells_of, refusal_cells, no_refusal, no_summary, answer_cells, all_cells}
 use Rattle.pciv_format.specs.Edit.{edits_of, edit_list_outcome, edit_list_buffer, edit_list_answers}
 use Rattle.pciv_format.specs.declared.Counts.{Counts}
 use Rattle.pciv_format.specs.declared.Summary.{Summary}
@@ -36,6 +37,22 @@ use Rattle.pciv_format.proofs.PartsLaws.{eqb-not}
 use Rattle.pciv_format.proofs.CheckLaws.{done-buffer}
 use Rattle.pciv_format.proofs.RunLaws.{Distances}
 use Rattle.pciv_format.proofs.EditCaseLaws.{checked-run, checked-moves}
+
+-- ---- one answer
+
+-- a list whose part holds vs now
+pub put_mid-sets : (a k : ℕ) (d vs : List ℕ) → length vs ≡ k → a + k ≤ length d → put_mid a k d vs ≡ sets d a vs
+put_mid-sets a k d vs same space =
+    let fits : a + length vs ≤ length d = rw same space in
+    sym (sets-eq vs d a fits ∙ append_assoc (take a d) vs (drop (a + length vs) d) ∙ rw (drop-drop k a d, same))
+
+-- a list of three numbers
+pub three : (xs : List ℕ) → length xs ≡ 3 → get_or xs 0 0 ∷ get_or xs 1 0 ∷ get_or xs 2 0 ∷ [] ≡ xs
+three [] e = absurd (omega arith)
+three (x ∷ []) e = absurd (omega arith)
+three (x ∷ y ∷ []) e = absurd (omega arith)
+three (x ∷ y ∷ z ∷ []) e = refl
+three (x ∷ y ∷ z ∷ w ∷ xs) e = absurd (omega arith)
 
 -- ---- what is left of a run
 
@@ -114,7 +131,7 @@ module _ (slots distances : List ℕ) where
 -- ---- the numbers of one answer
 
 module _ (o : Outcome Summary) (m moved : ℕ) (same : m ≡ moved) where
-  pub cells-refused : (r : Refusal) → o ≡ Err r → cells_of r no_summary m ≡ answer_cells o moved
+  pub cells-refused : (r : Refusal) → o ≡ Err r → cells_of (refusal_cells r) no_summary m ≡ answer_cells o moved
   unfolding answer_cells
   cells-refused r is = rw (is, same)
 

@@ -27,9 +27,7 @@ fn put_cells(answers: &mut [usize], at: usize, why: [usize; 3], s: Summary, move
     let cells = [
         why[0], why[1], why[2], s.n, s.k, s.m, s.step, s.len, s.sum, moved,
     ];
-    for j in 0..ANSWER_LEN {
-        answers[at + j] = cells[j];
-    }
+    answers[at..at + ANSWER_LEN].copy_from_slice(&cells);
 }
 
 // One edit of a checked map; its answer goes to the caller's list. Answers what the next edit has to know.
@@ -90,9 +88,8 @@ fn edit_all(
     ensures answers { answers.new ≡ sets answers.old 0 (all_cells (edit_outcomes buffer.old (edits_of slots.now distances.now))
         (edit_moves buffer.old (edits_of slots.now distances.now))) }
 {
-    let mut i = 0;
     let mut held = Carried { k, sum };
-    while i < slots.len() {
+    for i in 0..slots.len() {
         held = edit_next(
             buffer,
             answers,
@@ -103,7 +100,6 @@ fn edit_all(
             slots[i],
             distances[i],
         );
-        i += 1;
     }
 }
 
@@ -125,9 +121,6 @@ pub fn edit_list(
     ensures answers { answers.new ≡ edit_list_answers buffer.old slots.now distances.now answers.old }
 {
     let summary = check_buffer(buffer)?;
-    let n = summary.n;
-    let k = summary.k;
-    let sum = summary.sum;
     if slots.len() < distances.len() {
         return refuse(RefusalKind::SlotOutOfRange, 0, slots.len());
     }
@@ -137,6 +130,14 @@ pub fn edit_list(
     if answers.len() / ANSWER_LEN < slots.len() {
         return refuse(RefusalKind::BufferTooSmall, 0, 0);
     }
-    edit_all(buffer, answers, n, k, sum, slots, distances);
+    edit_all(
+        buffer,
+        answers,
+        summary.n,
+        summary.k,
+        summary.sum,
+        slots,
+        distances,
+    );
     Ok(slots.len())
 }

@@ -17,7 +17,7 @@ ghost use Rattle.pciv_slot.specs.Change.{new_count, above_count, SummedMap, Edit
 use crate::change::{change_entries, finish_change};
 use pciv_build::put_header;
 use pciv_bytes::little_endian::put32;
-use pciv_format::{HEADER_LEN, SENTINEL, EditAnswer, RefusalKind};
+use pciv_format::{EditAnswer, HEADER_LEN, RefusalKind, SENTINEL};
 use pciv_layout::refusals::refuse;
 use pciv_layout::{counts_of, file_len, summarized};
 use pciv_map::entries::entry_distance;
