@@ -156,8 +156,10 @@ pub fn tell_table(a: TableAnswer, table: &mut [u32; 256], refusal: &mut [usize; 
     ensures told { ToldTable (told_table a) a.table
         result table.new refusal.new }
 {
-    *table = a.table;
-    match a.verdict {
+    let verdict = a.verdict;
+    let distances = a.table;
+    *table = distances;
+    match verdict {
         Ok(_) => tell_done(refusal),
         Err(r) => tell_refused(r, refusal),
     }
