@@ -14,7 +14,7 @@ ghost use Rattle.pciv_close.specs.Close.{slot_parts, entries_from, parts_outcome
 use pciv_build::{begin, finish, put_entry};
 use pciv_bytes::copies::copy_bytes;
 use pciv_bytes::find::find_byte;
-use pciv_format::{HEADER_LEN, MAX_SLOTS, SENTINEL, Refusal, RefusalKind, Summary};
+use pciv_format::{HEADER_LEN, MAX_SLOTS, Refusal, RefusalKind, SENTINEL, Summary};
 use pciv_layout::entries::wrong_entry;
 use pciv_layout::refusals::refuse;
 use pciv_map::totals::summary_of;
@@ -77,7 +77,12 @@ fn put_entries(out: &mut [u8], start: usize, slots: &[usize], distances: &[u32])
 }
 
 // The file of sound parts. Refusal: 12.
-fn put_file(out: &mut [u8], primary: &[u8], slots: &[usize], distances: &[u32]) -> Result<Summary, Refusal>
+fn put_file(
+    out: &mut [u8],
+    primary: &[u8],
+    slots: &[usize],
+    distances: &[u32],
+) -> Result<Summary, Refusal>
     requires primary_len_bound { length primary.now ≤ max_slots }
     requires sound_parts { SoundParts (close_parts primary.now slots.now distances.now) }
     ensures answer { result ≡ parts_outcome (close_parts primary.now slots.now distances.now) (length out.old) }
@@ -96,7 +101,12 @@ fn put_file(out: &mut [u8], primary: &[u8], slots: &[usize], distances: &[u32]) 
 // front of the caller's buffer. Refusals: 3, 6 and 7 with map 1, then 12. Where the lists differ in length, the
 // first entry that one of them lacks is wrong (6); this is chosen here: the format's source has no such case.
 // A refused call changes no byte, and bytes past the file stay.
-pub fn close(primary: &[u8], slots: &[usize], distances: &[u32], out: &mut [u8]) -> Result<Summary, Refusal>
+pub fn close(
+    primary: &[u8],
+    slots: &[usize],
+    distances: &[u32],
+    out: &mut [u8],
+) -> Result<Summary, Refusal>
     ensures answer { result ≡ close_outcome primary.now slots.now distances.now (length out.old) }
     ensures buffer { out.new ≡ close_buffer primary.now slots.now distances.now out.old }
 {

@@ -3,9 +3,9 @@
 // A refused call changes no byte, and what follows a result in the caller's list stays as it was.
 #![tactic(auto)]
 
-ghost use Rattle.std.specs.Prelude.{◌≡◌, ℕ, ◌+◌, ◌≤◌, ◌<◌, min, length, get_or, take, drop, ltb, leb};
+ghost use Rattle.std.specs.Prelude.{◌≡◌, length, leb};
 ghost use Rattle.std.specs.List.{position};
-ghost use Rattle.pciv_format.specs.Read.{primary_part, behind, primary_place, lookup_outcome};
+ghost use Rattle.pciv_format.specs.Read.{primary_part, primary_place, lookup_outcome};
 ghost use Rattle.pciv_format.specs.Read.{lookup_list_outcome, lookup_list_buffer, lookup_list_entries};
 ghost use Rattle.pciv_format.specs.Read.{scan_outcome, scan_buffer};
 ghost use Rattle.pciv_format.specs.Read.{sum_outcome, readings_outcome};
@@ -41,11 +41,7 @@ pub fn lookup(file: &[u8], slot: usize) -> Result<Located, Refusal>
     let n = counts.n;
     let k = counts.k;
     if n <= slot {
-        return Err(Refusal {
-            kind: RefusalKind::SlotOutOfRange,
-            map: 0,
-            place: 0,
-        });
+        return refuse(RefusalKind::SlotOutOfRange, 0, 0);
     }
     Ok(locate(file, n, k, slot))
 }

@@ -13,7 +13,7 @@ ghost use Rattle.pciv_build.specs.Slots.{HoldsPrimary};
 use pciv_build::slots::put_slots;
 use pciv_build::{begin, finish, put_entry};
 use pciv_bytes::little_endian::get64;
-use pciv_format::{HEADER_LEN, MAX_SLOTS, SENTINEL, Refusal, RefusalKind, Summary};
+use pciv_format::{HEADER_LEN, MAX_SLOTS, Refusal, RefusalKind, SENTINEL, Summary};
 use pciv_layout::primary_byte;
 use pciv_layout::refusals::refuse;
 use pciv_map::totals::summary_of;

@@ -9,13 +9,15 @@ returns-in_err-counts c =
     let a = c.args in
     record {
       answer = passed_on _ _ c.from_residual.ensures.1
-      ∙ sym (lookup-refused a.file.now _ (sym c.in_err-counts.ensures.answer) a.slot);
+          ∙ sym (lookup-refused a.file.now _ (sym c.in_err-counts.ensures.answer) a.slot);
     }
 
 pub returns-then-n-slot : goal.returns-then-n-slot
 returns-then-n-slot c =
     let a = c.args in
-    record { answer = sym (lookup-outside a.file.now _ (sym c.in_ok-counts.ensures.answer) a.slot c.if-n-slot.true) }
+    record {
+      answer = c.refuse.ensures ∙ sym (lookup-outside a.file.now _ (sym c.in_ok-counts.ensures.answer) a.slot c.if-n-slot.true);
+    }
 
 pub locate-requires-clause-checked_map : goal.locate-requires-clause-checked_map
 locate-requires-clause-checked_map c = checked _ _ (sym c.in_ok-counts.ensures.answer)
@@ -25,5 +27,5 @@ returns c =
     let a = c.args in
     record {
       answer = ap Ok c.locate.ensures
-      ∙ sym (lookup-inside a.file.now _ (sym c.in_ok-counts.ensures.answer) a.slot c.if-n-slot.false);
+          ∙ sym (lookup-inside a.file.now _ (sym c.in_ok-counts.ensures.answer) a.slot c.if-n-slot.false);
     }

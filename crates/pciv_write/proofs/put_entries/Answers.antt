@@ -32,9 +32,11 @@ pub bounds-distances-slot : goal.bounds-distances-slot
 bounds-distances-slot c = (next (goal.at.bounds-distances-slot c).After-get64-slot).inside
 
 pub loop-j-preserved : goal.loop-j-preserved
-loop-j-preserved c =
-    (c.get64-slot.result + 1, fill_more c.loop-j.invariant.1 _ _ _ _ (next (goal.at.loop-j-preserved c).After-get64-slot) refl
-    c.put_entry.ensures.buffer (omega arith))
+loop-j-preserved c = (
+  c.get64-slot.result + 1,
+  fill_more c.loop-j.invariant.1 _ _ _ _ (next (goal.at.loop-j-preserved c).After-get64-slot) refl
+      c.put_entry.ensures.buffer (omega arith),
+)
 
 pub returns : goal.returns
 returns c =
