@@ -8,6 +8,8 @@ use Prim.Native.Nat.{ℕ, ◌+◌, ◌*◌, ◌<◌}
 use native.Mathlib.Omega.{arith}
 use mathlib.Core.List.{List}
 use lib.ListN.{length}
+use Rattle.pciv_format.specs.Refusals.{Outcome}
+use Rattle.pciv_format.specs.declared.Summary.{Summary}
 use Rattle.pciv_format.specs.declared.Entry.{Entry}
 use Rattle.pciv_close_entries.specs.Passes.{Call, ended_job, onward_job, left, passes_left, Checking}
 use Rattle.pciv_close_entries.specs.Passes.{Searching, Writing, Finished, Going, Doing, Next}
