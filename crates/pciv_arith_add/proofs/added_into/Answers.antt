@@ -46,10 +46,12 @@ returns-in_err-counts c =
     let r = opened-refused (opened (goal.at.returns-in_err-counts c).After-begin) _ c.in_err-counts.was in
     record { answer = passed_on _ _ c.from_residual.ensures.1 ∙ r.0; buffer = r.1 }
 
-pub put_primary-requires : goal.put_primary-requires
-put_primary-requires c =
-    let space = opened-space (opened (goal.at.put_primary-requires c).After-begin) _ c.in_ok-counts.was in
-    record { checked_pair = c.requires.checked_pair; n_in_bounds = omega arith }
+pub put_primary-requires-clause-n_in_bounds : goal.put_primary-requires-clause-n_in_bounds
+put_primary-requires-clause-n_in_bounds c =
+    omega (
+      arith,
+      opened-space (opened (goal.at.put_primary-requires-clause-n_in_bounds c).After-begin) _ c.in_ok-counts.was,
+    )
 
 pub put_entries-requires : goal.put_entries-requires
 put_entries-requires c =

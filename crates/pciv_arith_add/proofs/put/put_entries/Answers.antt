@@ -33,28 +33,20 @@ loop-e-init c =
     (fill_start c.args.n _ c.args.out.now _ c.requires.holds_primary (omega (arith, c.requires.k_value, c.requires.k_in_bounds))
     c.put_slots.ensures c.requires.checked_pair.first.header.small))
 
-pub get64-slot-requires : goal.get64-slot-requires
-get64-slot-requires c =
-    omega (arith, (next-at (goal.at.get64-slot-requires c).At-loop-e c.loop-e-test.true _ refl).next.space)
+pub take_at-x-requires-clause-slot_lt_n : goal.take_at-x-requires-clause-slot_lt_n
+take_at-x-requires-clause-slot_lt_n c =
+    let here = next-at (goal.at.take_at-x-requires-clause-slot_lt_n c).At-loop-e c.loop-e-test.true _ c.get64-slot.ensures in
+    (here.next.inside, here.first)
 
-pub take_at-x-requires : goal.take_at-x-requires
-take_at-x-requires c =
-    let here = next-at (goal.at.take_at-x-requires c).At-loop-e c.loop-e-test.true _ c.get64-slot.ensures in
-    record { checked_map = c.requires.checked_pair.first; slot_lt_n = (here.next.inside, here.first) }
-
-pub take_addend-y-requires : goal.take_addend-y-requires
-take_addend-y-requires c =
-    let here = next-at (goal.at.take_addend-y-requires c).At-loop-e c.loop-e-test.true _ c.get64-slot.ensures in
-    record { checked_map = c.requires.checked_pair.second; slot_lt_n = (here.next.inside, here.second) }
+pub take_addend-y-requires-clause-slot_lt_n : goal.take_addend-y-requires-clause-slot_lt_n
+take_addend-y-requires-clause-slot_lt_n c =
+    let here = next-at (goal.at.take_addend-y-requires-clause-slot_lt_n c).At-loop-e c.loop-e-test.true _ c.get64-slot.ensures in
+    (here.next.inside, here.second)
 
 pub overflow_add-x : goal.overflow_add-x
 overflow_add-x c =
     let here = next-at (goal.at.overflow_add-x c).At-loop-e c.loop-e-test.true _ c.get64-slot.ensures in
     omega (arith, c.requires.fits _ here.next.inside, here.sum, c.take_at-x.ensures.is, c.take_addend-y.ensures.is)
-
-pub put_entry-requires : goal.put_entry-requires
-put_entry-requires c =
-    (next-at (goal.at.put_entry-requires c).At-loop-e c.loop-e-test.true _ c.get64-slot.ensures).next.space
 
 pub loop-e-preserved : goal.loop-e-preserved
 loop-e-preserved c =

@@ -11,8 +11,3 @@ pub returns-then-n-min : goal.returns-then-n-min
 returns-then-n-min c =
     c.count_full_slots.ensures
     ∙ combined-count Minimum Min same-minimum (checked-sound c.requires c.type_inv.a c.type_inv.b)
-
-pub returns : goal.returns
-returns c =
-    let a = c.args in
-    c.count_shared-2.ensures ∙ minimum-swap (file_parts a.a.now a.n a.ka) (file_parts a.b.now a.n a.kb) a.n

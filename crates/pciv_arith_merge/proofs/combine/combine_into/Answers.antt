@@ -36,10 +36,10 @@ returns-in_err-counts c =
     let r = opened-refused (opened (goal.at.returns-in_err-counts c).After-begin) _ c.in_err-counts.was in
     record { answer = passed_on _ _ c.from_residual.ensures.1 ∙ r.0; buffer = r.1 }
 
-pub put_parts-requires : goal.put_parts-requires
-put_parts-requires c =
-    let space = opened-space (opened (goal.at.put_parts-requires c).After-begin) _ c.in_ok-counts.was in
-    record { checked_pair = c.requires; kb_in_bounds = omega (arith, space, c.count_overflow-k.ensures) }
+pub put_parts-requires-clause-kb_in_bounds : goal.put_parts-requires-clause-kb_in_bounds
+put_parts-requires-clause-kb_in_bounds c =
+    let space = opened-space (opened (goal.at.put_parts-requires-clause-kb_in_bounds c).After-begin) _ c.in_ok-counts.was in
+    omega (arith, space, c.count_overflow-k.ensures)
 
 pub finish-requires : goal.finish-requires
 finish-requires c =
