@@ -135,15 +135,14 @@ module _ (fs : List (List ℕ)) (count : ℕ) where
   module _ (some : 1 ≤ count) (few : count ≤ 8) where
     -- a first frame without a whole header is refused, whatever its n is taken for
     pub write-slots : (n : ℕ) → length (take count fs) ≡ count
-        → (let first = get_or (take count fs) 0 [] in
+        → (let first = get_or fs 0 [] in
         (40 ≤ length first → n ≡ n_field first)
         → frames_outcome n (take count fs) ≡ frames_outcome (used_slots fs) (take count fs))
     write-slots n all is =
-        let first : List ℕ = get_or (take count fs) 0 [] in
-        let same : first ≡ get_or fs 0 [] = get_or-take count fs 0 [] some in
-        elim (dec_le 40 (length first)) [
-          | yes long ↦ ap (λ (m : ℕ). frames_outcome m (take count fs)) (is long ∙ ap n_field same)
-          | no short ↦ frames_outcome-any n (used_slots fs) (take count fs) (rw all some) (omega arith)
+        let first : get_or (take count fs) 0 [] ≡ get_or fs 0 [] = get_or-take count fs 0 [] some in
+        elim (dec_le 40 (length (get_or fs 0 []))) [
+          | yes long ↦ ap (λ (m : ℕ). frames_outcome m (take count fs)) (is long)
+          | no short ↦ frames_outcome-any n (used_slots fs) (take count fs) (rw all some) (omega (arith, ap length first))
         ]
 
     -- what is left to refuse

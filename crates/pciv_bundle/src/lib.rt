@@ -10,7 +10,7 @@ ghost use Rattle.pciv_bundle.specs.Bundle.{bundle_outcome, row_outcome, nearest_
 
 use pciv_bundle_frames::{check_frames, row_of};
 use pciv_bundle_nearest::nearest_into;
-use pciv_bundle_records::{BundleCounts, Split, split_records};
+use pciv_bundle_records::{BundleCounts, MAX_FRAMES, Split, split_records};
 use pciv_format::{Refusal, RefusalKind};
 use pciv_layout::refusals::refuse;
 
@@ -34,7 +34,7 @@ pub fn read(bundle: &[u8]) -> Result<BundleCounts, Refusal>
 }
 
 // The distances at a slot by frame, 0 for frames that are absent. Refusals: those of `read`, then 9.
-pub fn row(bundle: &[u8], slot: usize) -> Result<[u32; 8], Refusal>
+pub fn row(bundle: &[u8], slot: usize) -> Result<[u32; MAX_FRAMES], Refusal>
     ensures answer { result ≡ row_outcome bundle.now slot }
 {
     let split = check_bundle(bundle)?;

@@ -16,23 +16,17 @@ use pciv_layout::refusals::refuse;
 fn slots_of(file: &[u8]) -> usize
     ensures { 40 ≤ length file.now → result ≡ n_field file.now }
 {
-    if file.len() < HEADER_LEN {
-        return 0;
-    }
-    get64(file, 8)
+    if file.len() < HEADER_LEN { 0 } else { get64(file, 8) }
 }
 
-// The length of the bundle of the first `count` frames.
-fn bundle_len(frames: &[&[u8]], count: usize) -> usize
-    requires { (count ≤ 8) × (length frames.now ≡ 8) × ShortFrames (take count (map (λ x. x.now) frames.now)) }
-    ensures { (n : ℕ) → result ≡ length (bundle_of n (take count (map (λ x. x.now) frames.now))) }
+// The length of the bundle of some frames.
+fn bundle_len(frames: &[&[u8]]) -> usize
+    requires { (length frames.now ≤ 8) × ShortFrames (map (λ x. x.now) frames.now) }
+    ensures { (n : ℕ) → result ≡ length (bundle_of n (map (λ x. x.now) frames.now)) }
 {
     let mut len = HEADER_RECORD_LEN;
-    let mut f = 0;
-    while f < count {
-        let frame = frames[f];
+    for frame in frames {
         len += PREFIX_LEN + frame.len();
-        f += 1;
     }
     len
 }
@@ -59,47 +53,38 @@ fn put_frame(out: &mut [u8], at: usize, frame: &[u8])
 }
 
 // The whole bundle, at the front.
-fn put_bundle(frames: &[&[u8]], count: usize, n: usize, out: &mut [u8])
-    requires count_bound { (count ≤ 8) × (length frames.now ≡ 8) × ShortFrames (take count (map (λ x. x.now) frames.now)) }
-    requires n_bound { (n < 2 ^ 32) × (length (bundle_of n (take count (map (λ x. x.now) frames.now))) ≤ length out.old) }
-    ensures { out.new
-        ≡ sets out.old 0 (bundle_of n (take count (map (λ x. x.now) frames.now))) }
+fn put_bundle(frames: &[&[u8]], n: usize, out: &mut [u8])
+    requires short_frames { (length frames.now ≤ 8) × ShortFrames (map (λ x. x.now) frames.now) }
+    requires n_bound { (n < 2 ^ 32) × (length (bundle_of n (map (λ x. x.now) frames.now)) ≤ length out.old) }
+    ensures { out.new ≡ sets out.old 0 (bundle_of n (map (λ x. x.now) frames.now)) }
 {
-    put_header(out, n, count);
+    put_header(out, n, frames.len());
     let mut at = HEADER_RECORD_LEN;
-    let mut f = 0;
-    while f < count {
-        let frame = frames[f];
+    for frame in frames {
         put_frame(out, at, frame);
         at += PREFIX_LEN + frame.len();
-        f += 1;
     }
 }
 
 // Writes the first `count` of eight frames as a bundle to the front of the caller's buffer; answers how many bytes. The
 // others are not looked at. Refusals: 14 where `count` is not from 1 to 8, then each used frame's 1 to 8, then 10 against
 // the n of the first, then 12.
-pub fn write(frames: &[&[u8]; 8], count: usize, out: &mut [u8]) -> Result<usize, Refusal>
+pub fn write(frames: &[&[u8]; MAX_FRAMES], count: usize, out: &mut [u8]) -> Result<usize, Refusal>
     ensures answer { result
         ≡ bundle_write_outcome (map (λ x. x.now) frames.now) count (length out.old) }
     ensures buffer { out.new
         ≡ bundle_write_buffer (map (λ x. x.now) frames.now) count out.old }
 {
-    // a slice made of the array is known to have eight elements
-    let lent: &[&[u8]] = frames;
-    if count < 1 {
-        return refuse(RefusalKind::BadBundle, 0, 0);
-    }
     let has_many = MAX_FRAMES < count;
-    if has_many {
+    if count < 1 || has_many {
         return refuse(RefusalKind::BadBundle, 0, 0);
     }
-    let first = lent[0];
-    let n = check_lent(frames, count, slots_of(first))?;
-    let len = bundle_len(lent, count);
+    let n = check_lent(frames, count, slots_of(frames[0]))?;
+    let used = &frames[..count];
+    let len = bundle_len(used);
     if out.len() < len {
         return refuse(RefusalKind::BufferTooSmall, 0, 0);
     }
-    put_bundle(lent, count, n, out);
+    put_bundle(used, n, out);
     Ok(len)
 }

@@ -8,7 +8,7 @@
 --   left_block       past a block, where a list of distances is written block by block
 --   raised-block     a block that every frame has lowered, as distances
 -- Axioms: none.
-use Rattle.std.proofs.Common.{◌≡◌, ℕ, suc, ◌+◌, ◌-◌, ◌%◌, ◌<◌, ◌≤◌, min, cond, eqb, List, [], ◌∷◌, map, length, get_or, take, drop, sym, refl, ap, ◌∙◌, subst, ap₂, zero-add, arith, length-drop, length-take-le, get_or-drop, get_or-take, eq-eqb, ne_eqb}
+use Rattle.std.proofs.Common.{◌≡◌, ℕ, suc, ◌+◌, ◌-◌, ◌<◌, ◌≤◌, min, cond, eqb, List, [], ◌∷◌, map, length, get_or, take, drop, sym, ap, ◌∙◌, subst, ap₂, zero-add, arith, length-drop, length-take-le, get_or-drop, get_or-take}
 use native.Mathlib.Decide.{dec_le}
 use Rattle.std.proofs.lemmas.Bool.Decides.{nat_tests}
 use mathlib.Core.List.{foldl}
@@ -19,8 +19,8 @@ use Rattle.pciv_bytes.proofs.WriteLaws.{Left, left-part, left_end}
 use lib.Seq.{sets}
 use Rattle.pciv_format.specs.Layout.{max_distance, at}
 use Rattle.pciv_bundle_nearest.specs.Nearest.{nearer, nearest_of}
-use Rattle.pciv_bundle_nearest.specs.Passes.{less_one, lowered_byte, raised_byte, byte_step, nearest_byte, Changed}
-use Rattle.pciv_bundle_nearest.proofs.NearestLaws.{nearer-right, nearer-cases, nearer-assoc}
+use Rattle.pciv_bundle_nearest.specs.Passes.{lowered_byte, raised_byte, byte_step, nearest_byte, Changed}
+use Rattle.pciv_bundle_nearest.proofs.NearestLaws.{nearer-right, nearer-assoc}
 use Rattle.pciv_bundle_nearest.proofs.ChangedLaws.{changed-cong}
 
 -- ---- one byte

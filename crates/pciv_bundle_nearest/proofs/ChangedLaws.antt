@@ -6,7 +6,7 @@
 --                           frames from f on
 --   turns_more, -end        one more frame, and all
 -- Axioms: none.
-use Rattle.std.proofs.Common.{◌≡◌, ℕ, suc, ◌+◌, ◌<◌, ◌≤◌, List, [], length, get_or, drop, set, sym, refl, ap, ◌∙◌, add-one, arith, length-set, drop_of_length-le, drop-cons, get_or-set_other, get_or-set_same}
+use Rattle.std.proofs.Common.{◌≡◌, ℕ, suc, ◌+◌, ◌<◌, ◌≤◌, List, [], length, get_or, drop, set, sym, ap, ◌∙◌, add-one, arith, length-set, drop_of_length-le, drop-cons, get_or-set_other, get_or-set_same}
 use native.Mathlib.Decide.{dec_le}
 use mathlib.Core.List.{foldl}
 use Rattle.pciv_format.specs.Layout.{at}

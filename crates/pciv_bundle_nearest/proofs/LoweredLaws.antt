@@ -2,14 +2,13 @@
 --   lowered_to-inline, -full, -entry    a slot that is inline stays; one in overflow gets the smaller distance
 --   lowered-entry, lowered-entries     one entry on, and all of them
 -- Axioms: none.
-use Rattle.std.proofs.Common.{◌≡◌, ℕ, zero, suc, ◌+◌, ◌<◌, ◌≤◌, min, List, length, set, sym, ap, ◌∙◌, ap₂, add-one, arith, eq-eqb, ne_eqb}
+use Rattle.std.proofs.Common.{◌≡◌, ℕ, zero, suc, ◌+◌, ◌<◌, ◌≤◌, min, List, length, set, sym, ap, ◌∙◌, add-one, arith, eq-eqb, ne_eqb}
 use Rattle.pciv_format.specs.Layout.{at}
 use Rattle.pciv_format.specs.Parts.{Parts, lowest_slot, value_of, SoundParts}
-use Rattle.pciv_format.specs.Check.{k_field, file_parts}
 use Rattle.pciv_format.proofs.PartsLaws.{entry-good, value_of-slot}
 use Rattle.pciv_format.proofs.EntryLaws.{gap-inline}
-use Rattle.pciv_bundle_nearest.specs.Passes.{lowered_to, entry_step, Changed}
-use Rattle.pciv_bundle_nearest.proofs.ChangedLaws.{changed-more, changed-to, changed-cong}
+use Rattle.pciv_bundle_nearest.specs.Passes.{lowered_to, Changed}
+use Rattle.pciv_bundle_nearest.proofs.ChangedLaws.{changed-more, changed-to}
 
 module _ (P : Parts) (i x : ℕ) where
   pub lowered_to-inline : P.byte i < 255 → lowered_to P i x ≡ x
