@@ -1,7 +1,7 @@
 -- Laws of a mask as bytes: eight bits at once through the table, 64 bits of a word, and the map of 0 and 1.
---   bit_rows-at, bits_row-table    a row of the table, byte by byte
---   row-of-word          a row is eight bits of a word;  word-bit  a word as 64 bytes
---   no_bytes, last_bit   the word after the last whole one as 64 bytes, and its slots
+--   row-is               a row of the table
+--   row-of-word          a row is eight bits of a word;  word-bit, word-slots  a word as 64 bytes, and as 64 slots
+--   no_bytes, last_bit, last-bits    the word after the last whole one as 64 bytes, and its slots
 --   primary-bits         bits are primary bytes
 --   count_none, part_none, index-none    a map below 255 has no overflow entry, and its file no index
 -- Axioms: none.
@@ -10,7 +10,7 @@ use Prim.Native.Nat.{ℕ, ◌+◌, ◌*◌, ◌/◌, ◌%◌, ◌^◌, ◌≤◌
 use native.Mathlib.Nat.{zero-add}
 use native.Mathlib.Omega.{arith}
 use mathlib.Core.List.{List, []}
-use lib.ListN.{length, get_or, replicate, get_or-eq_default}
+use lib.ListN.{length, get_or, take, drop, replicate, get_or-eq_default}
 use lib.Seq.{sets}
 use Rattle.pciv_bytes.specs.Ranges.{table, joined}
 use Rattle.pciv_bytes.specs.ByteAt.{byte_at}
@@ -23,12 +23,13 @@ use Rattle.pciv_format.proofs.LayoutLaws.{index_step-few, index_len-zero}
 use Rattle.pciv_build.specs.Build.{index_from}
 use Rattle.pciv_build.proofs.EntriesLaws.{slots_from-start, slots_from-gap, slots_from-end}
 use Rattle.pciv_format.proofs.BitLaws.{bit_at-shr, bit_at-mod, bit_at-none}
-use Rattle.pciv_format.proofs.MaskLaws.{flag-mask_has}
+use Rattle.pciv_format.proofs.MaskLaws.{flag-mask_has, word-of-mask}
 use Rattle.pciv_mask_bytes.specs.Rows.{bit_rows}
+use Rattle.pciv_mask_bytes.proofs.SlotLaws.{part-table}
 
 -- ---- rows
 
-pub bit_rows-at : (b j : ℕ) → b < 256 → j < 8 → get_or bit_rows (8 * b + j) 0 ≡ bit_at b j
+bit_rows-at : (b j : ℕ) → b < 256 → j < 8 → get_or bit_rows (8 * b + j) 0 ≡ bit_at b j
 unfolding bit_rows
 bit_rows-at b j hb hj =
     let e : (8 * b + j) / 8 ≡ b = omega arith in
@@ -36,9 +37,16 @@ bit_rows-at b j hb hj =
     get_or-table (λ (i : ℕ). bit_at (i / 8) (i % 8)) 0 0 2048 (8 * b + j) (omega arith)
     ∙ rw (zero-add (8 * b + j), e, g)
 
-pub bits_row-table : (b : ℕ) → bits_row b ≡ table (bit_at b) 0 8
+bits_row-table : (b : ℕ) → bits_row b ≡ table (bit_at b) 0 8
 unfolding bits_row
 bits_row-table b = refl
+
+pub row-is : (b : ℕ) → b < 256 → take 8 (drop (8 * b) bit_rows) ≡ bits_row b
+unfolding bit_rows
+row-is b h =
+    let l : length bit_rows ≡ 2048 = length-table (λ (i : ℕ). bit_at (i / 8) (i % 8)) 0 2048 in
+    part-table bit_rows (bit_at b) (8 * b) 0 8 (omega arith) (λ j hj. bit_rows-at b j h hj ∙ ap (bit_at b) (sym (zero-add j)))
+    ∙ sym (bits_row-table b)
 
 -- ---- a word as bytes
 
@@ -60,6 +68,12 @@ word-bit d b x j space is h =
     ∙ get_or-table (bit_at x) 0 0 64 j h
     ∙ ap (bit_at x) (zero-add j)
 
+-- its bits are those of 64 slots
+pub word-slots : (ws : List ℕ) (w : ℕ) → table (bit_at (get_or ws w 0)) 0 64 ≡ table (mask_value ws) (64 * w) 64
+word-slots ws w =
+    let e : 64 * w / 64 ≡ w = omega arith in
+    rw e at (word-of-mask ws (64 * w) (omega arith))
+
 -- ---- the slots after the last whole word
 
 -- where there is no word
@@ -79,6 +93,13 @@ last_bit b ws n i is low high =
     ∙ ap (bit_at x) (zero-add (i % 64))
     ∙ sym (flag-mask_has ws (n / 64) (i % 64) (omega arith))
     ∙ ap (mask_value ws) e
+
+pub last-bits : (b ws : List ℕ) (n w : ℕ) → b ≡ table (bit_at (get_or ws (n / 64) 0)) 0 64 → w ≡ n / 64
+    → take (n % 64) b ≡ table (mask_value ws) (64 * w) (n % 64)
+last-bits b ws n w is last =
+    let l : length b ≡ 64 = ap length is ∙ length-table (bit_at (get_or ws (n / 64) 0)) 0 64 in
+    part-table b (mask_value ws) 0 (64 * w) (n % 64) (omega arith)
+    (λ j h. ap (byte_at b) (omega arith) ∙ last_bit b ws n (64 * w + j) is (omega arith) (omega arith))
 
 -- ---- a map of 0 and 1
 
