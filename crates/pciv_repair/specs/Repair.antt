@@ -1,6 +1,7 @@
 -- What a repair answers and lists (docs/FORMAT.md, "Repair"). b are the bytes of a file, with n and k as the caller
 -- gives them.
 --   field_at i, field_of b i    the offset of header field i, of six, and its number in b
+--   change_number kind        the number of a kind of change
 --   Correction                a change: its kind, its place, the number before and after it, by `correction`
 --   field_line, dropped_line, set_line, index_line    a change of each kind
 --   other_field b f i          header field i is another one in the file f than in b
@@ -23,6 +24,8 @@ use Rattle.pciv_format.specs.Refusals.{Outcome, refuse, refuse_if, written}
 use Rattle.pciv_format.specs.Check.{file_parts}
 use Rattle.pciv_repair_file.specs.Repaired.{is_kept, is_set, repaired_at, repaired_file, bytes_after, rebuilt_index, same}
 use Rattle.pciv_repair.specs.declared.Repaired.{Repaired}
+use Rattle.pciv_repair.specs.declared.lines.ChangeKind.{ChangeKind}
+use Rattle.pciv_repair.specs.declared.lines.ChangeKind.TheVariants.{FieldChanged, EntryDropped, ByteSet, IndexChanged}
 
 -- ---- the header
 
@@ -34,6 +37,13 @@ unfoldable pub field_of : List ℕ → ℕ → ℕ
 field_of b i = get (cond (ltb i 2) 4 8) b (field_at i)
 
 -- ---- a change
+
+-- the number of its kind in the list
+abbrev pub change_number : ChangeKind → ℕ
+change_number FieldChanged = 1
+change_number EntryDropped = 2
+change_number ByteSet = 3
+change_number IndexChanged = 4
 
 pub record Correction : Type 0 where
   pub kind : ℕ

@@ -12,7 +12,7 @@ ghost use Rattle.pciv_repair_file.specs.Repaired.{PartsGiven};
 ghost use Rattle.pciv_repair.specs.Repair.{set_lines, index_lines, corrections, numbers_of, repair_outcome};
 ghost use Rattle.pciv_repair.specs.Repair.{repair_buffer, repair_list};
 
-use crate::lines::{INDEX, count_fields, put_dropped, put_fields, put_line, put_set};
+use crate::lines::{ChangeKind, count_fields, put_dropped, put_fields, put_line, put_set};
 use pciv_build::put_header;
 use pciv_format::{HEADER_LEN, MAX_SLOTS, Refusal, RefusalKind, Summary};
 use pciv_layout::index_len;
@@ -94,7 +94,7 @@ fn put_index(
     put_line(
         list,
         line,
-        INDEX,
+        ChangeKind::IndexChanged,
         0,
         file.len() - after,
         16 * index_len(kept),
@@ -126,7 +126,13 @@ fn put_lines(
 }
 
 // The file and the list, or refusal 12.
-fn rebuild(file: &[u8], n: usize, k: usize, out: &mut [u8], list: &mut [usize]) -> Result<Repaired, Refusal>
+fn rebuild(
+    file: &[u8],
+    n: usize,
+    k: usize,
+    out: &mut [u8],
+    list: &mut [usize],
+) -> Result<Repaired, Refusal>
     requires { PartsGiven file.now n k }
     ensures answer { result ≡ repair_outcome file.now n k (length out.old)
         (length list.old) }
@@ -151,7 +157,13 @@ fn rebuild(file: &[u8], n: usize, k: usize, out: &mut [u8], list: &mut [usize]) 
 // them, writes it to the front of `out`, and lists every change at the front of `list`, CORRECTION_LEN numbers each:
 // kind, place, the number before and after. Refusals: 3, 4 and 5 with map 1, then 12 for either of the two.
 // A refused call changes nothing; bytes past the file and numbers past the list stay.
-pub fn repair(file: &[u8], n: usize, k: usize, out: &mut [u8], list: &mut [usize]) -> Result<Repaired, Refusal>
+pub fn repair(
+    file: &[u8],
+    n: usize,
+    k: usize,
+    out: &mut [u8],
+    list: &mut [usize],
+) -> Result<Repaired, Refusal>
     ensures answer { result ≡ repair_outcome file.now n k (length out.old)
         (length list.old) }
     ensures buffer { out.new
