@@ -10,10 +10,8 @@ fn get_le(b: &[u8], at: usize, w: usize) -> usize
     ensures { result ≡ get w b.now at }
 {
     let mut x: usize = 0;
-    let mut i = 0;
-    while i < w {
-        x |= (b[at + i] as usize) << (8 * i);
-        i += 1;
+    for i in 0..w {
+        x |= usize::from(b[at + i]) << (8 * i);
     }
     x
 }
@@ -48,11 +46,9 @@ fn put_le(out: &mut [u8], at: usize, w: usize, x: usize)
     ensures { out.new ≡ sets out.old at (le w x) }
 {
     let mut y = x;
-    let mut i = 0;
-    while i < w {
+    for i in 0..w {
         out[at + i] = (y % 256) as u8;
         y /= 256;
-        i += 1;
     }
 }
 
