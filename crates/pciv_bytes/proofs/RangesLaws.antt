@@ -74,7 +74,7 @@ map-cong f g (x ∷ xs) same =
     ap₂ (λ (y : ℕ) (l : List ℕ). y ∷ l) (same 0 (omega arith)) (map-cong f g xs (λ i h. same (suc i) (omega arith)))
 
 -- a part of a list, and its first element by itself
-pub part-cons : (l : List ℕ) (at c : ℕ) → at < length l → take (suc c) (drop at l) ≡ get_or l at 0 ∷ take c (drop (suc at) l)
+part-cons : (l : List ℕ) (at c : ℕ) → at < length l → take (suc c) (drop at l) ≡ get_or l at 0 ∷ take c (drop (suc at) l)
 part-cons l at c h = rw (drop-cons l at 0 h)
 
 -- ---- first_from and first_below

@@ -9,8 +9,8 @@ pub fn any_byte(a: &[u8], from: usize, to: usize, x: u8) -> bool
     ensures { result ≡ any_from (λ (i : ℕ). eqb (get_or a.now i 0) x) from (to - from) }
 {
     let mut found = false;
-    for i in from..to {
-        found |= a[i] == x;
+    for y in &a[from..to] {
+        found |= *y == x;
     }
     found
 }

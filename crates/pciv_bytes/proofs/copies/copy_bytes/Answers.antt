@@ -1,5 +1,5 @@
 -- The part of out that copy_from_slice was lent holds src.
-use Rattle.std.proofs.Common.{rules, arith, ◌≡◌, ◌+◌, ◌-◌, ◌≤◌, length}
+use Rattle.std.proofs.Common.{arith}
 use Rattle.pciv_bytes.proofs.WriteLaws.{put_mid-sets}
 use Rattle.pciv_bytes.proofs.copies.copy_bytes.Goals as goal
 
