@@ -67,16 +67,17 @@ fn add_block(of: Term, block: &[u8]) -> usize
     }
 }
 
-// The same over all bytes, block by block.
+// The same over all bytes: whole blocks, and then what is left.
 fn add_up(of: Term, a: &[u8]) -> usize
     requires { sum_from (term_at of a.now) 0 (length a.now) < 2 ^ 64 }
     ensures { result ≡ sum_from (term_at of a.now) 0 (length a.now) }
 {
+    let (blocks, rest) = a.as_chunks::<BLOCK>();
     let mut sum: usize = 0;
-    for block in a.chunks(BLOCK) {
+    for block in blocks {
         sum += add_block(of, block);
     }
-    sum
+    sum + add_block(of, rest)
 }
 
 // How many bytes of a are x.

@@ -61,19 +61,25 @@ fn add_block(of: Term, a: &[u8], b: &[u8]) -> Extremes
     }
 }
 
-// The same over all bytes, block by block.
+// The same over all bytes: whole blocks, and then what is left.
 pub fn add_extremes(of: Term, a: &[u8], b: &[u8]) -> Extremes
     requires a_len { length a.now ≡ length b.now }
     requires a_len_bound { length a.now ≤ 4294967296 }
     ensures { ExtremeSums of a.now b.now 0 (length a.now)
         result.least result.most }
 {
+    let (xs, x_rest) = a.as_chunks::<BLOCK>();
+    let (ys, y_rest) = b.as_chunks::<BLOCK>();
     let mut least: usize = 0;
     let mut most: usize = 0;
-    for (x, y) in a.chunks(BLOCK).zip(b.chunks(BLOCK)) {
+    for (x, y) in xs.iter().zip(ys) {
         let sums = add_block(of, x, y);
         least += sums.least;
         most += sums.most;
     }
-    Extremes { least, most }
+    let rest = add_block(of, x_rest, y_rest);
+    Extremes {
+        least: least + rest.least,
+        most: most + rest.most,
+    }
 }

@@ -75,9 +75,11 @@ pub fn count_full(op: ByteOp, a: &[u8], b: &[u8]) -> usize
     requires { length a.now ≡ length b.now }
     ensures { result ≡ sum_from (full_at op a.now b.now) 0 (length a.now) }
 {
+    let (xs, x_rest) = a.as_chunks::<BLOCK>();
+    let (ys, y_rest) = b.as_chunks::<BLOCK>();
     let mut sum: usize = 0;
-    for (x, y) in a.chunks(BLOCK).zip(b.chunks(BLOCK)) {
+    for (x, y) in xs.iter().zip(ys) {
         sum += count_full_block(op, x, y);
     }
-    sum
+    sum + count_full_block(op, x_rest, y_rest)
 }
