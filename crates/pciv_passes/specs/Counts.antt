@@ -23,8 +23,7 @@ term_of (Passing t) x = flag (passes t x)
 term_of Byte x = x
 
 abbrev pub term_at : Term → List ℕ → ℕ → ℕ
-term_at (Passing t) = test_at t
-term_at Byte = byte_at
+term_at of xs i = term_of of (byte_at xs i)
 
 pub record Part (xs : List ℕ) (from to : ℕ) : Type 0 where
   pub order : from ≤ to
