@@ -12,7 +12,7 @@ ghost use Rattle.pciv_format.specs.Check.{file_parts, bad_index_entry, check_par
 ghost use Rattle.pciv_check_parts.specs.Inside.{PartsInside};
 
 use pciv_bytes::little_endian::{get32, get64};
-use pciv_format::{HEADER_LEN, SENTINEL, Counts, Refusal, RefusalKind};
+use pciv_format::{Counts, HEADER_LEN, Refusal, RefusalKind, SENTINEL};
 use pciv_layout::entries::wrong_entry;
 use pciv_layout::refusals::refuse;
 use pciv_layout::{counts_of, index_len, index_step};

@@ -9,7 +9,7 @@ ghost use Rattle.pciv_format.specs.Check.{file_parts, CheckedMap};
 ghost use Rattle.pciv_format.specs.Read.{primary_part, readings};
 
 use crate::entries::entry_distance;
-use pciv_format::{HEADER_LEN, SENTINEL, Counts, Summary};
+use pciv_format::{Counts, HEADER_LEN, SENTINEL, Summary};
 use pciv_layout::summarized;
 use pciv_passes::counts::{count_byte, sum_bytes};
 

@@ -9,5 +9,5 @@ abbrev pub invariant-loop-j : goal.invariant-loop-j
 invariant-loop-j l =
     record {
       lowest : l.lowest ≡ lowest_slot (file_parts l.file l.n l.k) l.j;
-      right : (i : ℕ) → i < l.j → bad_entry (file_parts l.file l.n l.k) i ≡ false
+      right : (i : ℕ) → i < l.j → bad_entry (file_parts l.file l.n l.k) i ≡ false;
     }

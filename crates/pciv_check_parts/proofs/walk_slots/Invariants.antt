@@ -10,5 +10,5 @@ invariant-loop-i l =
     record {
       few : l.j ≤ l.k;
       walk : Walk (file_parts l.file l.n l.k) l.i l.j;
-      right : (t : ℕ) → t < l.i → bad_slot (file_parts l.file l.n l.k) t ≡ false
+      right : (t : ℕ) → t < l.i → bad_slot (file_parts l.file l.n l.k) t ≡ false;
     }
