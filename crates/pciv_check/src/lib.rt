@@ -99,7 +99,8 @@ pub fn check(file: &[u8]) -> Result<Summary, Refusal>
     ensures answer { result ≡ check_file 1 file.now }
 {
     let counts = check_counts(file, 1)?;
-    Ok(summary_of(file, counts))
+    let summary = summary_of(file, counts);
+    Ok(summary)
 }
 
 // The same of the file at the front of a buffer that is to be edited. Refusals: 1 to 8, with map 1, and 5 only where the
