@@ -14,12 +14,13 @@ ghost use Rattle.pciv_check.specs.Length.{wrong_length};
 
 use pciv_bytes::little_endian::get64;
 use pciv_check_parts::check_parts;
-use pciv_format::{HEADER_LEN, MAGIC, MAX_SLOTS, Counts, Refusal, RefusalKind, Summary};
+use pciv_format::{Counts, HEADER_LEN, MAGIC, MAX_SLOTS, Refusal, RefusalKind, Summary};
 use pciv_layout::counts_of;
 use pciv_layout::refusals::refuse;
 use pciv_map::totals::summary_of;
 
 // Refusals 1 to 4, else the counts of the header.
+#[tactic(auto, unfolding(pciv_format::specs::Check::check_header, pciv_format::specs::Check::bad_counts, pciv_format::specs::Layout::counts_of))]
 fn check_header(file: &[u8], map: usize) -> Result<Counts, Refusal>
     ensures { result ≡ check_header map file.now }
 {
@@ -63,6 +64,7 @@ fn wrong_length(whole: bool, have: usize, len: usize) -> bool
 }
 
 // Refusals 1 to 8 with the map's number, of a whole file or of the file at the front of a buffer.
+#[tactic(auto, unfolding(pciv_format::specs::Check::check_with))]
 fn check_with(file: &[u8], map: usize, whole: bool) -> Result<Counts, Refusal>
     ensures { result ≡ check_with (wrong_length whole) map file.now }
 {
@@ -97,7 +99,8 @@ pub fn check(file: &[u8]) -> Result<Summary, Refusal>
     ensures answer { result ≡ check_file 1 file.now }
 {
     let counts = check_counts(file, 1)?;
-    Ok(summary_of(file, counts))
+    let summary = summary_of(file, counts);
+    Ok(summary)
 }
 
 // The same of the file at the front of a buffer that is to be edited. Refusals: 1 to 8, with map 1, and 5 only where the

@@ -16,6 +16,7 @@ pub struct PairCounts {
 
 // The counts of two files with equally many slots. Refusals: 1 to 8 of the first with map 1, 1 to 8 of the second with
 // map 2, then 10.
+#[tactic(auto, unfolding(crate::specs::Pair::pair_counts))]
 pub fn check_pair(a: &[u8], b: &[u8]) -> Result<PairCounts, Refusal>
     ensures answer { result ≡ pair_counts a.now b.now }
 {

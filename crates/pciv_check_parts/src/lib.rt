@@ -12,7 +12,7 @@ ghost use Rattle.pciv_format.specs.Check.{file_parts, bad_index_entry, check_par
 ghost use Rattle.pciv_check_parts.specs.Inside.{PartsInside};
 
 use pciv_bytes::little_endian::{get32, get64};
-use pciv_format::{HEADER_LEN, SENTINEL, Counts, Refusal, RefusalKind};
+use pciv_format::{Counts, HEADER_LEN, Refusal, RefusalKind, SENTINEL};
 use pciv_layout::entries::wrong_entry;
 use pciv_layout::refusals::refuse;
 use pciv_layout::{counts_of, index_len, index_step};
@@ -25,8 +25,7 @@ fn first_bad_entry(file: &[u8], n: usize, k: usize) -> usize
 {
     let end = HEADER_LEN + n;
     let mut lowest: usize = 0;
-    let mut j: usize = 0;
-    while j < k {
+    for j in 0..k {
         let at = end + 12 * j;
         let slot = get64(file, at);
         let distance = get32(file, at + 8);
@@ -34,7 +33,6 @@ fn first_bad_entry(file: &[u8], n: usize, k: usize) -> usize
             return j;
         }
         lowest = slot + 1;
-        j += 1;
     }
     k
 }
@@ -46,8 +44,7 @@ fn walk_slots(file: &[u8], n: usize, k: usize) -> usize
     ensures { result ≡ first_below (bad_slot (file_parts file.now n k)) n }
 {
     let mut j: usize = 0;
-    let mut i: usize = 0;
-    while i < n {
+    for i in 0..n {
         if file[HEADER_LEN + i] == SENTINEL {
             if k <= j {
                 return i;
@@ -57,7 +54,6 @@ fn walk_slots(file: &[u8], n: usize, k: usize) -> usize
             }
             j += 1;
         }
-        i += 1;
     }
     n
 }
@@ -82,8 +78,7 @@ fn first_bad_index_entry(file: &[u8], n: usize, k: usize) -> usize
 {
     let step = index_step(k);
     let m = index_len(k);
-    let mut i: usize = 0;
-    while i < m {
+    for i in 0..m {
         let j = i * step;
         let at = HEADER_LEN + n + 12 * k + 16 * i;
         if get64(file, at) != get64(file, HEADER_LEN + n + 12 * j) {
@@ -93,7 +88,6 @@ fn first_bad_index_entry(file: &[u8], n: usize, k: usize) -> usize
         if is_wrong {
             return i;
         }
-        i += 1;
     }
     m
 }

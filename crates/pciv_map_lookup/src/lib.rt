@@ -14,7 +14,7 @@ ghost use Rattle.pciv_format.specs.Read.{located};
 ghost use Rattle.pciv_map_lookup.specs.Lookup.{lower_bound, entries_below, block_start, block_end, key_at, KeyTable};
 
 use pciv_bytes::little_endian::get64;
-use pciv_format::{HEADER_LEN, SENTINEL, Located, Origin};
+use pciv_format::{HEADER_LEN, Located, Origin, SENTINEL};
 use pciv_map::entries::entry_distance;
 
 // Keys and slots are below half of the numbers that fit.

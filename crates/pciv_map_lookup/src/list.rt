@@ -4,7 +4,7 @@ ghost use Rattle.std.proofs.lemmas.List.Edits.{sets};
 ghost use Rattle.pciv_format.specs.Parts.{entry_of, value_of};
 ghost use Rattle.pciv_format.specs.Check.{file_parts, CheckedMap};
 
-use crate::eight::{locate8, locate_few};
+use crate::eight::{locate_few, locate8};
 use pciv_format::{HEADER_LEN, SENTINEL};
 
 // The distances at the slots of a list, which are all below n, and the numbers of their overflow entries, to the front of
@@ -30,14 +30,12 @@ pub fn locate_into(
 {
     let mut places = [0usize; 8];
     let mut waiting = 0;
-    let mut i = 0;
-    while i < slots.len() {
-        let byte = file[HEADER_LEN + slots[i]];
+    for (i, slot) in slots.iter().enumerate() {
+        let byte = file[HEADER_LEN + *slot];
         distances[i] = byte as u32;
         entries[i] = k;
         places[waiting] = i;
         waiting += (byte == SENTINEL) as usize;
-        i += 1;
         if waiting == 8 {
             locate8(distances, entries, file, n, k, slots, &places);
             waiting = 0;

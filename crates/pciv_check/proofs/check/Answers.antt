@@ -2,15 +2,11 @@
 use Rattle.std.proofs.Common.{Ok, sym, ap, ◌∙◌}
 use Rattle.pciv_format.specs.Layout.{summarize}
 use Rattle.pciv_format.proofs.CheckLaws.{done-counts}
-use Rattle.pciv_format.proofs.RefusalsLaws.{passed_on}
 use Rattle.pciv_format.proofs.ReadLaws.{total-is}
 use Rattle.pciv_check.proofs.check.Goals as goal
 
-pub returns-in_err-counts : goal.returns-in_err-counts
-returns-in_err-counts c = record { answer = rw (← c.in_err-counts.ensures.answer) (passed_on _ _ c.from_residual.ensures.1) }
-
-pub summary_of-requires : goal.summary_of-requires
-summary_of-requires c = (done-counts 1 _ _ (sym c.in_ok-counts.ensures.answer)).0
+pub summary_of-summary-requires : goal.summary_of-summary-requires
+summary_of-summary-requires c = (done-counts 1 _ _ (sym c.in_ok-counts.ensures.answer)).0
 
 pub returns : goal.returns
 returns c =
@@ -18,5 +14,5 @@ returns c =
     let map = (done-counts 1 _ _ (sym c.in_ok-counts.ensures.answer)).0.header in
     record {
       answer = rw (← c.in_ok-counts.ensures.answer)
-      (ap Ok (c.summary_of.ensures ∙ ap (summarize s) (sym (total-is c.args.file.now s.n s.k map.n_is map.k_is))));
+          (ap Ok (c.summary_of-summary.ensures ∙ ap (summarize s) (sym (total-is c.args.file.now s.n s.k map.n_is map.k_is))));
     }
