@@ -6,7 +6,7 @@ ghost use Rattle.pciv_c_cells.specs.Cells.{ToldNumber, ToldCounts};
 
 use pciv_bundle::write::write;
 use pciv_bundle::{nearest, read};
-use pciv_c_cells::{tell_counts, tell_value, tell_value};
+use pciv_c_cells::{tell_counts, tell_value};
 
 #[unsafe(no_mangle)]
 pub extern "C" fn pciv_bundle_read(
