@@ -71,8 +71,9 @@ fn put_entries(out: &mut [u8], start: usize, slots: &[usize], distances: &[u32])
     requires { (length slots.now ≡ length distances.now) × (start + 12 * length slots.now ≤ length out.old) }
     ensures { out.new ≡ sets out.old start (entries_from (at slots.now) (at distances.now) 0 (length slots.now)) }
 {
-    for (j, slot) in slots.iter().enumerate() {
-        put_entry(out, start + 12 * j, *slot, distances[j]);
+    let mut place = start;
+    for (slot, distance) in slots.iter().zip(distances) {
+        place = put_entry(out, place, *slot, *distance);
     }
 }
 

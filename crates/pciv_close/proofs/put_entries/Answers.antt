@@ -1,11 +1,25 @@
 -- Proves pciv_close::put_entries, by the laws of SoundLaws.antt.
-use Rattle.std.proofs.Common.{arith}
+use Rattle.std.proofs.Common.{◌≡◌, ◌+◌, ◌∷◌, [], ◌++◌, length, length-append, arith, rules}
+use Rattle.std.proofs.lemmas.Slice.Zip.{zip_turn, zip_end}
 use Rattle.pciv_close.proofs.SoundLaws.{entries-more, entries-end}
 use Rattle.pciv_close.proofs.put_entries.Goals as goal
 
-pub loop-j-preserved : goal.loop-j-preserved
-loop-j-preserved c =
-    entries-more _ _ _ _ _ c.loop-j.j _ c.loop-j.invariant (omega arith) _ c.put_entry.ensures.buffer
+pub loop-slot-preserved : goal.loop-slot-preserved
+loop-slot-preserved c =
+    let l = c.loop-slot in
+    let turn = zip_turn c.args.slots.now c.args.distances.now l.yielded c.into_iter-slot-iterator.result l.slot-iterator c.next.new.self
+    c.next.result (search rules) (search rules) l.yielded_by (c.in-Some.slot, c.in-Some.distance) c.in-Some.is c.next.ensures.steps in
+    let e : length (l.yielded ++ ((c.in-Some.slot, c.in-Some.distance) ∷ [])) ≡ length l.yielded + 1 = simp length-append in
+    record {
+      place = rw e (omega (arith, l.invariant.place));
+      left = rw e
+          (entries-more _ _ _ _ _ (length l.yielded) _ l.invariant.left turn.0 _
+          (rw (← l.invariant.place, ← turn.2 0, ← turn.3 0) c.put_entry-place.ensures.buffer));
+    }
 
 pub returns : goal.returns
-returns c = entries-end _ _ _ _ _ c.loop-j.j _ c.loop-j.invariant (omega arith)
+returns c =
+    let l = c.loop-slot in
+    let all = zip_end c.args.slots.now c.args.distances.now l.yielded c.into_iter-slot-iterator.result l.slot-iterator c.next.new.self
+    c.next.result (search rules) (search rules) l.yielded_by c.in-None.is c.next.ensures.steps in
+    entries-end _ _ _ _ _ (length l.yielded) _ l.invariant.left (omega arith)
