@@ -22,7 +22,7 @@ fn lower(x: u32, m: u32) -> u32
     requires { 1 ≤ x }
     ensures { result ≡ lowered m x }
 {
-    if x <= m { 1 } else { x - m }
+    x.saturating_sub(m).max(1)
 }
 
 // How many slots of the result are in overflow.
@@ -31,10 +31,8 @@ fn count_lowered(file: &[u8], n: usize, k: usize, m: u32) -> usize
     ensures { result ≡ overflow_count n (lowered_at (file_parts file.now n k) m) }
 {
     let mut count: usize = 0;
-    let mut j = 0;
-    while j < k {
+    for j in 0..k {
         let x = lower(entry_distance(file, n, j), m);
-        j += 1;
         if 255 <= x {
             count += 1;
         }
@@ -56,11 +54,9 @@ fn put_primary(out: &mut [u8], file: &[u8], n: usize, k: usize, m: u32)
         out,
         HEADER_LEN,
     );
-    let mut j = 0;
-    while j < k {
+    for j in 0..k {
         let slot = entry_slot(file, n, j);
         out[HEADER_LEN + slot] = primary_byte(lower(entry_distance(file, n, j), m));
-        j += 1;
     }
 }
 
@@ -71,11 +67,9 @@ fn put_entries(out: &mut [u8], file: &[u8], n: usize, k: usize, m: u32)
     ensures { out.new ≡ sets out.old (40 + n) (overflow_part n (lowered_at (file_parts file.now n k) m)) }
 {
     let mut at = HEADER_LEN + n;
-    let mut j = 0;
-    while j < k {
+    for j in 0..k {
         let slot = entry_slot(file, n, j);
         let x = lower(entry_distance(file, n, j), m);
-        j += 1;
         if 255 <= x {
             at = put_entry(out, at, slot, x);
         }
@@ -83,7 +77,13 @@ fn put_entries(out: &mut [u8], file: &[u8], n: usize, k: usize, m: u32)
 }
 
 // Writes the result's file to the front of out. Refusal: 12.
-pub fn lowered_into(file: &[u8], n: usize, k: usize, m: u32, out: &mut [u8]) -> Result<Summary, Refusal>
+pub fn lowered_into(
+    file: &[u8],
+    n: usize,
+    k: usize,
+    m: u32,
+    out: &mut [u8],
+) -> Result<Summary, Refusal>
     requires { CheckedMap file.now n k }
     ensures answer { result ≡ map_into n (lowered_at (file_parts file.now n k) m) (length out.old) }
     ensures buffer { out.new ≡ file_buffer (map_into n (lowered_at (file_parts file.now n k) m) (length out.old)) n (lowered_at (file_parts file.now n k) m) out.old }
