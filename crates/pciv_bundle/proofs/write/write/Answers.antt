@@ -21,8 +21,8 @@ checked : (c : After-check_lent) → (let a = c.args in
 checked c =
     let a = c.args in
     c.check_lent.ensures
-    ∙ write-slots (lent a.frames.now) a.count c.if-count-lt1.false c.if-has_many.false _
-      (used-length a.frames.now a.count c.told-frames c.if-has_many.false)
+    ∙ write-slots (lent a.frames.now) a.count (omega arith) (omega arith) _
+      (used-length a.frames.now a.count c.told-frames (omega arith))
       (rw lent-at at c.slots_of.ensures)
 
 -- the frames that are used, as a slice
@@ -34,7 +34,7 @@ short c n e =
     let many = length-take-le a.count a.frames.now (omega arith) in (
       omega (arith, many),
       subst ShortFrames (used-lent a.frames.now a.count)
-      (write-frames (lent a.frames.now) a.count c.if-count-lt1.false c.if-has_many.false n (sym (checked c) ∙ e)),
+      (write-frames (lent a.frames.now) a.count (omega arith) (omega arith) n (sym (checked c) ∙ e)),
     )
 
 -- the length of their bundle
@@ -59,7 +59,7 @@ unfolding bundle_write_buffer
 returns-in_err-n c =
     let a = c.args in
     let e = sym (checked (goal.at.returns-in_err-n c).After-check_lent) ∙ c.in_err-n.was in
-    let no = write-refused (lent a.frames.now) a.count c.if-count-lt1.false c.if-has_many.false (length a.out.now) _ e in
+    let no = write-refused (lent a.frames.now) a.count (omega arith) (omega arith) (length a.out.now) _ e in
     record { answer = passed_on _ _ c.from_residual.ensures.1 ∙ sym no; buffer = rw no }
 
 pub bundle_len-len-requires : goal.bundle_len-len-requires
@@ -70,7 +70,7 @@ unfolding bundle_write_buffer
 returns-then-out-len c =
     let a = c.args in
     let z = goal.at.returns-then-out-len c in
-    let no = write-short (lent a.frames.now) a.count c.if-count-lt1.false c.if-has_many.false _
+    let no = write-short (lent a.frames.now) a.count (omega arith) (omega arith) _
     (sym (checked z.After-check_lent) ∙ c.in_ok-n.was) (length a.out.now) (omega (arith, long z.After-bundle_len-len)) in
     record { answer = c.refuse-then-out-len.ensures ∙ sym no; buffer = rw no }
 
@@ -81,9 +81,9 @@ put_bundle-requires c =
     record {
       short_frames = short z.After-check_lent _ c.in_ok-n.was;
       n_bound = (
-        write-n (lent a.frames.now) a.count c.if-count-lt1.false c.if-has_many.false _
+        write-n (lent a.frames.now) a.count (omega arith) (omega arith) _
         (sym (checked z.After-check_lent) ∙ c.in_ok-n.was)
-        (used-length a.frames.now a.count c.told-frames c.if-has_many.false),
+        (used-length a.frames.now a.count c.told-frames (omega arith)),
         omega (arith, c.bundle_len-len.ensures c.in_ok-n.n),
       );
     }
@@ -98,7 +98,7 @@ returns c =
     let len = long z.After-bundle_len-len in
     let space : length (bundle_of n (take a.count fs)) ≤ length a.out.now = omega (arith, len) in
     record {
-      answer = ap Ok len ∙ sym (write_done fs a.count c.if-count-lt1.false c.if-has_many.false n e (length a.out.now) space);
+      answer = ap Ok len ∙ sym (write_done fs a.count (omega arith) (omega arith) n e (length a.out.now) space);
       buffer = rw (← used-lent) at c.put_bundle.ensures
-      ∙ write-buffer fs a.count c.if-count-lt1.false c.if-has_many.false n e a.out.now space;
+      ∙ write-buffer fs a.count (omega arith) (omega arith) n e a.out.now space;
     }
