@@ -12,7 +12,7 @@ ghost use Rattle.pciv_disparity.specs.Frames.{bytes_of, high_of, front_outcome, 
 use pciv_build::begin;
 use pciv_bytes::find::find_byte;
 use pciv_bytes::little_endian::put16;
-use pciv_format::{HEADER_LEN, SENTINEL, UNINDEXED_MAX, Counts, Refusal};
+use pciv_format::{Counts, HEADER_LEN, Refusal, SENTINEL, UNINDEXED_MAX};
 use pciv_layout::primary_byte;
 use pciv_passes::counts::{count_byte, count_from};
 
@@ -21,11 +21,9 @@ pub(crate) fn primary_bytes(table: &[u32; 256]) -> [u8; 256]
     ensures { result ≡ bytes_of table.now }
 {
     let mut bytes: [u8; 256] = [0; 256];
-    let mut d = 0;
-    while d < 256 {
+    for d in 0..256 {
         let x = table[d];
         bytes[d] = primary_byte(x);
-        d += 1;
     }
     bytes
 }
@@ -36,10 +34,8 @@ fn high_bytes(bytes: &[u8; 256]) -> [u16; 256]
     ensures { result ≡ high_of bytes.now }
 {
     let mut high: [u16; 256] = [0; 256];
-    let mut d = 0;
-    while d < 256 {
+    for d in 0..256 {
         high[d] = 256 * bytes[d] as u16;
-        d += 1;
     }
     high
 }
@@ -95,10 +91,8 @@ fn count_each(frame: &[u8], bytes: &[u8; 256]) -> usize
         (frame_distance bytes.now frame.now) }
 {
     let mut count: u32 = 0;
-    let mut i = 0;
-    while i < frame.len() {
-        count += (bytes[frame[i] as usize] == SENTINEL) as u32;
-        i += 1;
+    for d in frame {
+        count += (bytes[*d as usize] == SENTINEL) as u32;
     }
     count as usize
 }

@@ -33,11 +33,7 @@ fn distance_of(constant: u32, d: u32) -> u32
     if d == 0 {
         return 0;
     }
-    let quotient = constant / d;
-    if quotient == 0 {
-        return 1;
-    }
-    quotient
+    (constant / d).max(1)
 }
 
 // The disparity table of a device constant. Refusal 19 for the constant 0, with a table of zeros.
@@ -51,10 +47,8 @@ pub fn fill_table(constant: u32) -> TableAnswer
             table,
         };
     }
-    let mut d: u32 = 0;
-    while d < 256 {
-        table[d as usize] = distance_of(constant, d);
-        d += 1;
+    for d in 0..256 {
+        table[d] = distance_of(constant, d as u32);
     }
     TableAnswer {
         verdict: Ok(()),
@@ -75,8 +69,7 @@ fn put_entries(out: &mut [u8], frame: &[u8], table: &[u32; 256], k: usize)
     let n = frame.len();
     put_slots(out, n);
     let mut place = HEADER_LEN + n;
-    let end = place + 12 * k;
-    while place < end {
+    for _ in 0..k {
         let slot = get64(out, place);
         place = put_entry(out, place, slot, table[frame[slot] as usize]);
     }

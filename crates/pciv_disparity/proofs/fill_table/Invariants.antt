@@ -1,11 +1,7 @@
--- Invariant: the entries from d on are left to write. Falls: 256 - d.
-use Rattle.std.proofs.Common.{◌-◌, ◌≤◌}
+-- The entries from d on are left to write.
 use Rattle.pciv_bytes.proofs.WriteLaws.{Left}
 use Rattle.pciv_disparity.specs.Disparity.{disparity_distance}
 use Rattle.pciv_disparity.proofs.fill_table.Given as goal
 
 abbrev pub invariant-loop-d : goal.invariant-loop-d
-invariant-loop-d l = (l.d ≤ 256) × Left (disparity_distance l.constant) 256 l.initial.table l.table l.d
-
-abbrev pub decreases-loop-d : goal.decreases-loop-d
-decreases-loop-d l = 256 - l.d
+invariant-loop-d l = Left (disparity_distance l.constant) 256 l.initial.table l.table l.d
