@@ -20,5 +20,8 @@ pub fn find_byte(a: &[u8], from: usize, to: usize, x: u8) -> usize
     requires { (from ≤ to) × (to ≤ length a.now) }
     ensures { result ≡ first_from (λ (i : ℕ). eqb (get_or a.now i 0) x) from (to - from) }
 {
-    from + a[from..to].iter().position(|y| *y == x).unwrap_or(to - from)
+    from + a[from..to]
+        .iter()
+        .position(|y| *y == x)
+        .unwrap_or(to - from)
 }

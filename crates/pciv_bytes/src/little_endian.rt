@@ -1,5 +1,5 @@
 // Little-endian numbers at a place of a slice (docs/FORMAT.md, "Conventions").
-// At a constant width the compiler turns each loop into a single load or store.
+// At a constant width the compiler turns each of them into a single load or store.
 ghost use Rattle.std.specs.Prelude.{◌≡◌, ◌+◌, ◌≤◌, length};
 ghost use Rattle.std.proofs.lemmas.List.Edits.{sets};
 ghost use Rattle.pciv_bytes.specs.LittleEndian.{le, get};

@@ -1,13 +1,14 @@
 -- Laws of a sum over two lists of the same length that are taken block by block, and then what is left.
 --   over h xs ys i              h of the two bytes i
 --   Left h n a b i sum          the invariant: `sum`, and the sum over what is behind i blocks of n bytes, are the whole
+--   block_is, rest_is           block i of the library's, and what is left behind all of them
 --   left-start, -block, -end    before the first block, a block further, and with what is left behind the last
 -- Axioms: none.
 use mathlib.Core.Path.{◌≡◌, sym, ap, ap₂, ◌∙◌}
-use Prim.Native.Nat.{ℕ, zero, suc, ◌+◌, ◌*◌, ◌/◌, ◌≤◌, ◌<◌}
+use Prim.Native.Nat.{ℕ, zero, suc, ◌+◌, ◌*◌, ◌/◌, ◌<◌}
 use native.Mathlib.Nat.{zero-add, zero-mul}
 use native.Mathlib.Omega.{arith}
-use mathlib.Core.List.{List, [], ◌∷◌, ◌++◌}
+use mathlib.Core.List.{List, ◌++◌}
 use lib.ListN.{length, get_or, take, drop, length-append, length-take, length-drop, get_or-append, take-append-drop}
 use lib.Seq.{get_or-append-add, drop-drop}
 use Rattle.std.specs.Simd.{first_chunks}
@@ -45,6 +46,11 @@ pub block_is : (n : ℕ) (xs : List ℕ) (blocks : List (List ℕ)) (i : ℕ) (d
     → blocks ≡ first_chunks n (length xs / n) xs → i < length xs / n → get_or blocks i d ≡ take n (drop (i * n) xs)
 block_is n xs blocks i d is h = rw is (block-at n (length xs / n) xs i d h)
 
+-- what is left behind all blocks
+pub rest_is : (n : ℕ) (xs rest : List ℕ) (i : ℕ) → rest ≡ drop (length xs / n * n) xs → i ≡ length xs / n
+    → rest ≡ drop (i * n) xs
+rest_is n xs rest i is all = rw (is, all)
+
 pub record Left (h : ℕ → ℕ → ℕ) (n : ℕ) (a b : List ℕ) (i sum : ℕ) : Type 0 where
   pub same : length a ≡ length b
   pub rest : sum + sum_from (over h (drop (i * n) a) (drop (i * n) b)) 0 (length (drop (i * n) a))
@@ -63,8 +69,8 @@ module _ {h : ℕ → ℕ → ℕ} {n : ℕ} {a b : List ℕ} {i sum : ℕ} (l :
       ∙ ap (λ (t : List ℕ). take n (drop (i * n) xs) ++ t) (drop-drop n (i * n) xs ∙ ap (λ (k : ℕ). drop k xs) m) in
       let size : length x ≡ length y = rw (e, f) (simp (length-take, length-drop, l.same)) in
       let parts : sum_from (over h (drop (i * n) a) (drop (i * n) b)) 0 (length (drop (i * n) a))
-          ≡ sum_from (over h x y) 0 (length x)
-          + sum_from (over h (drop ((i + 1) * n) a) (drop ((i + 1) * n) b)) 0 (length (drop ((i + 1) * n) a)) =
+      ≡ sum_from (over h x y) 0 (length x)
+      + sum_from (over h (drop ((i + 1) * n) a) (drop ((i + 1) * n) b)) 0 (length (drop ((i + 1) * n) a)) =
       ap₂ (λ (xs ys : List ℕ). sum_from (over h xs ys) 0 (length xs))
       (cut a ∙ ap (λ (t : List ℕ). t ++ drop ((i + 1) * n) a) (sym e))
       (cut b ∙ ap (λ (t : List ℕ). t ++ drop ((i + 1) * n) b) (sym f))

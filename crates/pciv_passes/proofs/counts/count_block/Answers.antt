@@ -1,6 +1,5 @@
 use Rattle.std.proofs.Common.{arith, ◌+◌, sym, ℕ}
 use Rattle.pciv_bytes.specs.ByteAt.{byte_at}
-use Rattle.pciv_bytes.proofs.RangesLaws.{flag-le}
 use Rattle.pciv_bytes.proofs.SumLaws.{sum_from-none, sum_from-next, sum_from-flag-le}
 use Rattle.pciv_passes.specs.Counts.{passes, test_at}
 use Rattle.pciv_passes.proofs.counts.count_block.Goals as goal

@@ -1,4 +1,4 @@
-use Rattle.std.proofs.Common.{arith, ◌+◌, sym, ℕ}
+use Rattle.std.proofs.Common.{arith, ◌+◌, sym}
 use Rattle.pciv_bytes.specs.ByteAt.{byte_at}
 use Rattle.pciv_bytes.proofs.SumLaws.{sum_from-none, sum_from-next, sum_from-byte_at-le}
 use Rattle.pciv_passes.proofs.counts.sum_block.Goals as goal

@@ -1,5 +1,4 @@
-use Rattle.std.proofs.Common.{arith, ap, ◌∙◌, ◌+◌, ◌-◌, ℕ}
-use Rattle.pciv_bytes.specs.Ranges.{flag}
+use Rattle.std.proofs.Common.{arith, ◌-◌}
 use Rattle.pciv_passes.specs.Counts.{passes}
 use Rattle.pciv_passes.specs.declared.counts.Term.TheVariants.{Passing}
 use Rattle.pciv_passes.proofs.ExtremesLaws.{extremes-none, extremes-next, counts-le}
@@ -12,8 +11,7 @@ loop-i-init c = extremes-none (Passing c.args.test) c.args.a.now c.args.b.now
 pub loop-i-preserved : goal.loop-i-preserved
 loop-i-preserved c =
     extremes-next (Passing c.args.test) c.args.a.now c.args.b.now c.loop-i.i _ _ _ _ c.loop-i.invariant
-    (c.passing-least.ensures ∙ ap (λ (x : ℕ). flag (passes c.args.test x)) c.min.ensures)
-    (c.passing-most.ensures ∙ ap (λ (x : ℕ). flag (passes c.args.test x)) c.max.ensures)
+    (cc) (cc)
 
 -- no more are counted than there are
 pub overflow_add-least : goal.overflow_add-least

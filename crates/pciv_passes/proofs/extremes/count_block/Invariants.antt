@@ -1,4 +1,3 @@
-use Rattle.std.proofs.Common.{◌≡◌}
 use Rattle.pciv_passes.specs.Extremes.{ExtremeSums}
 use Rattle.pciv_passes.specs.declared.counts.Term.TheVariants.{Passing}
 use Rattle.pciv_passes.proofs.extremes.count_block.Given as goal

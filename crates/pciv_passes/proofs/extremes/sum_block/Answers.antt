@@ -1,4 +1,4 @@
-use Rattle.std.proofs.Common.{arith, ◌∙◌, ◌+◌, ◌-◌, ℕ}
+use Rattle.std.proofs.Common.{arith, ◌-◌}
 use Rattle.pciv_passes.specs.declared.counts.Term.TheVariants.{Byte}
 use Rattle.pciv_passes.proofs.ExtremesLaws.{extremes-none, extremes-next, sums-le}
 use Rattle.pciv_passes.proofs.extremes.sum_block.Goals as goal
@@ -9,7 +9,7 @@ loop-i-init c = extremes-none Byte c.args.a.now c.args.b.now
 pub loop-i-preserved : goal.loop-i-preserved
 loop-i-preserved c =
     extremes-next Byte c.args.a.now c.args.b.now c.loop-i.i _ _ _ _ c.loop-i.invariant
-    (c.from-least.ensures ∙ c.min.ensures) (c.from-most.ensures ∙ c.max.ensures)
+    (cc) (cc)
 
 -- no byte is above 255
 pub overflow_add-least : goal.overflow_add-least

@@ -1,4 +1,3 @@
-use Rattle.std.proofs.Common.{◌≡◌}
 use Rattle.pciv_passes.specs.Extremes.{ExtremeSums}
 use Rattle.pciv_passes.specs.declared.counts.Term.TheVariants.{Byte}
 use Rattle.pciv_passes.proofs.extremes.sum_block.Given as goal
