@@ -25,7 +25,7 @@ const OVERFLOW_MIN: u32 = SENTINEL as u32;
 fn overflow_flag(x: u32) -> u32
     ensures { result ≡ flag (in_overflow x) }
 {
-    (OVERFLOW_MIN <= x) as u32
+    u32::from(OVERFLOW_MIN <= x)
 }
 
 // How many distances are in overflow.
