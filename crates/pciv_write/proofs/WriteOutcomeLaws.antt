@@ -14,8 +14,7 @@ use mathlib.Core.List.{List}
 use lib.ListN.{length}
 use borrow.Author.Tests.{lt-ltb, le-ltb}
 use Rattle.pciv_bytes.specs.Ranges.{flag, sum_from}
-use Rattle.pciv_bytes.proofs.SumLaws.{sum_from-le}
-use Rattle.pciv_bytes.proofs.RangesLaws.{flag-le}
+use Rattle.pciv_bytes.proofs.SumLaws.{sum_from-flag-le}
 use Rattle.pciv_format.specs.Layout.{max_slots, in_overflow, overflow_count, at}
 use Rattle.pciv_format.specs.Refusals.{refuse}
 use Rattle.pciv_format.specs.Write.{file_into, file_buffer, write_outcome, write_buffer}
@@ -32,7 +31,7 @@ pub count-is : (xs : List ℕ) (c : ℕ) → c ≡ sum_from (overflow_at xs) 0 (
 count-is xs c e = e ∙ rw sub-zero (sym (overflow_count-sum (length xs) (at xs)))
 
 pub count_small : (xs : List ℕ) → sum_from (overflow_at xs) 0 (length xs - 0) ≤ length xs
-count_small xs = omega (arith, sum_from-le (overflow_at xs) 1 (λ j. flag-le (in_overflow (at xs j))) 0 (length xs - 0))
+count_small xs = omega (arith, sum_from-flag-le (λ (j : ℕ). in_overflow (at xs j)) 0 (length xs - 0))
 
 -- ---- the answer and the buffer
 
