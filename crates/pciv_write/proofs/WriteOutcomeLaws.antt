@@ -33,7 +33,10 @@ sum-listed f (x ∷ xs) =
     (λ j. let low : 0 + j ≡ j = omega arith in let high : 1 + j ≡ suc j = omega arith in rw (low, high)))
 
 pub count-is : (xs : List ℕ) → sum (map (λ (x : ℕ). flag (in_overflow x)) xs) ≡ overflow_count (length xs) (at xs)
-count-is xs = sum-map (λ (x : ℕ). flag (in_overflow x)) xs ∙ sum-listed (λ (x : ℕ). flag (in_overflow x)) xs ∙ sym (overflow_count-sum (length xs) (at xs))
+count-is xs =
+    sum-map (λ (x : ℕ). flag (in_overflow x)) xs
+    ∙ sum-listed (λ (x : ℕ). flag (in_overflow x)) xs
+    ∙ sym (overflow_count-sum (length xs) (at xs))
 
 -- ---- the answer and the buffer
 

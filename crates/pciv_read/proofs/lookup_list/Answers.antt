@@ -1,5 +1,5 @@
--- Proves pciv_read::lookup_list. What a test has shown is cited by its type, so that the tests can stand in either order as far as the
--- names go.
+-- Proves pciv_read::lookup_list. What a test has shown is cited by its type, so that the tests can stand in either
+-- order as far as the names go.
 use Rattle.std.proofs.Common.{Some, None, ◌≡◌, ℕ, ◌≤◌, ◌<◌, List, length, get_or, min, leb, sym, ◌∙◌, arith}
 use Rattle.std.specs.List.{position, position_or_len}
 use Rattle.std.proofs.lemmas.List.Quantifiers.{position-Some}
@@ -26,7 +26,10 @@ module _ (n : ℕ) (xs : List ℕ) where
   outside-none : position (λ slot. leb n slot) xs ≡ None → Inside n xs
   outside-none e =
       let all : length xs ≤ position_or_len (λ (slot : ℕ). leb n slot) xs = grind arith in
-      omega (arith, first_below-none _ (length xs) (λ k h. fails_before_first (λ (slot : ℕ). leb n slot) xs k 0 (omega arith)))
+      omega (
+        arith,
+        first_below-none _ (length xs) (λ k h. fails_before_first (λ (slot : ℕ). leb n slot) xs k 0 (omega arith)),
+      )
 
 pub returns-in_err-n : goal.returns-in_err-n
 unfolding lookup_list_buffer lookup_list_entries

@@ -11,7 +11,9 @@ use Rattle.pciv_read.proofs.readings.Goals as goal
 
 pub returns-in_err-n : goal.returns-in_err-n
 returns-in_err-n c =
-    record { answer = passed_on _ _ c.from_residual.ensures.1 ∙ sym (readings-refused _ _ (sym c.in_err-n.ensures.answer)) }
+    record {
+      answer = passed_on _ _ c.from_residual.ensures.1 ∙ sym (readings-refused _ _ (sym c.in_err-n.ensures.answer));
+    }
 
 pub overflow_add-end : goal.overflow_add-end
 overflow_add-end c = omega (arith, (checked _ _ (sym c.in_ok-n.ensures.answer)).header.small)
