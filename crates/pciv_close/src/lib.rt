@@ -24,7 +24,9 @@ use pciv_passes::counts::count_byte;
 
 // The least entry that is wrong, or how many there are. Where one list is shorter, the entry that it lacks is wrong.
 fn first_bad_entry(primary: &[u8], slots: &[usize], distances: &[u32]) -> usize
-    ensures { result ≡ first_below (bad_entry (close_parts primary.now slots.now distances.now)) (max (length slots.now) (length distances.now)) }
+    ensures { result
+        ≡ first_below (bad_entry (close_parts primary.now slots.now distances.now))
+        (max (length slots.now) (length distances.now)) }
 {
     let end = slots.len().min(distances.len());
     let mut lowest = 0;

@@ -11,7 +11,7 @@ ghost use Rattle.pciv_format.specs.Read.{scan_outcome, scan_buffer};
 ghost use Rattle.pciv_format.specs.Read.{sum_outcome, readings_outcome};
 
 use pciv_check::{check, check_counts};
-use pciv_format::{HEADER_LEN, Located, Refusal, RefusalKind};
+use pciv_format::{Counts, HEADER_LEN, Located, Refusal, RefusalKind};
 use pciv_layout::refusals::refuse;
 use pciv_map::scan::scan_into;
 use pciv_map::totals::readings_of;
@@ -37,9 +37,7 @@ pub fn primary(file: &[u8]) -> &[u8]
 pub fn lookup(file: &[u8], slot: usize) -> Result<Located, Refusal>
     ensures answer { result ≡ lookup_outcome file.now slot }
 {
-    let counts = check_counts(file, 1)?;
-    let n = counts.n;
-    let k = counts.k;
+    let Counts { n, k, .. } = check_counts(file, 1)?;
     if n <= slot {
         return refuse(RefusalKind::SlotOutOfRange, 0, 0);
     }
@@ -72,9 +70,7 @@ pub fn lookup_list(
         ≡ lookup_list_entries file.now slots.now
         (length distances.old) entries.old }
 {
-    let counts = check_counts(file, 1)?;
-    let n = counts.n;
-    let k = counts.k;
+    let Counts { n, k, .. } = check_counts(file, 1)?;
     let outside = first_outside(slots, n);
     let short = distances.len().min(entries.len()) < slots.len();
     if let Some(place) = outside {
@@ -94,9 +90,7 @@ pub fn scan(file: &[u8], out: &mut [u32]) -> Result<usize, Refusal>
     ensures answer { result ≡ scan_outcome file.now (length out.old) }
     ensures buffer { out.new ≡ scan_buffer file.now out.old }
 {
-    let counts = check_counts(file, 1)?;
-    let n = counts.n;
-    let k = counts.k;
+    let Counts { n, k, .. } = check_counts(file, 1)?;
     if out.len() < n {
         return refuse(RefusalKind::BufferTooSmall, 0, 0);
     }
@@ -116,8 +110,7 @@ pub fn sum(file: &[u8]) -> Result<usize, Refusal>
 pub fn readings(file: &[u8]) -> Result<usize, Refusal>
     ensures answer { result ≡ readings_outcome file.now }
 {
-    let counts = check_counts(file, 1)?;
-    let n = counts.n;
+    let Counts { n, .. } = check_counts(file, 1)?;
     let end = HEADER_LEN + n;
     Ok(readings_of(&file[HEADER_LEN..end]))
 }

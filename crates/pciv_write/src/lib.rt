@@ -25,7 +25,7 @@ const OVERFLOW_MIN: u32 = SENTINEL as u32;
 fn overflow_flag(x: u32) -> u32
     ensures { result ≡ flag (in_overflow x) }
 {
-    (OVERFLOW_MIN <= x) as u32
+    u32::from(OVERFLOW_MIN <= x)
 }
 
 // How many distances are in overflow.
@@ -33,11 +33,7 @@ fn count_overflow(distances: &[u32]) -> usize
     requires { length distances.now ≤ max_slots }
     ensures { result ≡ overflow_count (length distances.now) (at distances.now) }
 {
-    let mut count: u32 = 0;
-    for x in distances {
-        count += overflow_flag(*x);
-    }
-    count as usize
+    distances.iter().map(|x| overflow_flag(*x)).sum::<u32>() as usize
 }
 
 // Writes the primary array.

@@ -30,7 +30,10 @@ module _ (bytes slots distances : List ℕ) where
     sound : (i : ℕ) → i ≡ first_below (bad_slot (slot_parts bytes slots)) (length bytes) → length bytes ≤ i
         → SoundParts parts
     sound i e h =
-        record { entries = entries; slots = λ t. first_below-all (bad_slot parts) parts.n t (omega (arith, first_slot i e)) }
+        record {
+          entries = entries;
+          slots = λ t. first_below-all (bad_slot parts) parts.n t (omega (arith, first_slot i e));
+        }
 
 pub returns-then-n-gt-MAX_SLOTS : goal.returns-then-n-gt-MAX_SLOTS
 returns-then-n-gt-MAX_SLOTS c =

@@ -9,4 +9,6 @@ use Rattle.pciv_close.proofs.first_bad_slot.Goals as goal
 pub returns-then-count_byte-slots : goal.returns-then-count_byte-slots
 returns-then-count_byte-slots c =
     let P : Parts = slot_parts c.args.primary.now c.args.slots.now in
-    sym (first_below-none (bad_slot P) P.n (count-complete P c.requires (sym c.count_byte.ensures ∙ c.if-count_byte-slots.true)))
+    sym
+    (first_below-none (bad_slot P) P.n
+    (count-complete P c.requires (sym c.count_byte.ensures ∙ c.if-count_byte-slots.true)))

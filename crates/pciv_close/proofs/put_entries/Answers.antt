@@ -7,9 +7,12 @@ use Rattle.pciv_close.proofs.put_entries.Goals as goal
 pub loop-slot-preserved : goal.loop-slot-preserved
 loop-slot-preserved c =
     let l = c.loop-slot in
-    let turn = zip_turn c.args.slots.now c.args.distances.now l.yielded c.into_iter-slot-iterator.result l.slot-iterator c.next.new.self
-    c.next.result (search rules) (search rules) l.yielded_by (c.in-Some.slot, c.in-Some.distance) c.in-Some.is c.next.ensures.steps in
-    let e : length (l.yielded ++ ((c.in-Some.slot, c.in-Some.distance) ∷ [])) ≡ length l.yielded + 1 = simp length-append in
+    let some = c.in-Some in
+    let turn =
+    zip_turn c.args.slots.now c.args.distances.now l.yielded c.into_iter-slot-iterator.result l.slot-iterator
+    c.next.new.self c.next.result (search rules) (search rules) l.yielded_by (some.slot, some.distance) some.is
+    c.next.ensures.steps in
+    let e : length (l.yielded ++ ((some.slot, some.distance) ∷ [])) ≡ length l.yielded + 1 = simp length-append in
     record {
       place = rw e (omega (arith, l.invariant.place));
       left = rw e
@@ -20,6 +23,7 @@ loop-slot-preserved c =
 pub returns : goal.returns
 returns c =
     let l = c.loop-slot in
-    let all = zip_end c.args.slots.now c.args.distances.now l.yielded c.into_iter-slot-iterator.result l.slot-iterator c.next.new.self
-    c.next.result (search rules) (search rules) l.yielded_by c.in-None.is c.next.ensures.steps in
+    let all =
+    zip_end c.args.slots.now c.args.distances.now l.yielded c.into_iter-slot-iterator.result l.slot-iterator
+    c.next.new.self c.next.result (search rules) (search rules) l.yielded_by c.in-None.is c.next.ensures.steps in
     entries-end _ _ _ _ _ (length l.yielded) _ l.invariant.left (omega arith)

@@ -36,24 +36,33 @@ opened c =
     }
 
 -- the primary array and the entries are written
-copied : (c : After-copy_bytes) → c.copy_bytes.new.out ≡ sets c.begin.new.out 40 (primary (length c.args.primary.now) (value_of (close_parts c.args.primary.now c.args.slots.now c.args.distances.now)))
+copied : (c : After-copy_bytes)
+    → (let a = c.args in
+    c.copy_bytes.new.out
+    ≡ sets c.begin.new.out 40
+    (primary (length a.primary.now) (value_of (close_parts a.primary.now a.slots.now a.distances.now))))
 copied c =
     let a = c.args in
-    rw (primary-close a.primary.now a.slots.now a.distances.now c.requires.sound_parts (λ i. omega (arith, c.type_inv.primary i)))
-    c.copy_bytes.ensures
+    let bytes : Bytes a.primary.now = λ i. omega (arith, c.type_inv.primary i) in
+    rw (primary-close a.primary.now a.slots.now a.distances.now c.requires.sound_parts bytes) c.copy_bytes.ensures
 
-entries_put : (c : After-put_entries) → c.put_entries.new.out ≡ sets c.copy_bytes.new.out (40 + length c.args.primary.now) (overflow_part (length c.args.primary.now) (value_of (close_parts c.args.primary.now c.args.slots.now c.args.distances.now)))
+entries_put : (c : After-put_entries)
+    → (let a = c.args in
+    c.put_entries.new.out
+    ≡ sets c.copy_bytes.new.out (40 + length a.primary.now)
+    (overflow_part (length a.primary.now) (value_of (close_parts a.primary.now a.slots.now a.distances.now))))
 entries_put c =
     let a = c.args in
-    rw (overflow_part-close a.primary.now a.slots.now a.distances.now c.requires.sound_parts (λ i. omega (arith, c.type_inv.primary i)))
-    c.put_entries.ensures
+    let bytes : Bytes a.primary.now = λ i. omega (arith, c.type_inv.primary i) in
+    rw (overflow_part-close a.primary.now a.slots.now a.distances.now c.requires.sound_parts bytes) c.put_entries.ensures
 
 pub begin-requires : goal.begin-requires
 begin-requires c =
     let a = c.args in
     let p = close_parts a.primary.now a.slots.now a.distances.now in
+    let bytes : Bytes a.primary.now = λ i. omega (arith, c.type_inv.primary i) in
     begin-few p.n (length a.slots.now) (value_of p) c.requires.primary_len_bound
-    (overflow_count-close a.primary.now a.slots.now a.distances.now c.requires.sound_parts (λ i. omega (arith, c.type_inv.primary i)))
+    (overflow_count-close a.primary.now a.slots.now a.distances.now c.requires.sound_parts bytes)
 
 pub returns-in_err-counts : goal.returns-in_err-counts
 returns-in_err-counts c =
@@ -75,17 +84,19 @@ put_entries-requires c =
 pub finish-requires : goal.finish-requires
 finish-requires c =
     let z = goal.at.finish-requires c in
-    opened-finish (opened z.After-begin) _ c.in_ok-counts.was _ (copied z.After-copy_bytes) _ (entries_put z.After-put_entries)
+    opened-finish (opened z.After-begin) _ c.in_ok-counts.was _ (copied z.After-copy_bytes) _
+    (entries_put z.After-put_entries)
 
 pub summary_of-requires : goal.summary_of-requires
 summary_of-requires c =
     let z = goal.at.summary_of-requires c in
-    opened_map (opened z.After-begin) _ c.in_ok-counts.was _ (copied z.After-copy_bytes) _ (entries_put z.After-put_entries)
-    _ c.finish.ensures
+    opened_map (opened z.After-begin) _ c.in_ok-counts.was _ (copied z.After-copy_bytes) _
+    (entries_put z.After-put_entries) _ c.finish.ensures
 
 pub returns : goal.returns
 returns c =
     let z = goal.at.returns c in
-    let r = opened-done (opened z.After-begin) _ c.in_ok-counts.was _ (copied z.After-copy_bytes) _ (entries_put z.After-put_entries)
-    _ c.finish.ensures _ c.summary_of.ensures in
+    let r =
+    opened-done (opened z.After-begin) _ c.in_ok-counts.was _ (copied z.After-copy_bytes) _
+    (entries_put z.After-put_entries) _ c.finish.ensures _ c.summary_of.ensures in
     record { answer = r.0; buffer = r.1 }

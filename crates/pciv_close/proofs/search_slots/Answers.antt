@@ -19,8 +19,8 @@ find_byte-full-requires c =
 pub returns-then-full-slot : goal.returns-then-full-slot
 returns-then-full-slot c =
     sym
-    (searched-found (slot_parts c.args.primary.now c.args.slots.now) c.requires c.loop-slot.from c.loop-slot.invariant.searched
-    c.loop-slot.slot-index _ (omega arith) c.loop-slot.invariant.lowest c.find_byte-full.ensures c.if-full-slot.true)
+    (searched-found (slot_parts c.args.primary.now c.args.slots.now) c.requires c.loop-slot.from
+    c.loop-slot.invariant.searched c.loop-slot.slot-index _ (omega arith) c.loop-slot.invariant.lowest c.find_byte-full.ensures c.if-full-slot.true)
 
 pub overflow_add-from : goal.overflow_add-from
 overflow_add-from c = omega (arith, (good (goal.at.overflow_add-from c).In-loop-slot).inside)
@@ -35,7 +35,8 @@ loop-slot-preserved c =
 
 pub find_byte-requires : goal.find_byte-requires
 find_byte-requires c =
-    let low = lowest-le (slot_parts c.args.primary.now c.args.slots.now) c.requires c.loop-slot.slot-index (omega arith) in
+    let P : Parts = slot_parts c.args.primary.now c.args.slots.now in
+    let low = lowest-le P c.requires c.loop-slot.slot-index (omega arith) in
     (omega (arith, c.loop-slot.invariant.lowest, low), omega arith)
 
 pub returns : goal.returns

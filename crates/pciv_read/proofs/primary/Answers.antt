@@ -1,5 +1,6 @@
 -- Proves pciv_read::primary.
 use Rattle.std.proofs.Common.{◌≡◌, ℕ, ◌+◌, ◌-◌, take, drop, sym, ap, ◌∙◌, arith}
+use Rattle.std.proofs.lemmas.Grind.{common_steps}
 use native.Mathlib.Nat.{zero-add}
 use Rattle.pciv_format.proofs.MapLaws.{primary-inside}
 use Rattle.pciv_format.proofs.ReadCaseLaws.{checked, primary-refused, primary-done, place-refused, place-done}
@@ -14,7 +15,10 @@ slice_bounds-result-end-in-Ok c = omega (arith, primary-inside _ _ _ (checked _ 
 pub returns-in-Err : goal.returns-in-Err
 returns-in-Err c =
     let no = sym c.in-Err.ensures.answer in
-    record { part = sym (primary-refused _ _ no); place = rw (place-refused _ _ no c.args.file.ref_ptr, zero-add) }
+    record {
+      part = rw (primary-refused _ _ no) (grind (arith, common_steps));
+      place = rw (place-refused _ _ no c.args.file.ref_ptr, zero-add);
+    }
 
 pub returns-in-Ok : goal.returns-in-Ok
 returns-in-Ok c =

@@ -20,7 +20,8 @@ put_slots-requires c =
 pub loop-j-init : goal.loop-j-init
 loop-j-init c =
     let xs = c.args.distances.now in
-    let start = fill_start (length xs) (at xs) c.args.out.now _ c.requires.holds_primary (omega (arith, c.requires.k_value))
+    let start =
+    fill_start (length xs) (at xs) c.args.out.now _ c.requires.holds_primary (omega (arith, c.requires.k_value))
     c.put_slots.ensures c.requires.distances_len_bound in
     (0, rw add-zero start)
 
@@ -42,4 +43,5 @@ pub returns : goal.returns
 returns c =
     let xs = c.args.distances.now in
     fill_end c.loop-j.invariant.1 (omega (arith, c.requires.k_value))
-    ∙ fill-over (length xs) (at xs) c.args.out.now _ c.requires.holds_primary (omega (arith, c.requires.k_value)) c.put_slots.ensures
+    ∙ fill-over (length xs) (at xs) c.args.out.now _ c.requires.holds_primary (omega (arith, c.requires.k_value))
+    c.put_slots.ensures

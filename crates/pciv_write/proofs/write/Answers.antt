@@ -29,7 +29,8 @@ returns-then-is_large c =
 
 pub begin-requires : goal.begin-requires
 begin-requires c =
-    begin-few (length c.args.distances.now) c.count_overflow-k.result (at c.args.distances.now) c.if-is_large.false c.count_overflow-k.ensures
+    begin-few (length c.args.distances.now) c.count_overflow-k.result (at c.args.distances.now) c.if-is_large.false
+    c.count_overflow-k.ensures
 
 pub returns-in_err-counts : goal.returns-in_err-counts
 returns-in_err-counts c =
@@ -45,7 +46,8 @@ put_primary-requires c =
 
 pub put_entries-requires : goal.put_entries-requires
 put_entries-requires c =
-    let o = opened-entries (opened (goal.at.put_entries-requires c).After-begin) _ c.in_ok-counts.was _ c.put_primary.ensures in
+    let o =
+    opened-entries (opened (goal.at.put_entries-requires c).After-begin) _ c.in_ok-counts.was _ c.put_primary.ensures in
     record {
       distances_len_bound = c.if-is_large.false;
       k_value = c.count_overflow-k.ensures;
