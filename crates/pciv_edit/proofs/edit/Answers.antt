@@ -12,13 +12,3 @@ edit_checked-requires c =
     let held = buffer_held 1 c.args.buffer.now _ (λ i. search rules) (sym c.in-Ok.ensures.answer) in
     record { checked = held.0; sum_is = held.1 }
 
-pub returns-in-Err : goal.returns-in-Err
-returns-in-Err c =
-    let a = c.args in
-    let e : Edit = record { slot = a.slot; distance = a.distance } in
-    let b = a.buffer.now in
-    let is = edit-refused b e _ (((buffer-refuse-alike 1 b).0 _).0 (sym c.in-Err.ensures.answer)) in
-    record {
-      answer = ap₂ edit_answer (sym is) (sym (moved-refused b e _ is));
-      buffer = sym (buffer-refused b e _ is);
-    }
