@@ -6,7 +6,6 @@
 --   put_mid-sets, three    how one answer is written: a part of a list, and three numbers
 --   left-start, -more, _end    before, between and after its edits
 --   edit_at, edits_from    the edits of a list of slots and a list of distances;  edits-more, -end  those from i on
---   cells-refused, -done    the numbers of one answer
 --   is_map                 the file at the front is checked
 --   made-run               what a run answers and leaves that is made
 -- Axioms: none.
@@ -30,11 +29,10 @@ use Rattle.pciv_format.specs.Check.{counts_buffer}
 use Rattle.pciv_format.specs.Read.{check_buffer}
 use Rattle.pciv_format.proofs.SummaryLaws.{counts_in, buffer-refuse-alike}
 use Rattle.pciv_format.specs.Edit.{Edit, edit_outcome, edit_moved, edit_buffer, edit_run, edit_outcomes, edit_moves}
-use Rattle.pciv_format.specs.Edit.{answer_len, cells_of, refusal_cells, no_refusal, no_summary, answer_cells, all_cells}
+use Rattle.pciv_format.specs.Edit.{answer_len, answer_cells, all_cells}
 use Rattle.pciv_format.specs.Edit.{edits_of, edit_list_outcome, edit_list_buffer, edit_list_answers}
 use Rattle.pciv_format.specs.declared.Counts.{Counts}
 use Rattle.pciv_format.specs.declared.Summary.{Summary}
-use Rattle.pciv_format.specs.declared.Refusal.{Refusal}
 use Rattle.pciv_format.proofs.PartsLaws.{eqb-not}
 use Rattle.pciv_format.proofs.CheckLaws.{done-buffer}
 use Rattle.pciv_format.proofs.RunLaws.{Distances}
@@ -129,17 +127,6 @@ module _ (slots distances : List ℕ) where
   pub left-start : (b out : List ℕ) → Left b out (edits_of slots distances) b out 0 (edits_from 0)
   unfolding edits_of
   left-start b out = rw sub-zero (record { buffer = refl; answers = refl })
-
--- ---- the numbers of one answer
-
-module _ (o : Outcome Summary) (m moved : ℕ) (same : m ≡ moved) where
-  pub cells-refused : (r : Refusal) → o ≡ Err r → cells_of (refusal_cells r) no_summary m ≡ answer_cells o moved
-  unfolding answer_cells
-  cells-refused r is = rw (is, same)
-
-  pub cells-done : (s : Summary) → o ≡ Ok s → cells_of no_refusal s m ≡ answer_cells o moved
-  unfolding answer_cells
-  cells-done s is = rw (is, same)
 
 -- ---- a run in one call
 

@@ -31,7 +31,7 @@ fn put_cells(answers: &mut [usize], at: usize, why: [usize; 3], s: Summary, move
 }
 
 // One edit of a checked map; its answer goes to the caller's list. Answers what the next edit has to know.
-#[tactic(auto, unfolding(pciv_format::specs::Edit::answer_cells))]
+#[tactic(auto, unfolding(pciv_format::specs::Edit::answer_cells, pciv_format::specs::Edit::edit_buffer))]
 fn edit_next(
     buffer: &mut [u8],
     answers: &mut [usize],
