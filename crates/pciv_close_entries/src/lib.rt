@@ -102,6 +102,7 @@ fn put_file(out: &mut [u8], primary: &[u8], entries: &[Entry]) -> Result<Summary
 }
 
 // As `close`, with the entries as structs.
+#[tactic(auto, unfolding(pciv_format::specs::Write::close_outcome, pciv_format::specs::Write::close_buffer))]
 pub fn close_entries(primary: &[u8], entries: &[Entry], out: &mut [u8]) -> Result<Summary, Refusal>
     ensures answer { result ≡ close_outcome primary.now (slots_of entries.now) (distances_of entries.now) (length out.old) }
     ensures buffer { out.new ≡ close_buffer primary.now (slots_of entries.now) (distances_of entries.now) out.old }

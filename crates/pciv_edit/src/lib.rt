@@ -17,6 +17,7 @@ use pciv_slot::edit_checked;
 // Refusals: 1 to 8, with map 1 and 5 only where the buffer is shorter than the file; then 9 and 12. Only the new file's
 // length is compared with the buffer. A refused call changes no byte and moves no entry.
 // Where the file gets shorter, what it leaves becomes 0; bytes past both files stay.
+#[tactic(auto, unfolding(pciv_format::specs::Edit::edit_outcome, pciv_format::specs::Edit::edit_moved, pciv_format::specs::Edit::edit_buffer))]
 pub fn edit(buffer: &mut [u8], slot: usize, distance: u32) -> EditAnswer
     ensures answer { result ≡ edit_answer (edit_outcome buffer.old (record { slot = slot; distance = distance }))
         (edit_moved buffer.old (record { slot = slot; distance = distance })) }

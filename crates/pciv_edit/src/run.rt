@@ -31,6 +31,7 @@ fn put_cells(answers: &mut [usize], at: usize, why: [usize; 3], s: Summary, move
 }
 
 // One edit of a checked map; its answer goes to the caller's list. Answers what the next edit has to know.
+#[tactic(auto, unfolding(pciv_format::specs::Edit::answer_cells, pciv_format::specs::Edit::edit_buffer))]
 fn edit_next(
     buffer: &mut [u8],
     answers: &mut [usize],
@@ -110,6 +111,7 @@ fn edit_all(
 // Refusals of the run: 1 to 8, with map 1; then 9 where the lists differ in length, with the least position that has
 // no edit; then 12 where `answers` is too short. A refused run changes nothing. The 9 for lists of unequal length is
 // chosen here: the format's source has no such case.
+#[tactic(auto, using(crate::proofs::EditListLaws::is_map), unfolding(pciv_format::specs::Edit::edit_list_outcome, pciv_format::specs::Edit::edit_list_buffer, pciv_format::specs::Edit::edit_list_answers))]
 pub fn edit_list(
     buffer: &mut [u8],
     slots: &[usize],

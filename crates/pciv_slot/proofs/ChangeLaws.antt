@@ -1,5 +1,5 @@
 -- A slot that moves into or out of overflow, in place: header, primary byte and entries, then index and zeros.
---   put-in          an entry written where those behind it were moved up
+--   put_in_front    an entry written where those behind it were moved up
 --   SlotMoves       what follows for an edit that moves a slot:  few  the new file is within the limits;  answer  the
 --                   editor's;  space  what the change asks for;  entries_moved  how many entries it moves;  buffer  that its
 --                   steps leave the editor's buffer
@@ -46,9 +46,9 @@ use Rattle.pciv_slot.proofs.CaseLaws.{below-count, edit-counted}
 -- ---- lists
 
 -- d₁: what stands from `from` on, moved; d₂: an entry written there
-pub put-in : (d d₁ d₂ x : List ℕ) (slot distance from : ℕ) → d₁ ≡ sets d (from + 12) x
+pub put_in_front : (d d₁ d₂ x : List ℕ) (slot distance from : ℕ) → d₁ ≡ sets d (from + 12) x
     → d₂ ≡ sets d₁ from (le 8 slot ++ le 4 distance) → d₂ ≡ sets d from ((le 8 slot ++ le 4 distance) ++ x)
-put-in d d₁ d₂ x slot distance from e₁ e₂ =
+put_in_front d d₁ d₂ x slot distance from e₁ e₂ =
     let E : List ℕ = le 8 slot ++ le 4 distance in
     let L : length E ≡ 12 =
     length-append (le 8 slot) (le 4 distance) ∙ ap₂ (λ (a c : ℕ). a + c) (length-le 8 slot) (length-le 4 distance) in

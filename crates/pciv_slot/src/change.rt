@@ -12,6 +12,7 @@ use pciv_format::{HEADER_LEN, SENTINEL};
 use pciv_layout::file_len;
 
 // The slot's byte becomes 255, and its entry stands before entry j of the k that there were.
+#[tactic(auto, using(crate::proofs::ChangeLaws::put_in_front), unfolding(crate::specs::Change::put_in))]
 fn put_in(buffer: &mut [u8], n: usize, k: usize, j: usize, slot: usize, distance: u32)
     requires { (slot < n) × (j ≤ k) × (entry_at n (k + 1) ≤ length buffer.old) }
     ensures { buffer.new ≡ put_in buffer.old n k j slot distance }

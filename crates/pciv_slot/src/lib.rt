@@ -65,6 +65,7 @@ fn above_count(k: usize, j: usize, distance: u32) -> usize
 }
 
 // The distance at a slot, where j entries have a smaller slot: its byte, or that of entry j.
+#[tactic(auto, unfolding(pciv_format::specs::Parts::value_of))]
 fn old_distance(buffer: &[u8], n: usize, k: usize, j: usize, slot: usize) -> u32
     requires edit_at { EditAt buffer.now n k slot }
     requires j_value { j ≡ entries_below (file_parts buffer.now n k) slot }

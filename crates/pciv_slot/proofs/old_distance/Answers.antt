@@ -1,7 +1,6 @@
 -- Proves pciv_slot::old_distance: a byte below 255 is the distance, and else the slot's entry has it.
 use Rattle.std.proofs.Common.{◌≡◌, ◌+◌, ℕ, sym, ap, ◌∙◌, arith}
 use Rattle.pciv_format.specs.Check.{file_parts}
-use Rattle.pciv_format.proofs.PartsLaws.{value_of-inline}
 use Rattle.pciv_format.proofs.MapLaws.{primary-inside, entry-inside}
 use Rattle.pciv_map_lookup.proofs.LookupLaws.{value_of-entry}
 use Rattle.pciv_slot.proofs.old_distance.Goals as goal
@@ -15,10 +14,6 @@ pub bounds-buffer-slot : goal.bounds-buffer-slot
 bounds-buffer-slot c =
     let p = c.requires.edit_at in
     omega (arith, p.inside, primary-inside _ _ _ p.checked)
-
-pub returns-then-byte-lt-SENTINEL : goal.returns-then-byte-lt-SENTINEL
-returns-then-byte-lt-SENTINEL c =
-    sym (value_of-inline _ c.requires.edit_at.checked.parts c.args.slot (omega arith))
 
 pub entry_distance-requires : goal.entry_distance-requires
 entry_distance-requires c =
