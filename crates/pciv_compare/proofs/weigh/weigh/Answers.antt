@@ -4,7 +4,7 @@ use Rattle.pciv_format.specs.Parts.{value_of}
 use Rattle.pciv_format.specs.Check.{file_parts}
 use Rattle.pciv_compare.specs.Weigh.{weight_of, Weighed}
 use Rattle.pciv_compare.specs.declared.weigh.Weight.TheVariants.{Distance}
-use Rattle.pciv_compare.proofs.WeighLaws.{weighed-distance, weighed-from, late-distance, late-from}
+use Rattle.pciv_compare.proofs.WeighLaws.{weighed-distance, weighed-from}
 use Rattle.pciv_compare.proofs.FigureLaws.{parts-fit}
 use Rattle.pciv_compare.proofs.weigh.weigh.Goals as goal
 use Rattle.pciv_compare.proofs.weigh.weigh.Goals.{After-weigh_overflow-overflow}
@@ -32,9 +32,6 @@ distance-le c =
     (parts-fit a.a.now a.b.now a.n a.ka a.kb c.requires _ (λ i. (c.type_inv.a i).fits) (λ i. (c.type_inv.b i).fits) Distance
     (distance_is c)).1
 
-pub weigh_overflow-overflow-requires : goal.weigh_overflow-overflow-requires
-weigh_overflow-overflow-requires c = record { checked_pair = c.requires; late = late-distance }
-
 pub overflow_add-result : goal.overflow_add-result
 overflow_add-result c = omega (arith, distance-le (goal.at.overflow_add-result c).After-weigh_overflow-overflow)
 
@@ -50,9 +47,6 @@ returns-then-t-le255 c =
     (weighed-from (file_parts a.a.now a.n a.ka) (file_parts a.b.now a.n a.kb) refl c.requires.first.parts
     c.requires.second.parts (λ i. (c.type_inv.a (40 + i)).fits) (λ i. (c.type_inv.b (40 + i)).fits)
     c.in-From.t c.if-t-le255.true c.weigh_bytes.result c.weigh_bytes.ensures)
-
-pub weigh_overflow-requires : goal.weigh_overflow-requires
-weigh_overflow-requires c = record { checked_pair = c.requires; late = late-from c.in-From.t c.if-t-le255.false }
 
 pub returns-in-Distance : goal.returns-in-Distance
 returns-in-Distance c = rw c.in-Distance.is (distance_is (goal.at.returns-in-Distance c).After-weigh_overflow-overflow)
