@@ -1,6 +1,4 @@
 -- What `shift` answers and leaves, case by case: a refused file, or a map with counts s that is shifted down or up.
---   Opposite, opposite        the signed arithmetic of `which_way` on a negative number
---   Itself, itself            and on another
 --   checked                   what the check has shown
 --   up_small                  a shift up is by less than 2^31
 --   up_is, down_is            the distances raised or lowered by m are the shifted ones
@@ -8,18 +6,16 @@
 --   shift-written             else the file of the shifted map is written
 -- Axioms: none.
 use Rattle.std.proofs.Common.{Ok, Err}
-use mathlib.Core.Path.{◌≡◌, refl, sym, ap, ◌∙◌}
+use mathlib.Core.Path.{◌≡◌, sym, ap, ◌∙◌}
 use Prim.Native.Nat.{ℕ, suc, ◌+◌, ◌^◌, ◌<◌}
 use native.Mathlib.Omega.{arith}
-use mathlib.Core.Bool.{true, false, cond}
+use mathlib.Core.Bool.{cond}
 use mathlib.Core.List.{List}
 use lib.ListN.{length}
-use lib.IntN.{ℤ, pos, negsuc, nat_abs, ◌-ℤ◌}
-use lib.Dec.{T, eqb}
-use lib.Signed.{lt_z, non_neg}
-use mir.Syntax.{w32, w64}
-use mir.Val.{Fits, SFits}
-use borrow.Author.Tests.{ltb-true}
+use lib.IntN.{ℤ, pos, negsuc}
+use lib.Dec.{eqb}
+use mir.Syntax.{w32}
+use mir.Val.{SFits}
 use Rattle.pciv_format.specs.Layout.{at}
 use Rattle.pciv_format.specs.Parts.{Parts, value_of}
 use Rattle.pciv_format.specs.Check.{file_parts, counts_file, CheckedMap}
@@ -40,34 +36,7 @@ use Rattle.pciv_arith_lower.specs.Lowered.{lowered, lowered_at}
 use Rattle.pciv_arith.specs.Direction.{direction_of}
 use Rattle.pciv_arith.specs.declared.Direction.TheVariants.{Down, Up}
 
--- ---- signed numbers
-
--- the opposite of a negative number
-pub record Opposite (z : ℤ) : Type 0 where
-  pub fits : SFits w64 (pos 0 -ℤ z)
-  pub sign : T (non_neg (pos 0 -ℤ z))
-  pub small : Fits w32 (nat_abs (pos 0 -ℤ z))
-  pub is : Down (nat_abs (pos 0 -ℤ z)) ≡ direction_of z
-
-pub opposite : (z : ℤ) → SFits w32 z → lt_z z (pos 0) ≡ true → Opposite z
-opposite (pos x) h e = absurd (omega (arith, ltb-true x 0 e))
-opposite (negsuc x) h e =
-    let zero : 0 + suc x ≡ suc x = omega arith in
-    record {
-      fits = record { sfits = omega (arith, h.sfits) };
-      sign = tt;
-      small = record { fits = omega (arith, h.sfits) };
-      is = ap Down zero;
-    }
-
-pub record Itself (z : ℤ) : Type 0 where
-  pub sign : T (non_neg z)
-  pub small : Fits w32 (nat_abs z)
-  pub is : Up (nat_abs z) ≡ direction_of z
-
-pub itself : (z : ℤ) → SFits w32 z → lt_z z (pos 0) ≡ false → Itself z
-itself (pos x) h e = record { sign = tt; small = record { fits = omega (arith, h.sfits) }; is = refl }
-itself (negsuc x) h e = let z : ◌≡◌ {A = ℕ} 0 1 = cc in absurd (omega arith)
+-- ---- which way
 
 pub up_small : (d : ℤ) (m : ℕ) → SFits w32 d → Up m ≡ direction_of d → m < 2 ^ 31
 up_small (pos x) m h e = let same : m ≡ x = cc in omega (arith, h.sfits)

@@ -27,10 +27,7 @@ fn combine(op: MergeOp, a: &[u8], b: &[u8], out: &mut [u8]) -> Result<Summary, R
     ensures buffer { out.new ≡ combine_maps_buffer (slot_op_of op) a.now b.now out.old }
 {
     let pair = check_pair(a, b)?;
-    let n = pair.n;
-    let ka = pair.ka;
-    let kb = pair.kb;
-    combine_into(out, op, a, b, n, ka, kb)
+    combine_into(out, op, a, b, pair.n, pair.ka, pair.kb)
 }
 
 // The smaller distance of each slot. Refusals: 1 to 8, then 10, then 12.
@@ -56,10 +53,7 @@ pub fn sum_maps(a: &[u8], b: &[u8], out: &mut [u8]) -> Result<Summary, Refusal>
     ensures buffer { out.new ≡ combine_maps_buffer Sum a.now b.now out.old }
 {
     let pair = check_pair(a, b)?;
-    let n = pair.n;
-    let ka = pair.ka;
-    let kb = pair.kb;
-    added_into(Addend::Map, a, b, n, ka, kb, out)
+    added_into(Addend::Map, a, b, pair.n, pair.ka, pair.kb, out)
 }
 
 // The first distance of each slot less the second, at least 0. Refusals: 1 to 8, then 10, then 12.
@@ -80,12 +74,11 @@ enum Direction {
 fn which_way(by: i32) -> Direction
     ensures { result ≡ direction_of by }
 {
-    let d = by as i64;
-    let is_down = d < 0;
+    let is_down = by < 0;
     if is_down {
-        return Direction::Down((0 - d) as u32);
+        return Direction::Down(by.unsigned_abs());
     }
-    Direction::Up(d as u32)
+    Direction::Up(by.unsigned_abs())
 }
 
 // Each non-zero distance with `by` added, or 1 where that is 0 or below; a zero distance stays. Refusals: 1 to 8, then 11
@@ -97,8 +90,7 @@ pub fn shift(file: &[u8], by: i32, out: &mut [u8]) -> Result<Summary, Refusal>
     let counts = check_counts(file, 1)?;
     let n = counts.n;
     let k = counts.k;
-    let way = which_way(by);
-    match way {
+    match which_way(by) {
         Direction::Down(m) => lowered_into(file, n, k, m, out),
         Direction::Up(m) => added_into(Addend::Number(m), file, file, n, k, k, out),
     }
@@ -111,11 +103,9 @@ pub fn signed_difference(a: &[u8], b: &[u8], out: &mut [i64]) -> Result<usize, R
 {
     let pair = check_pair(a, b)?;
     let n = pair.n;
-    let ka = pair.ka;
-    let kb = pair.kb;
     if out.len() < n {
         return refuse(RefusalKind::BufferTooSmall, 0, 0);
     }
-    differences_into(a, b, n, ka, kb, out);
+    differences_into(a, b, n, pair.ka, pair.kb, out);
     Ok(n)
 }

@@ -10,7 +10,7 @@ use native.Mathlib.Decide.{dec_le}
 use lib.Dec.{eqb}
 use borrow.Author.Tests.{eq-eqb, ne_eqb}
 use Rattle.pciv_bytes.specs.Ranges.{flag}
-use Rattle.pciv_bytes.proofs.SumLaws.{sum_from-cong, sum_from-plus}
+use Rattle.pciv_bytes.proofs.SumLaws.{sum_from-plus}
 use Rattle.pciv_format.specs.Layout.{in_overflow, overflow_count}
 use Rattle.pciv_format.specs.Parts.{Parts, lowest_slot, value_of}
 use Rattle.pciv_format.specs.declared.SlotOp.TheVariants.{Minimum, Maximum}

@@ -1,6 +1,6 @@
 -- Laws of the slot operations, and of the primary bytes of a combination.
 --   checked-sound          two checked files of bytes, as their parts
---   shrinks-minimum, -difference    the result is never above the first distance
+--   shrinks-minimum        the result is never above the first distance
 --   combined-fits          no result of a merge is too large
 --   SameBytes o p          the primary byte of a result of o is p of the primary bytes
 --   same-minimum, -maximum
@@ -51,9 +51,6 @@ checked-sound p a b = sound (record { pair = p; bytes-a = λ i. (a i).fits; byte
 
 pub shrinks-minimum : Shrinks Minimum
 shrinks-minimum x y = omega arith
-
-pub shrinks-difference : Shrinks Difference
-shrinks-difference x y = omega arith
 
 -- ---- no result is too large
 

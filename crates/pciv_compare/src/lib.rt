@@ -40,10 +40,7 @@ fn figure(of: Weight, a: &[u8], b: &[u8]) -> Result<f64, Refusal>
     ensures { result ≡ figure_outcome of a.now b.now }
 {
     let pair = check_pair(a, b)?;
-    let n = pair.n;
-    let ka = pair.ka;
-    let kb = pair.kb;
-    let sums = weigh(of, a, b, n, ka, kb);
+    let sums = weigh(of, a, b, pair.n, pair.ka, pair.kb);
     let least = sums.least;
     let most = sums.most;
     let q = divisor(of, least, most);

@@ -44,16 +44,18 @@ returns-in_err-counts c =
     let r = opened-refused (opened (goal.at.returns-in_err-counts c).After-begin) _ c.in_err-counts.was in
     record { answer = passed_on _ _ c.from_residual.ensures.1 ∙ r.0; buffer = r.1 }
 
-pub put_primary-requires : goal.put_primary-requires
-put_primary-requires c =
-    let space = opened-space (opened (goal.at.put_primary-requires c).After-begin) _ c.in_ok-counts.was in
-    record { checked_map = c.requires; n_in_bounds = omega arith }
+pub put_primary-requires-clause-n_in_bounds : goal.put_primary-requires-clause-n_in_bounds
+put_primary-requires-clause-n_in_bounds c =
+    omega (
+      arith,
+      opened-space (opened (goal.at.put_primary-requires-clause-n_in_bounds c).After-begin) _ c.in_ok-counts.was,
+    )
 
-pub put_entries-requires : goal.put_entries-requires
-put_entries-requires c =
-    let z = (goal.at.put_entries-requires c).After-begin in
+pub put_entries-requires-clause-m_in_bounds : goal.put_entries-requires-clause-m_in_bounds
+put_entries-requires-clause-m_in_bounds c =
+    let z = (goal.at.put_entries-requires-clause-m_in_bounds c).After-begin in
     let r = opened-entries (opened z) _ c.in_ok-counts.was _ c.put_primary.ensures in
-    record { checked_map = c.requires; m_in_bounds = omega (arith, r.1, c.count_lowered-count.ensures) }
+    omega (arith, r.1, c.count_lowered-count.ensures)
 
 pub finish-requires : goal.finish-requires
 finish-requires c =

@@ -1,7 +1,6 @@
 -- Proves pciv_arith_merge::both::count_both: either way the count is that of the minimum.
 use Rattle.std.proofs.Common.{◌∙◌}
 use Rattle.pciv_passes.specs.declared.pairs.ByteOp.TheVariants.{Min}
-use Rattle.pciv_format.specs.Check.{file_parts}
 use Rattle.pciv_format.specs.declared.SlotOp.TheVariants.{Minimum}
 use Rattle.pciv_arith_merge.proofs.CombineLaws.{checked-sound, same-minimum, combined-count}
 use Rattle.pciv_arith_merge.proofs.both.count_both.Goals as goal
