@@ -15,12 +15,18 @@ use pciv_map_lookup::locate;
 
 // The check of frame f, then the least of the frames up to it that has not n slots, if there is one, where `other` is that
 // of those below.
-fn check_next(frame: &[u8], f: usize, other: Option<usize>, n: usize) -> Result<Option<usize>, Refusal>
+fn check_next(
+    frame: &[u8],
+    f: usize,
+    other: Option<usize>,
+    n: usize,
+) -> Result<Option<usize>, Refusal>
     requires { f < 8 }
     ensures { result ≡ next_frame n f other frame.now }
 {
     let counts = check_counts(frame, f + 1)?;
-    Ok(if counts.n == n { other } else { other.or(Some(f)) })
+    let this = (counts.n != n).then_some(f);
+    Ok(other.or(this))
 }
 
 // Refusal 10 where there is a frame, of eight from 0, that has not n slots, else n.
@@ -35,7 +41,12 @@ fn same_slots(other: Option<usize>, n: usize) -> Result<usize, Refusal>
 }
 
 // The check of a bundle's frames, of which each has to have n slots. Refusals: 1 to 8, then 10.
-pub fn check_frames(bundle: &[u8], places: [Span; MAX_FRAMES], count: usize, n: usize) -> Result<usize, Refusal>
+pub fn check_frames(
+    bundle: &[u8],
+    places: [Span; MAX_FRAMES],
+    count: usize,
+    n: usize,
+) -> Result<usize, Refusal>
     requires count_bound { (count ≤ 8) × (count ≡ length (frames bundle.now)) }
     requires placed_frames { PlacedFrames bundle.now places }
     ensures { result ≡ frames_outcome n (frames bundle.now) }
@@ -60,7 +71,13 @@ pub fn check_lent(frames: &[&[u8]; MAX_FRAMES], count: usize, n: usize) -> Resul
 }
 
 // The distance at a slot in each frame of a bundle, 0 where there is no frame.
-pub fn row_of(bundle: &[u8], places: [Span; MAX_FRAMES], count: usize, n: usize, slot: usize) -> [u32; MAX_FRAMES]
+pub fn row_of(
+    bundle: &[u8],
+    places: [Span; MAX_FRAMES],
+    count: usize,
+    n: usize,
+    slot: usize,
+) -> [u32; MAX_FRAMES]
     requires count_bound { (count ≤ 8) × (count ≡ length (frames bundle.now)) × (slot < n) }
     requires placed_frames { PlacedFrames bundle.now places × CheckedFrames (frames bundle.now) n }
     ensures { result ≡ row_of (frames bundle.now) slot }

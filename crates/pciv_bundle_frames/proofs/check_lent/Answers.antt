@@ -14,7 +14,7 @@ returns-in_err-other c =
     let many = used-length a.frames.now a.count c.told-frames c.requires in
     passed_on _ _ c.from_residual.ensures.1
     ∙ sym (passed-refused c.loop-f.invariant (omega arith) _
-      (rw (← used-at a.frames.now a.count c.loop-f.f) (sym c.check_next.ensures ∙ c.in_err-other.was)))
+    (rw (← used-at a.frames.now a.count c.loop-f.f) (sym c.check_next.ensures ∙ c.in_err-other.was)))
 
 pub loop-f-preserved : goal.loop-f-preserved
 loop-f-preserved c =
