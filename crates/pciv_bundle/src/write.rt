@@ -6,7 +6,9 @@ ghost use Rattle.pciv_bundle_records.specs.Records.{record_of, record_bytes, hea
 ghost use Rattle.pciv_bundle.specs.Bundle.{ShortFrames, bundle_write_outcome, bundle_write_buffer};
 
 use pciv_bundle_frames::check_lent;
-use pciv_bundle_records::{FRAME_KIND, HEADER_KIND, HEADER_RECORD_LEN, KIND_LEN, MAX_FRAMES, PREFIX_LEN};
+use pciv_bundle_records::{
+    FRAME_KIND, HEADER_KIND, HEADER_RECORD_LEN, KIND_LEN, MAX_FRAMES, PREFIX_LEN,
+};
 use pciv_bytes::copies::copy_bytes;
 use pciv_bytes::little_endian::{get64, put16, put32};
 use pciv_format::{HEADER_LEN, Refusal, RefusalKind};
@@ -16,7 +18,11 @@ use pciv_layout::refusals::refuse;
 fn slots_of(file: &[u8]) -> usize
     ensures { 40 ≤ length file.now → result ≡ n_field file.now }
 {
-    if file.len() < HEADER_LEN { 0 } else { get64(file, 8) }
+    if file.len() < HEADER_LEN {
+        0
+    } else {
+        get64(file, 8)
+    }
 }
 
 // The length of the bundle of some frames.

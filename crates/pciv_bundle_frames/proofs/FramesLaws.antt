@@ -1,6 +1,6 @@
 -- Laws of the frames' outcome: frame by frame, and what it says of each where it is done.
---   Passed n fs f other      the frames below f are sound, and `other` is the least of them that has not n slots, or f
---   passed_none, -more, -le  before the first frame, and past a sound one; `other` is among them, or behind the last
+--   Passed n fs f other      the frames below f are sound, and `other` is the least of them that has not n slots, if any
+--   passed_none, -more, -below    before the first frame, and past a sound one; `other` is among them
 --   passed-refused           at a frame that is refused, so is the outcome
 --   frames-end               past the last frame: refusal 10, or n
 --   frames-value, -checked, -length    where it is done: it is n, and each frame is a whole file with n slots
@@ -8,21 +8,23 @@
 --   frame-checked            a frame of checked frames is a checked map
 --   frames_outcome-any        where the first frame has no whole header, the outcome is the same for every n
 -- Axioms: none.
-use Rattle.std.proofs.Common.{Ok, Err}
+use Rattle.std.proofs.Common.{Ok, Err, Option, Some, None}
+use Rattle.std.specs.Option.{IfSome, unwrap_or}
+use Rattle.std.proofs.lemmas.Option.{IfSome_then}
 use Rattle.pciv_format.specs.declared.RefusalKind.TheVariants.{TruncatedHeader, SizeMismatch}
 use mathlib.Core.Path.{◌≡◌, refl, sym, subst, ap, ◌∙◌}
 use Prim.Native.Nat.{ℕ, zero, suc, ◌+◌, ◌≤◌, ◌<◌, ◌^◌}
 use native.Mathlib.Nat.{add-zero}
 use native.Mathlib.Numerals.{add-one}
 use native.Mathlib.Omega.{arith}
-use mathlib.Core.Bool.{false}
+use mathlib.Core.Bool.{Bool, true, false, not, cond}
 use mathlib.Core.List.{List, [], ◌∷◌}
 use lib.ListN.{length, get_or, drop, drop_of_length-le}
 use lib.Seq.{drop-cons}
 use lib.Dec.{ltb, eqb}
-use borrow.Author.Tests.{lt-ltb, ltb-false}
+use borrow.Author.Tests.{lt-ltb, le-ltb, eq-eqb, ne_eqb, ltb-false}
 use Rattle.pciv_bytes.specs.Ranges.{first_below}
-use Rattle.pciv_bytes.proofs.RangesLaws.{first_below-none, first_below-le, first_below-all, first_below-more}
+use Rattle.pciv_bytes.proofs.RangesLaws.{first_below-none, first_below-all, first_below-more}
 use Rattle.pciv_format.specs.Layout.{file_len, counts_of}
 use Rattle.pciv_format.specs.Refusals.{Outcome, refuse, refuse_if, and_then}
 use Rattle.pciv_format.specs.Check.{n_field, k_field, counts_file, check_header, check_with, other_length, CheckedMap}
@@ -33,21 +35,23 @@ use Rattle.pciv_format.proofs.RefusalsLaws.{refuse_if-done, and_then-done, and_t
 use Rattle.pciv_format.proofs.LayoutLaws.{file_len-is, index_len-le, index_step-le}
 use Rattle.pciv_format.proofs.CheckLaws.{Accepted, done-counts_file, accepted-length}
 use Rattle.pciv_bundle_frames.specs.Frames.{sound_frames, other_slots, first_other, frames_outcome}
-use Rattle.pciv_bundle_frames.specs.Frames.{next_other, next_frame, CheckedFrames}
+use Rattle.pciv_bundle_frames.specs.Frames.{next_other, next_frame, same_slots, CheckedFrames}
 
 -- ---- one frame after another
 
-pub record Passed (n : ℕ) (fs : List (List ℕ)) (f other : ℕ) : Type 0 where
+pub record Passed (n : ℕ) (fs : List (List ℕ)) (f : ℕ) (other : Option ℕ) : Type 0 where
   pub inside : f ≤ length fs
   pub rest : sound_frames 1 fs ≡ sound_frames (f + 1) (drop f fs)
-  pub least : other ≡ first_below (other_slots n fs) f
+  pub least : unwrap_or other f ≡ first_below (other_slots n fs) f
+  pub below : IfSome other (λ g. g < f)
 
-pub passed_none : (n : ℕ) (fs : List (List ℕ)) → Passed n fs 0 0
+pub passed_none : (n : ℕ) (fs : List (List ℕ)) → Passed n fs 0 None
 passed_none n fs =
     record {
       inside = omega arith;
       rest = refl;
       least = sym (first_below-none (other_slots n fs) 0 (λ j h. absurd (omega arith)));
+      below = tt;
     }
 
 -- the counts of a sound frame have its slots
@@ -55,13 +59,30 @@ slots-are : (mp : ℕ) (b : List ℕ) (s : Counts) → counts_file mp b ≡ Ok s
 unfolding counts_of
 slots-are mp b s e = ap (λ (z : Counts). z.n) (done-counts_file mp b s e).counts
 
-module _ {n : ℕ} {fs : List (List ℕ)} {f other : ℕ} (e : Passed n fs f other) where
-  next-least : (s : Counts) → counts_file (f + 1) (get_or fs f []) ≡ Ok s
-      → next_other n f other s.n ≡ first_below (other_slots n fs) (f + 1)
-  next-least s q =
-      rw (e.least, slots-are (f + 1) (get_or fs f []) s q)
-      (first_below-more (other_slots n fs) f (eqb (n_field (get_or fs f [])) n) refl)
+-- the least of the frames up to f, from that of those below
+next-some : (p : ℕ → Bool) (f n have : ℕ) (other : Option ℕ) → p f ≡ not (eqb have n)
+    → unwrap_or other f ≡ first_below p f → IfSome other (λ g. g < f)
+    → (unwrap_or (next_other n f other have) (f + 1) ≡ first_below p (f + 1))
+    × IfSome (next_other n f other have) (λ g. g < f + 1)
+next-some p f n have (Some g) e least below =
+    let more = first_below-more p f (eqb have n) e in
+    (rw (← least, ne_eqb g f (λ q. omega arith)) at more, omega arith)
+next-some p f n have None e least below =
+    let more = first_below-more p f (eqb have n) e in
+    go (eqb have n) (first_below p (f + 1)) (rw (← least, eq-eqb f f refl) at more)
+  where
+    go : (t : Bool) (y : ℕ) → cond t (f + 1) f ≡ y
+        → (unwrap_or (cond t None (Some f)) (f + 1) ≡ y) × IfSome (cond t None (Some f)) (λ g. g < f + 1)
+    go true y e = (e, tt)
+    go false y e = (e, omega arith)
 
+-- and then what is left to refuse
+rest-refused : (n f : ℕ) (other : Option ℕ) → IfSome other (λ g. g < f)
+    → refuse_if (ltb (unwrap_or other f) f) (refuse SizeMismatch 0 (unwrap_or other f + 1)) (Ok n) ≡ same_slots n other
+rest-refused n f (Some g) below = rw (lt-ltb g f below)
+rest-refused n f None below = rw (le-ltb f f (omega arith))
+
+module _ {n : ℕ} {fs : List (List ℕ)} {f : ℕ} {other : Option ℕ} (e : Passed n fs f other) where
   module _ (more : f < length fs) where
     step : sound_frames 1 fs
         ≡ and_then (counts_file (f + 1) (get_or fs f [])) (λ s. sound_frames (f + 1 + 1) (drop (f + 1) fs))
@@ -74,21 +95,26 @@ module _ {n : ℕ} {fs : List (List ℕ)} {f other : ℕ} (e : Passed n fs f oth
     passed-refused r q =
         rw (step, and_then-refused (counts_file (f + 1) (get_or fs f [])) (λ s. next_other n f other s.n) r q)
 
-    pub passed-more : (least : ℕ) → next_frame n f other (get_or fs f []) ≡ Ok least → Passed n fs (f + 1) least
+    pub passed-more : (least : Option ℕ) → next_frame n f other (get_or fs f []) ≡ Ok least → Passed n fs (f + 1) least
     passed-more least q =
         let h = and_then-done (counts_file (f + 1) (get_or fs f [])) (λ s. Ok (next_other n f other s.n)) least q in
         let next : next_other n f other h.0.n ≡ least = cc h.2 in
-        record { inside = omega arith; rest = step ∙ rw h.1; least = sym next ∙ next-least h.0 h.1 }
+        let some = next-some (other_slots n fs) f n h.0.n other (rw (slots-are (f + 1) (get_or fs f []) h.0 h.1)) e.least e.below in
+        record {
+          inside = omega arith;
+          rest = step ∙ rw h.1;
+          least = rw (← next) some.0;
+          below = rw (← next) some.1;
+        }
 
-  pub frames-end : (count : ℕ) → length fs ≡ count → count ≤ f
-      → frames_outcome n fs ≡ refuse_if (ltb other count) (refuse SizeMismatch 0 (other + 1)) (Ok n)
+  pub frames-end : length fs ≤ f → frames_outcome n fs ≡ same_slots n other
   unfolding frames_outcome sound_frames
-  frames-end count many h =
+  frames-end h =
       let all : f ≡ length fs = omega (arith, e.inside) in
-      rw (e.rest, drop_of_length-le fs {i = f} (omega arith), ← many, ← all, e.least)
+      rw (e.rest, drop_of_length-le fs {i = f} (omega arith), ← all, ← e.least) (rest-refused n f other e.below)
 
-  pub passed-le : other ≤ length fs
-  passed-le = omega (arith, e.least, e.inside, first_below-le (other_slots n fs) f)
+  pub passed-below : length fs ≤ 8 → IfSome other (λ g. g < 8)
+  passed-below few = IfSome_then other e.below (λ g h. omega (arith, e.inside))
 
 -- ---- where it is done
 

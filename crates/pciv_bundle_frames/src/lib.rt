@@ -2,11 +2,9 @@
 // one slot (docs/FORMAT.md, "Bundles"). Definitions are in specs/Frames.antt.
 #![tactic(auto)]
 
-ghost use Rattle.std.specs.Prelude.{◌≡◌, ◌+◌, ◌≤◌, ◌<◌, map, length, take, ltb};
-ghost use Rattle.pciv_format.specs.Refusals.{refuse, refuse_if};
+ghost use Rattle.std.specs.Prelude.{◌≡◌, ◌≤◌, ◌<◌, map, length, take, IfSome};
 ghost use Rattle.pciv_bundle_records.specs.Records.{frames, PlacedFrames};
-ghost use Rattle.pciv_bundle_frames.specs.Frames.{frames_outcome, next_other, next_frame, CheckedFrames, row_of};
-ghost use Rattle.pciv_format.specs.declared.RefusalKind.TheVariants.{SizeMismatch};
+ghost use Rattle.pciv_bundle_frames.specs.Frames.{frames_outcome, next_frame, same_slots, CheckedFrames, row_of};
 
 use pciv_bundle_records::{MAX_FRAMES, Span, frame_at};
 use pciv_bytes::little_endian::get64;
@@ -15,47 +13,49 @@ use pciv_format::{Refusal, RefusalKind};
 use pciv_layout::refusals::refuse;
 use pciv_map_lookup::locate;
 
-// The least of the frames up to f that has not n slots, or f + 1, where `other` is that of those below f and frame f has
-// `have` slots.
-fn next_other(other: usize, f: usize, have: usize, n: usize) -> usize
-    requires { f < 8 }
-    ensures { result ≡ next_other n f other have }
-{
-    if other == f && have == n { f + 1 } else { other }
-}
-
-// The check of frame f, then the least of the frames up to it that has not n slots, or f + 1, where `other` is that of
-// those below.
-fn check_next(frame: &[u8], f: usize, other: usize, n: usize) -> Result<usize, Refusal>
+// The check of frame f, then the least of the frames up to it that has not n slots, if there is one, where `other` is that
+// of those below.
+fn check_next(
+    frame: &[u8],
+    f: usize,
+    other: Option<usize>,
+    n: usize,
+) -> Result<Option<usize>, Refusal>
     requires { f < 8 }
     ensures { result ≡ next_frame n f other frame.now }
 {
     let counts = check_counts(frame, f + 1)?;
-    Ok(next_other(other, f, counts.n, n))
+    let this = (counts.n != n).then_some(f);
+    Ok(other.or(this))
 }
 
-// Refusal 10 where one of `count` frames has not n slots, else n; `other` is the least such frame, from 0, or `count`.
-fn same_slots(other: usize, count: usize, n: usize) -> Result<usize, Refusal>
-    requires { other ≤ 8 }
-    ensures { result ≡ refuse_if (ltb other count) (refuse SizeMismatch 0 (other + 1)) (Ok n) }
+// Refusal 10 where there is a frame, of eight from 0, that has not n slots, else n.
+fn same_slots(other: Option<usize>, n: usize) -> Result<usize, Refusal>
+    requires { IfSome other (λ f. f < 8) }
+    ensures { result ≡ same_slots n other }
 {
-    if other < count {
-        return refuse(RefusalKind::SizeMismatch, 0, other + 1);
+    match other {
+        Some(f) => refuse(RefusalKind::SizeMismatch, 0, f + 1),
+        None => Ok(n),
     }
-    Ok(n)
 }
 
 // The check of a bundle's frames, of which each has to have n slots. Refusals: 1 to 8, then 10.
-pub fn check_frames(bundle: &[u8], places: [Span; MAX_FRAMES], count: usize, n: usize) -> Result<usize, Refusal>
+pub fn check_frames(
+    bundle: &[u8],
+    places: [Span; MAX_FRAMES],
+    count: usize,
+    n: usize,
+) -> Result<usize, Refusal>
     requires count_bound { (count ≤ 8) × (count ≡ length (frames bundle.now)) }
     requires placed_frames { PlacedFrames bundle.now places }
     ensures { result ≡ frames_outcome n (frames bundle.now) }
 {
-    let mut other = 0;
+    let mut other = None;
     for f in 0..count {
         other = check_next(frame_at(bundle, places, f), f, other, n)?;
     }
-    same_slots(other, count, n)
+    same_slots(other, n)
 }
 
 // The same of the first `count` of eight frames that a caller lends.
@@ -63,15 +63,21 @@ pub fn check_lent(frames: &[&[u8]; MAX_FRAMES], count: usize, n: usize) -> Resul
     requires { count ≤ 8 }
     ensures { result ≡ frames_outcome n (take count (map (λ x. x.now) frames.now)) }
 {
-    let mut other = 0;
+    let mut other = None;
     for (f, frame) in frames[..count].iter().enumerate() {
         other = check_next(frame, f, other, n)?;
     }
-    same_slots(other, count, n)
+    same_slots(other, n)
 }
 
 // The distance at a slot in each frame of a bundle, 0 where there is no frame.
-pub fn row_of(bundle: &[u8], places: [Span; MAX_FRAMES], count: usize, n: usize, slot: usize) -> [u32; MAX_FRAMES]
+pub fn row_of(
+    bundle: &[u8],
+    places: [Span; MAX_FRAMES],
+    count: usize,
+    n: usize,
+    slot: usize,
+) -> [u32; MAX_FRAMES]
     requires count_bound { (count ≤ 8) × (count ≡ length (frames bundle.now)) × (slot < n) }
     requires placed_frames { PlacedFrames bundle.now places × CheckedFrames (frames bundle.now) n }
     ensures { result ≡ row_of (frames bundle.now) slot }

@@ -103,9 +103,9 @@ left_block {v} {n} {out₀} {out} {start} left more len is next e =
     let on : Left v n out₀ next (start + len) = left-part left len next (omega arith) e in
     elim (dec_le (n - start) 4096) [
       | yes d ↦ record {
-          same = on.same;
-          rest = sym (ap (sets next (start + 4096)) (table_done v n (start + 4096) (omega arith)) ∙ left_end on (omega arith));
-        }
+        same = on.same;
+        rest = sym (ap (sets next (start + 4096)) (table_done v n (start + 4096) (omega arith)) ∙ left_end on (omega arith));
+      }
       | no d ↦ (let full : len ≡ 4096 = omega arith in subst (λ (z : ℕ). Left v n out₀ next (start + z)) full on)
     ]
 

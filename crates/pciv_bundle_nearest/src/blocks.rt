@@ -36,7 +36,7 @@ fn raised(least: u8) -> u32
 
 // Each byte of the block with the byte of one more frame there.
 fn lower_block(least: &mut [u8; BLOCK], bytes: &[u8])
-    requires { (length bytes.now ≤ 4096) × (length least.old ≡ 4096) }
+    requires { length bytes.now ≤ 4096 }
     ensures { Changed (λ (i m : ℕ). lowered_byte m (at bytes.now i)) (length bytes.now)
         least.old least.new }
 {
@@ -82,7 +82,13 @@ fn nearest_block(
 }
 
 // All n slots.
-pub(crate) fn nearest_bytes(bundle: &[u8], places: [Span; MAX_FRAMES], count: usize, n: usize, out: &mut [u32])
+pub(crate) fn nearest_bytes(
+    bundle: &[u8],
+    places: [Span; MAX_FRAMES],
+    count: usize,
+    n: usize,
+    out: &mut [u32],
+)
     requires count_bound { (count ≤ 8) × (count ≡ length (frames bundle.now)) × (n ≤ length out.old) }
     requires placed_frames { PlacedFrames bundle.now places × CheckedFrames (frames bundle.now) n }
     ensures { out.new

@@ -24,7 +24,13 @@ fn lower_entries(file: &[u8], n: usize, k: usize, out: &mut [u32])
 }
 
 // The entries of every frame.
-pub(crate) fn lower_all(bundle: &[u8], places: [Span; MAX_FRAMES], count: usize, n: usize, out: &mut [u32])
+pub(crate) fn lower_all(
+    bundle: &[u8],
+    places: [Span; MAX_FRAMES],
+    count: usize,
+    n: usize,
+    out: &mut [u32],
+)
     requires count_bound { (count ≤ 8) × (count ≡ length (frames bundle.now)) × (n ≤ length out.old) }
     requires placed_frames { PlacedFrames bundle.now places × CheckedFrames (frames bundle.now) n }
     ensures { Changed (λ (i x : ℕ). foldl (entry_step n i) x (frames bundle.now)) n

@@ -2,7 +2,7 @@
 use Rattle.std.proofs.Common.{sym, ◌∙◌, arith}
 use Rattle.pciv_format.proofs.RefusalsLaws.{passed_on}
 use Rattle.pciv_bundle_frames.proofs.LentLaws.{used-length, used-at}
-use Rattle.pciv_bundle_frames.proofs.FramesLaws.{passed_none, passed-more, passed-le, passed-refused, frames-end}
+use Rattle.pciv_bundle_frames.proofs.FramesLaws.{passed_none, passed-more, passed-below, passed-refused, frames-end}
 use Rattle.pciv_bundle_frames.proofs.check_lent.Goals as goal
 
 pub loop-f-init : goal.loop-f-init
@@ -14,7 +14,7 @@ returns-in_err-other c =
     let many = used-length a.frames.now a.count c.told-frames c.requires in
     passed_on _ _ c.from_residual.ensures.1
     ∙ sym (passed-refused c.loop-f.invariant (omega arith) _
-      (rw (← used-at a.frames.now a.count c.loop-f.f) (sym c.check_next.ensures ∙ c.in_err-other.was)))
+    (rw (← used-at a.frames.now a.count c.loop-f.f) (sym c.check_next.ensures ∙ c.in_err-other.was)))
 
 pub loop-f-preserved : goal.loop-f-preserved
 loop-f-preserved c =
@@ -25,10 +25,11 @@ loop-f-preserved c =
 
 pub same_slots-requires : goal.same_slots-requires
 same_slots-requires c =
-    omega (arith, passed-le c.loop-f.invariant, used-length c.args.frames.now c.args.count c.told-frames c.requires)
+    let a = c.args in
+    passed-below c.loop-f.invariant (omega (arith, used-length a.frames.now a.count c.told-frames c.requires))
 
 pub returns : goal.returns
 returns c =
     let a = c.args in
-    c.same_slots.ensures
-    ∙ sym (frames-end c.loop-f.invariant a.count (used-length a.frames.now a.count c.told-frames c.requires) (omega arith))
+    let many = used-length a.frames.now a.count c.told-frames c.requires in
+    c.same_slots.ensures ∙ sym (frames-end c.loop-f.invariant (omega arith))

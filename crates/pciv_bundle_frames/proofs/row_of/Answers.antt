@@ -25,8 +25,8 @@ get64-requires c = omega (arith, checked-length _ _ _ (checked c))
 
 pub loop-f-preserved : goal.loop-f-preserved
 loop-f-preserved c =
-   let header = (checked (goal.at.loop-f-preserved c).After-frame_at-frame).header in
-   let d : c.locate.result.distance ≡ row_at (frames c.args.bundle.now) c.args.slot c.loop-f.f =
+    let header = (checked (goal.at.loop-f-preserved c).After-frame_at-frame).header in
+    let d : c.locate.result.distance ≡ row_at (frames c.args.bundle.now) c.args.slot c.loop-f.f =
     ap (λ (z : Located). z.distance) c.locate.ensures
     ∙ rw c.get64.ensures (sym (at-list _ _ _ header.n_is header.k_is c.args.slot (omega arith)))
     ∙ ap (λ (b : List ℕ). at (list_of b) c.args.slot) c.frame_at-frame.ensures in

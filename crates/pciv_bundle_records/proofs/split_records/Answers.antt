@@ -74,8 +74,8 @@ loop-at-preserved c =
       | then-get16-eq-FRAME_KIND w ↦ (let kind = sym c.get16.ensures ∙ w.if-get16-eq-FRAME_KIND.true in
           rw (w.places-is, w.found-is) (splitting-frame l.invariant (right e) _ next (few e kind) kind))
       | else-get16-eq-FRAME_KIND w ↦
-        rw (w.places-is, w.found-is)
-        (splitting-other l.invariant (right e) _ next (λ kind. w.if-get16-eq-FRAME_KIND.false (c.get16.ensures ∙ kind)))
+          rw (w.places-is, w.found-is)
+          (splitting-other l.invariant (right e) _ next (λ kind. w.if-get16-eq-FRAME_KIND.false (c.get16.ensures ∙ kind)))
     ]
 
 pub returns-then-found-count : goal.returns-then-found-count

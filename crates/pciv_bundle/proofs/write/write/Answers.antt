@@ -22,8 +22,8 @@ checked c =
     let a = c.args in
     c.check_lent.ensures
     ∙ write-slots (lent a.frames.now) a.count (omega arith) (omega arith) _
-      (used-length a.frames.now a.count c.told-frames (omega arith))
-      (rw lent-at at c.slots_of.ensures)
+    (used-length a.frames.now a.count c.told-frames (omega arith))
+    (rw lent-at at c.slots_of.ensures)
 
 -- the frames that are used, as a slice
 short : (c : After-check_lent) → (let a = c.args in
@@ -34,7 +34,7 @@ short c n e =
     let many = length-take-le a.count a.frames.now (omega arith) in (
       omega (arith, many),
       subst ShortFrames (used-lent a.frames.now a.count)
-      (write-frames (lent a.frames.now) a.count (omega arith) (omega arith) n (sym (checked c) ∙ e)),
+          (write-frames (lent a.frames.now) a.count (omega arith) (omega arith) n (sym (checked c) ∙ e)),
     )
 
 -- the length of their bundle
@@ -82,8 +82,8 @@ put_bundle-requires c =
       short_frames = short z.After-check_lent _ c.in_ok-n.was;
       n_bound = (
         write-n (lent a.frames.now) a.count (omega arith) (omega arith) _
-        (sym (checked z.After-check_lent) ∙ c.in_ok-n.was)
-        (used-length a.frames.now a.count c.told-frames (omega arith)),
+            (sym (checked z.After-check_lent) ∙ c.in_ok-n.was)
+            (used-length a.frames.now a.count c.told-frames (omega arith)),
         omega (arith, c.bundle_len-len.ensures c.in_ok-n.n),
       );
     }
@@ -100,5 +100,5 @@ returns c =
     record {
       answer = ap Ok len ∙ sym (write_done fs a.count (omega arith) (omega arith) n e (length a.out.now) space);
       buffer = rw (← used-lent) at c.put_bundle.ensures
-      ∙ write-buffer fs a.count (omega arith) (omega arith) n e a.out.now space;
+          ∙ write-buffer fs a.count (omega arith) (omega arith) n e a.out.now space;
     }
