@@ -1,6 +1,6 @@
 -- A map with 1 added where a mask is 1.
 --   FineTo P ws j          no slot below the least that entry j may have is too large
---   fine-start, _more, -found, -all    it holds at first and one entry on; an entry is too large, and none is
+--   fine_more, -found, -all    it holds one entry on; an entry is too large, and none is
 --   raised-le, word-raised, raised-next    at most one for each slot; what is picked in a word, as a part of a sum over
 --                          all slots, and the sum one word on
 --   raised-count           the slots in overflow are the map's own and those that come to it
@@ -49,9 +49,6 @@ use Rattle.pciv_mask_increment.proofs.PickedLaws.{picked-sum}
 
 abbrev pub FineTo : Parts → List ℕ → ℕ → Type 0
 FineTo P ws j = (i : ℕ) → i < lowest_slot P j → masked_distance Increment P ws i ≤ max_distance
-
-pub fine-start : (P : Parts) (ws : List ℕ) → FineTo P ws 0
-fine-start P ws i h = absurd (omega arith)
 
 module _ (P : Parts) (s : SoundParts P) (bytes : (i : ℕ) → P.byte i < 256) (ws : List ℕ) where
   abbrev v : ℕ → ℕ
@@ -130,7 +127,7 @@ module _ (xs ws : List ℕ) where
       let f : ℕ → ℕ = raised_at xs ws in
       let e : 64 * (w + 1) - 64 * w ≡ 64 = omega arith in
       let split = sum_from-split f 0 (64 * w) (64 * (w + 1)) (omega arith) (omega arith) in
-      omega (arith, rw (e, sub-zero, sub-zero) at split)
+      omega (arith, simp (e, sub-zero) at split)
 
 -- one more, where the bit is set: in overflow before, or a byte 254
 raised-one : (b : Bool) (x : ℕ)
