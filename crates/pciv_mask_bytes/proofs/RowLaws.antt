@@ -1,5 +1,5 @@
 -- Laws of a mask as bytes: eight bits at once through the table, 64 bits of a word, and the map of 0 and 1.
---   row-is               a row of the table
+--   bit_rows-at, bits_row-table    a row of the table, byte by byte
 --   row-of-word          a row is eight bits of a word;  word-bit, word-slots  a word as 64 bytes, and as 64 slots
 --   no_bytes, last_bit, last-bits    the word after the last whole one as 64 bytes, and its slots
 --   primary-bits         bits are primary bytes
@@ -10,7 +10,7 @@ use Prim.Native.Nat.{ℕ, ◌+◌, ◌*◌, ◌/◌, ◌%◌, ◌^◌, ◌≤◌
 use native.Mathlib.Nat.{zero-add}
 use native.Mathlib.Omega.{arith}
 use mathlib.Core.List.{List, []}
-use lib.ListN.{length, get_or, take, drop, replicate, get_or-eq_default}
+use lib.ListN.{length, get_or, take, replicate, get_or-eq_default}
 use lib.Seq.{sets}
 use Rattle.pciv_bytes.specs.Ranges.{table, joined}
 use Rattle.pciv_bytes.specs.ByteAt.{byte_at}
@@ -29,7 +29,7 @@ use Rattle.pciv_mask_bytes.proofs.SlotLaws.{part-table}
 
 -- ---- rows
 
-bit_rows-at : (b j : ℕ) → b < 256 → j < 8 → get_or bit_rows (8 * b + j) 0 ≡ bit_at b j
+pub bit_rows-at : (b j : ℕ) → b < 256 → j < 8 → get_or bit_rows (8 * b + j) 0 ≡ bit_at b j
 unfolding bit_rows
 bit_rows-at b j hb hj =
     let e : (8 * b + j) / 8 ≡ b = omega arith in
@@ -37,16 +37,9 @@ bit_rows-at b j hb hj =
     get_or-table (λ (i : ℕ). bit_at (i / 8) (i % 8)) 0 0 2048 (8 * b + j) (omega arith)
     ∙ rw (zero-add (8 * b + j), e, g)
 
-bits_row-table : (b : ℕ) → bits_row b ≡ table (bit_at b) 0 8
+pub bits_row-table : (b : ℕ) → bits_row b ≡ table (bit_at b) 0 8
 unfolding bits_row
 bits_row-table b = refl
-
-pub row-is : (b : ℕ) → b < 256 → take 8 (drop (8 * b) bit_rows) ≡ bits_row b
-unfolding bit_rows
-row-is b h =
-    let l : length bit_rows ≡ 2048 = length-table (λ (i : ℕ). bit_at (i / 8) (i % 8)) 0 2048 in
-    part-table bit_rows (bit_at b) (8 * b) 0 8 (omega arith) (λ j hj. bit_rows-at b j h hj ∙ ap (bit_at b) (sym (zero-add j)))
-    ∙ sym (bits_row-table b)
 
 -- ---- a word as bytes
 

@@ -4,8 +4,6 @@ ghost use Rattle.std.proofs.lemmas.List.Edits.{sets};
 ghost use Rattle.pciv_format.specs.Mask.{bits_row};
 ghost use Rattle.pciv_mask_bytes.specs.Rows.{bit_rows};
 
-use pciv_bytes::copies::copy_bytes;
-
 // The table's 256 rows of eight bytes, a row to a line: row b, place j is bit j of b. A caller holds it in a local, since
 // what is named in a loop is built again each time.
 pub fn bit_rows() -> [u8; 2048]
@@ -277,5 +275,7 @@ pub fn put_row(out: &mut [u8], at: usize, rows: &[u8; 2048], b: usize)
     ensures { out.new ≡ sets out.old at (bits_row b) }
 {
     let row = 8 * b;
-    copy_bytes(&rows[row..row + 8], out, at);
+    for j in 0..8 {
+        out[at + j] = rows[row + j];
+    }
 }

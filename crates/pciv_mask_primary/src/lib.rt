@@ -63,13 +63,24 @@ fn raise_set(out: &mut [u8], at: usize, word: u64)
     }
 }
 
+// Copies 64 bytes from `at` on. They are all read into an array first, so that the compiler moves many at once: it need
+// not ask whether the slices overlap.
+fn copy_word(out: &mut [u8], file: &[u8], at: usize)
+    requires { (at + 64 ≤ length file.now) × (at + 64 ≤ length out.old) }
+    ensures { out.new ≡ sets out.old at (take 64 (drop at file.now)) }
+{
+    let mut bytes: [u8; 64] = [0; 64];
+    bytes.copy_from_slice(&file[at..at + 64]);
+    copy_bytes(&bytes, out, at);
+}
+
 // What mask_word writes for an increment, by a copy and a walk.
 fn increment_few(out: &mut [u8], file: &[u8], i: usize, word: u64)
     requires { (40 + i + 64 ≤ length file.now) × (40 + i + 64 ≤ length out.old) }
     ensures { out.new ≡ sets out.old (40 + i) (table (masked_word Increment file.now (40 + i) word) 0 64) }
 {
     let at = HEADER_LEN + i;
-    copy_bytes(&file[at..at + 64], out, at);
+    copy_word(out, file, at);
     raise_set(out, at, word);
 }
 

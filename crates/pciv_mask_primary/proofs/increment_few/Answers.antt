@@ -1,6 +1,5 @@
 -- Proves pciv_mask_primary::increment_few.
 use Rattle.std.proofs.Common.{◌+◌, ◌∙◌}
-use Rattle.std.proofs.Math.Nat.{add-sub_cancel_left}
 use Rattle.pciv_mask_primary.proofs.ByteLaws.{raised-copied}
 use Rattle.pciv_mask_primary.proofs.increment_few.Goals as goal
 
@@ -9,4 +8,4 @@ returns c =
     let a = c.args in
     c.raise_set.ensures
     ∙ raised-copied a.file.now a.out.now _ (40 + a.i) a.word c.requires.0 c.requires.1
-    (rw (add-sub_cancel_left (40 + a.i) 64) at c.copy_bytes.ensures)
+    c.copy_word.ensures
