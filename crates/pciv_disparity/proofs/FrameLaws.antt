@@ -1,5 +1,4 @@
 -- Laws of the beginning of a frame's file, which is made by the primary bytes of the table's entries.
---   table-is                   a list by its elements
 --   byte-is                    a byte is its own primary byte
 --   bytes_of-is, bytes-at, bytes-are    these bytes, written out; one of them; each is a byte
 --   high_of-is, high-at         256 times each of them, written out; one of these
@@ -18,8 +17,8 @@ use native.Mathlib.Nat.{zero-add}
 use native.Mathlib.Omega.{arith}
 use native.Mathlib.Decide.{dec_le}
 use mathlib.Core.List.{List, [], ◌∷◌}
-use lib.ListN.{length, set, get_or, get_or-eq_default}
-use lib.Seq.{sets, length-sets, ext_get_or}
+use lib.ListN.{length, set, get_or-eq_default}
+use lib.Seq.{sets, length-sets}
 use lib.Dec.{ltb, eqb}
 use borrow.Author.Tests.{lt-ltb, le-ltb}
 use Rattle.pciv_bytes.specs.Ranges.{flag, table, sum_from}
@@ -44,13 +43,6 @@ use Rattle.pciv_build.proofs.EntriesLaws.{overflow_count-sum}
 use Rattle.pciv_disparity.specs.Disparity.{frame_distance, frame_outcome}
 use Rattle.pciv_disparity.specs.Frames.{bytes_of, high_of, begun_buffer, front_outcome, front_buffer}
 use Rattle.pciv_disparity.proofs.DisparityLaws.{frame-into}
-
--- a list with these elements
-pub table-is : (f : ℕ → ℕ) (xs : List ℕ) (n : ℕ) → length xs ≡ n → ((i : ℕ) → i < n → get_or xs i 0 ≡ f i)
-    → xs ≡ table f 0 n
-table-is f xs n long each =
-    ext_get_or 0 xs (table f 0 n) (long ∙ sym (length-table f 0 n))
-    (λ i h. (let l : i < n = omega (arith, long) in each i l ∙ sym (get_or-table f 0 0 n i l ∙ ap f (zero-add i))))
 
 pub byte-is : (x : ℕ) → x < 256 → x ≡ primary_byte x
 byte-is x h = omega (arith, primary_byte-min x)

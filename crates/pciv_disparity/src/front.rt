@@ -20,7 +20,12 @@ use pciv_passes::counts::{count_byte, count_from};
 pub(crate) fn primary_bytes(table: &[u32; 256]) -> [u8; 256]
     ensures { result ≡ bytes_of table.now }
 {
-    table.map(|x| primary_byte(x))
+    let mut bytes: [u8; 256] = [0; 256];
+    for d in 0..256 {
+        let x = table[d];
+        bytes[d] = primary_byte(x);
+    }
+    bytes
 }
 
 // 256 times each byte.
@@ -28,7 +33,11 @@ fn high_bytes(bytes: &[u8; 256]) -> [u16; 256]
     requires { Bytes bytes.now }
     ensures { result ≡ high_of bytes.now }
 {
-    bytes.map(|b| 256 * u16::from(b))
+    let mut high: [u16; 256] = [0; 256];
+    for d in 0..256 {
+        high[d] = 256 * bytes[d] as u16;
+    }
+    high
 }
 
 // The bytes of two disparities as one number of two bytes.

@@ -1,11 +1,16 @@
 -- Proves pciv_disparity::front::high_bytes.
-use Rattle.std.proofs.Common.{ℕ, ◌*◌, sym, ◌∙◌, rules}
-use Rattle.pciv_format.specs.Layout.{at}
-use Rattle.pciv_disparity.proofs.FrameLaws.{table-is, high_of-is}
+use Rattle.std.proofs.Common.{ℕ, refl, sym, ◌∙◌, arith}
+use Rattle.std.proofs.lemmas.List.{length-replicate}
+use Rattle.pciv_bytes.proofs.WriteLaws.{left-start, left-more, left-whole}
+use Rattle.pciv_disparity.proofs.FrameLaws.{high_of-is}
 use Rattle.pciv_disparity.proofs.front.high_bytes.Goals as goal
+
+pub loop-d-init : goal.loop-d-init
+loop-d-init c = left-start _ 256 _
+
+pub loop-d-preserved : goal.loop-d-preserved
+loop-d-preserved c = left-more c.loop-d.invariant _ (omega arith) refl
 
 pub returns : goal.returns
 returns c =
-    let made = c.map.ensures.items in
-    table-is (λ (d : ℕ). 256 * at c.args.bytes.now d) _ 256 made.long (λ i h. let call = made.at i 0 0 h in search rules)
-    ∙ sym (high_of-is c.args.bytes.now)
+    left-whole c.loop-d.invariant (omega arith) (length-replicate {A = ℕ} 256 0) ∙ sym (high_of-is c.args.bytes.now)
