@@ -2,7 +2,7 @@
 -- that have p are changed, in rising order.
 --   field_of-low, -high     a header field of 4 bytes, and of 8
 --   was_set-same            a byte that is the same in both files was not set
---   quad c                 a change as four numbers
+--   quad c, set-quad       a change as four numbers; four elements set one after another
 --   Listing f p to all from list₀ j line list    the invariant of a loop that lists them: writing the changes of the
 --                          numbers `all` from line number `from` on equals writing those of the numbers from j on, from
 --                          line number `line` on
@@ -19,7 +19,7 @@ use native.Mathlib.Numerals.{add-one}
 use native.Mathlib.Omega.{arith}
 use mathlib.Core.Bool.{Bool, true, false, not, ◌&&◌}
 use mathlib.Core.List.{List, [], ◌∷◌, ◌++◌, map, map-append}
-use lib.ListN.{length, length-append, length-map}
+use lib.ListN.{length, set, length-append, length-map}
 use lib.Seq.{sets, length-sets}
 use lib.Dec.{eqb}
 use borrow.Author.Tests.{lt-ltb, le-ltb, eqb-true, not-false}
@@ -86,6 +86,14 @@ module _ (p : ℕ → Bool) (to j s : ℕ) (low : j ≤ s) (high : s ≤ to) whe
 
 abbrev pub quad : Correction → List ℕ
 quad c = c.kind ∷ c.place ∷ c.before ∷ c.after ∷ []
+
+pub set-quad : (d : List ℕ) (i x₀ x₁ x₂ x₃ : ℕ)
+    → set (set (set (set d i x₀) (i + 1) x₁) (i + 2) x₂) (i + 3) x₃ ≡ sets d i (x₀ ∷ x₁ ∷ x₂ ∷ x₃ ∷ [])
+set-quad d i x₀ x₁ x₂ x₃ =
+    let e₁ : i + 1 ≡ suc i = omega arith in
+    let e₂ : i + 2 ≡ suc (suc i) = omega arith in
+    let e₃ : i + 3 ≡ suc (suc (suc i)) = omega arith in
+    rw (e₁, e₂, e₃)
 
 pub record Listing (f : ℕ → Correction) (p : ℕ → Bool) (to : ℕ) (all : List ℕ) (from : ℕ) (list₀ : List ℕ)
     (j line : ℕ) (list : List ℕ) : Type 0 where

@@ -51,7 +51,10 @@ pub(crate) fn put_line(
         ≡ sets list.old (4 * line) (change_number kind ∷ place ∷ before ∷ after ∷ []) }
 {
     let at = CORRECTION_LEN * line;
-    list[at..at + CORRECTION_LEN].copy_from_slice(&[usize::from(kind), place, before, after]);
+    list[at] = usize::from(kind);
+    list[at + 1] = place;
+    list[at + 2] = before;
+    list[at + 3] = after;
     line + 1
 }
 
