@@ -13,7 +13,7 @@ ghost use Rattle.pciv_format.specs.Layout.{max_slots, file_len, header};
 ghost use Rattle.pciv_build.specs.Build.{begin_outcome, begin_buffer, index_from};
 
 use pciv_bytes::little_endian::{get64, put32, put64};
-use pciv_format::{HEADER_LEN, MAGIC, Counts, Refusal, RefusalKind};
+use pciv_format::{Counts, HEADER_LEN, MAGIC, Refusal, RefusalKind};
 use pciv_layout::refusals::refuse;
 use pciv_layout::{counts_of, file_len, index_len, index_step};
 
@@ -30,6 +30,7 @@ pub fn put_header(out: &mut [u8], n: usize, k: usize)
 }
 
 // Begins a file: its header and its counts; or refusal 12, with the buffer as it was.
+#[tactic(auto, unfolding(crate::specs::Build::begin_outcome, crate::specs::Build::begin_buffer))]
 pub fn begin(out: &mut [u8], n: usize, k: usize) -> Result<Counts, Refusal>
     requires { (n ≤ max_slots) × (k ≤ n) }
     ensures answer { result ≡ begin_outcome n k (length out.old) }
@@ -71,11 +72,9 @@ pub fn finish(out: &mut [u8], n: usize, k: usize)
     let m = index_len(k);
     let entries = HEADER_LEN + n;
     let index = entries + 12 * k;
-    let mut i = 0;
-    while i < m {
+    for i in 0..m {
         let entry = i * step;
         let slot = get64(out, entries + 12 * entry);
         put_index_entry(out, index + 16 * i, slot, entry);
-        i += 1;
     }
 }

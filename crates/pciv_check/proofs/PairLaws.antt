@@ -1,5 +1,4 @@
 -- Laws of the check of two files.
---   pair_counts-first, -second, -sizes, -both    its cases
 --   pair-checked                what it has shown of the two files
 --   file-pair_counts             on the files of two lists: refusal 10, or the counts of both
 --   pair_outcome-is              what follows the check of two files follows its counts; -ready and -refused
@@ -18,33 +17,13 @@ use Rattle.pciv_format.specs.Check.{counts_file}
 use Rattle.pciv_format.specs.Arith.{pair_outcome}
 use Rattle.pciv_format.specs.declared.Counts.{Counts}
 use Rattle.pciv_format.specs.declared.Refusal.{Refusal}
-use Rattle.pciv_format.proofs.PartsLaws.{not_eqb, eqb-not, neb-not}
+use Rattle.pciv_format.proofs.PartsLaws.{not_eqb}
 use Rattle.pciv_format.proofs.RefusalsLaws.{refuse_if-done, and_then-done}
 use Rattle.pciv_format.proofs.CheckLaws.{done-counts}
 use Rattle.pciv_format.proofs.Acceptance.{file-counted}
 use Rattle.pciv_format.proofs.ListLaws.{refuse_sizes}
 use Rattle.pciv_check.specs.Pair.{both_counts, pair_counts, CheckedPair}
 use Rattle.pciv_check.specs.declared.pair.PairCounts.{PairCounts}
-
--- ---- the cases
-
-module _ (a b : List ℕ) where
-  pub pair_counts-first : (r : Refusal) → counts_file 1 a ≡ Err r → pair_counts a b ≡ Err r
-  unfolding pair_counts
-  pair_counts-first r e = rw e
-
-  module _ (s : Counts) (e : counts_file 1 a ≡ Ok s) where
-    pub pair_counts-second : (r : Refusal) → counts_file 2 b ≡ Err r → pair_counts a b ≡ Err r
-    unfolding pair_counts
-    pair_counts-second r f = rw (e, f)
-
-    pub pair_counts-sizes : (t : Counts) → counts_file 2 b ≡ Ok t → (s.n ≡ t.n → ⊥) → pair_counts a b ≡ refuse SizeMismatch 0 0
-    unfolding pair_counts
-    pair_counts-sizes t f other = rw (e, f, neb-not s.n t.n other)
-
-    pub pair_counts-both : (t : Counts) → counts_file 2 b ≡ Ok t → s.n ≡ t.n → pair_counts a b ≡ Ok (both_counts s t)
-    unfolding pair_counts
-    pair_counts-both t f same = rw (e, f, eqb-not s.n t.n same)
 
 -- ---- what is checked
 

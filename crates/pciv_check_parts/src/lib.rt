@@ -93,6 +93,7 @@ fn first_bad_index_entry(file: &[u8], n: usize, k: usize) -> usize
 }
 
 // Refusals 6 to 8, else the counts.
+#[tactic(auto, unfolding(pciv_format::specs::Check::check_parts))]
 pub fn check_parts(file: &[u8], map: usize, n: usize, k: usize) -> Result<Counts, Refusal>
     requires { PartsInside file.now n k }
     ensures { result ≡ check_parts map file.now n k }

@@ -52,6 +52,7 @@ pub fn primary_byte(x: u32) -> u8
 }
 
 // The step of the sparse index; 0 for no index.
+#[tactic(auto, unfolding(pciv_format::specs::Layout::index_step))]
 pub fn index_step(k: usize) -> usize
     requires { k ≤ max_slots }
     ensures { result ≡ index_step k }
@@ -63,6 +64,7 @@ pub fn index_step(k: usize) -> usize
 }
 
 // How many entries the sparse index has.
+#[tactic(auto, using(crate::proofs::CeilLaws::ceil_div_is), unfolding(pciv_format::specs::Layout::index_len))]
 pub fn index_len(k: usize) -> usize
     requires { k ≤ max_slots }
     ensures { result ≡ index_len k }
