@@ -35,7 +35,11 @@ fn tell_refused(why: Refusal, refusal: &mut [usize; 3]) -> usize
     number
 }
 
-pub fn tell_file(a: Result<Summary, Refusal>, summary: &mut [usize; 6], refusal: &mut [usize; 3]) -> usize
+pub fn tell_file(
+    a: Result<Summary, Refusal>,
+    summary: &mut [usize; 6],
+    refusal: &mut [usize; 3],
+) -> usize
     ensures told { ToldFile a
         result summary.old summary.new refusal.new }
 {

@@ -16,7 +16,7 @@ ghost use Rattle.pciv_mask_threshold.specs.Select.{limit_asked, start_in};
 use crate::entries::flip_entries;
 use pciv_bits::flags::{fill, flags_into, near_into};
 use pciv_check::check_counts;
-use pciv_format::{HEADER_LEN, SENTINEL, Comparison, Refusal, RefusalKind};
+use pciv_format::{Comparison, HEADER_LEN, Refusal, RefusalKind, SENTINEL};
 use pciv_layout::mask_len;
 use pciv_layout::refusals::refuse;
 
@@ -137,7 +137,12 @@ fn select(file: &[u8], asked: Asked, out: &mut [u64]) -> Result<usize, Refusal>
 
 // The mask of the slots whose distance compares with t as asked, to the front of the caller's list of words; answers how
 // many words. Refusals: 1 to 8, then 12.
-pub fn threshold(file: &[u8], comparison: Comparison, t: u32, out: &mut [u64]) -> Result<usize, Refusal>
+pub fn threshold(
+    file: &[u8],
+    comparison: Comparison,
+    t: u32,
+    out: &mut [u64],
+) -> Result<usize, Refusal>
     ensures answer { result ≡ threshold_outcome comparison file.now t (length out.old) }
     ensures words { out.new ≡ threshold_words comparison file.now t out.old }
 {

@@ -31,5 +31,5 @@ returns c =
     record {
       answer = e;
       words = c.zip_words.ensures
-      ∙ combine-written _ _ _ _ _ _ (sym e) (λ w. (c.type_inv.a w).fits) (λ w. (c.type_inv.b w).fits);
+          ∙ combine-written _ _ _ _ _ _ (sym e) (λ w. (c.type_inv.a w).fits) (λ w. (c.type_inv.b w).fits);
     }

@@ -27,5 +27,5 @@ pub returns : goal.returns
 returns c =
     record {
       answer = ap Ok c.count_bits.ensures
-      ∙ sym (set_bits-done _ _ c.if-n-gt-MAX_SLOTS.false (is-good (goal.at.returns c).Else-not-is_mask));
+          ∙ sym (set_bits-done _ _ c.if-n-gt-MAX_SLOTS.false (is-good (goal.at.returns c).Else-not-is_mask));
     }

@@ -13,6 +13,6 @@ returns c =
     record {
       answer = c.select.ensures.answer;
       words = rw (c.limit_of.ensures, c.is_negated.ensures) at c.select.ensures.words
-      ∙ words-cong (passes (limit_of a.comparison a.t) (is_negated a.comparison)) a.file.now a.out.now
-      (λ y. holds a.comparison y a.t) (λ y. holds-limit a.comparison y a.t);
+          ∙ words-cong (passes (limit_of a.comparison a.t) (is_negated a.comparison)) a.file.now a.out.now
+          (λ y. holds a.comparison y a.t) (λ y. holds-limit a.comparison y a.t);
     }
