@@ -25,7 +25,7 @@ use Rattle.pciv_format.specs.Check.{file_parts}
 use Rattle.pciv_repair_file.specs.Repaired.{is_kept, is_set, repaired_at, repaired_file, bytes_after, rebuilt_index, same}
 use Rattle.pciv_repair.specs.declared.Repaired.{Repaired}
 use Rattle.pciv_repair.specs.declared.lines.ChangeKind.{ChangeKind}
-use Rattle.pciv_repair.specs.declared.lines.ChangeKind.TheVariants.{FieldChanged, EntryDropped, ByteSet, IndexChanged}
+use Rattle.pciv_repair.specs.declared.lines.ChangeKind.TheVariants.{Field, Dropped, Set, Index}
 
 -- ---- the header
 
@@ -40,10 +40,10 @@ field_of b i = get (cond (ltb i 2) 4 8) b (field_at i)
 
 -- the number of its kind in the list
 abbrev pub change_number : ChangeKind → ℕ
-change_number FieldChanged = 1
-change_number EntryDropped = 2
-change_number ByteSet = 3
-change_number IndexChanged = 4
+change_number Field = 1
+change_number Dropped = 2
+change_number Set = 3
+change_number Index = 4
 
 pub record Correction : Type 0 where
   pub kind : ℕ

@@ -94,7 +94,7 @@ fn put_index(
     put_line(
         list,
         line,
-        ChangeKind::IndexChanged,
+        ChangeKind::Index,
         0,
         file.len() - after,
         16 * index_len(kept),

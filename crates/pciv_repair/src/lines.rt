@@ -16,10 +16,10 @@ use pciv_repair_file::kept::lowest_after;
 // The kinds of changes: a header field, an entry dropped, a byte set, the index. The list has their numbers.
 #[derive(Clone, Copy)]
 pub enum ChangeKind {
-    FieldChanged = 1,
-    EntryDropped = 2,
-    ByteSet = 3,
-    IndexChanged = 4,
+    Field = 1,
+    Dropped = 2,
+    Set = 3,
+    Index = 4,
 }
 
 impl From<ChangeKind> for usize {
@@ -107,14 +107,7 @@ pub(crate) fn put_fields(file: &[u8], new: &[u8], list: &mut [usize]) -> usize
         let before = field_of(file, i);
         let after = field_of(new, i);
         if before != after {
-            line = put_line(
-                list,
-                line,
-                ChangeKind::FieldChanged,
-                field_at(i),
-                before,
-                after,
-            );
+            line = put_line(list, line, ChangeKind::Field, field_at(i), before, after);
         }
     }
     line
@@ -140,7 +133,7 @@ pub(crate) fn put_dropped(file: &[u8], n: usize, k: usize, list: &mut [usize], f
         let next = lowest_after(file, n, lowest, j);
         if next <= lowest {
             let slot = get64(file, HEADER_LEN + n + 12 * j);
-            line = put_line(list, line, ChangeKind::EntryDropped, j, slot, 0);
+            line = put_line(list, line, ChangeKind::Dropped, j, slot, 0);
         }
         lowest = next;
     }
@@ -188,7 +181,7 @@ fn put_block(
             line = put_line(
                 list,
                 line,
-                ChangeKind::ByteSet,
+                ChangeKind::Set,
                 slot,
                 SENTINEL as usize,
                 INLINE_MAX as usize,
