@@ -1,35 +1,31 @@
 -- What `shift` answers and leaves, case by case: a refused file, or a map with counts s that is shifted down or up.
---   Opposite, opposite        the signed arithmetic of `which_way` on a negative number
---   Itself, itself            and on another
 --   checked                   what the check has shown
 --   up_small                  a shift up is by less than 2^31
 --   up_is, down_is            the distances raised or lowered by m are the shifted ones
 --   shift-refused             the file is refused, and the buffer stays
 --   shift-written             else the file of the shifted map is written
 -- Axioms: none.
-use mathlib.Core.Path.{◌≡◌, refl, sym, ap, ◌∙◌}
+use Rattle.std.proofs.Common.{Ok, Err}
+use mathlib.Core.Path.{◌≡◌, sym, ap, ◌∙◌}
 use Prim.Native.Nat.{ℕ, suc, ◌+◌, ◌^◌, ◌<◌}
 use native.Mathlib.Omega.{arith}
-use mathlib.Core.Bool.{true, false, cond}
+use mathlib.Core.Bool.{cond}
 use mathlib.Core.List.{List}
 use lib.ListN.{length}
-use lib.IntN.{ℤ, pos, negsuc, nat_abs, ◌-ℤ◌}
-use lib.Dec.{T, eqb}
-use lib.Signed.{lt_z, non_neg}
-use mir.Syntax.{w32, w64}
-use mir.Val.{Fits, SFits}
-use borrow.Author.Tests.{ltb-true}
+use lib.IntN.{ℤ, pos, negsuc}
+use lib.Dec.{eqb}
+use mir.Syntax.{w32}
+use mir.Val.{SFits}
 use Rattle.pciv_format.specs.Layout.{at}
-use Rattle.pciv_format.specs.Refusals.{done, refused, file_answer}
 use Rattle.pciv_format.specs.Parts.{Parts, value_of}
 use Rattle.pciv_format.specs.Check.{file_parts, counts_file, CheckedMap}
 use Rattle.pciv_format.specs.Read.{list_of}
 use Rattle.pciv_format.specs.Write.{map_into, file_buffer}
 use Rattle.pciv_format.specs.Arith.{shifted_by, shift_outcome, shift_buffer}
 use Rattle.pciv_format.specs.declared.Counts.{Counts}
+use Rattle.pciv_format.specs.Refusals.{Outcome}
 use Rattle.pciv_format.specs.declared.Refusal.{Refusal}
-use Rattle.pciv_format.specs.declared.FileAnswer.{FileAnswer}
-use Rattle.pciv_format.specs.declared.FileAnswer.TheVariants.{Refused}
+use Rattle.pciv_format.specs.declared.Summary.{Summary}
 use Rattle.pciv_format.proofs.CheckLaws.{done-counts}
 use Rattle.pciv_format.proofs.ReadLaws.{length-list_of, at-list}
 use Rattle.pciv_format.proofs.ZeroLaws.{shift-up, shift-down}
@@ -40,34 +36,7 @@ use Rattle.pciv_arith_lower.specs.Lowered.{lowered, lowered_at}
 use Rattle.pciv_arith.specs.Direction.{direction_of}
 use Rattle.pciv_arith.specs.declared.Direction.TheVariants.{Down, Up}
 
--- ---- signed numbers
-
--- the opposite of a negative number
-pub record Opposite (z : ℤ) : Type 0 where
-  pub fits : SFits w64 (pos 0 -ℤ z)
-  pub sign : T (non_neg (pos 0 -ℤ z))
-  pub small : Fits w32 (nat_abs (pos 0 -ℤ z))
-  pub is : Down (nat_abs (pos 0 -ℤ z)) ≡ direction_of z
-
-pub opposite : (z : ℤ) → SFits w32 z → lt_z z (pos 0) ≡ true → Opposite z
-opposite (pos x) h e = absurd (omega (arith, ltb-true x 0 e))
-opposite (negsuc x) h e =
-    let zero : 0 + suc x ≡ suc x = omega arith in
-    record {
-      fits = record { sfits = omega (arith, h.sfits) };
-      sign = tt;
-      small = record { fits = omega (arith, h.sfits) };
-      is = ap Down zero;
-    }
-
-pub record Itself (z : ℤ) : Type 0 where
-  pub sign : T (non_neg z)
-  pub small : Fits w32 (nat_abs z)
-  pub is : Up (nat_abs z) ≡ direction_of z
-
-pub itself : (z : ℤ) → SFits w32 z → lt_z z (pos 0) ≡ false → Itself z
-itself (pos x) h e = record { sign = tt; small = record { fits = omega (arith, h.sfits) }; is = refl }
-itself (negsuc x) h e = let z : ◌≡◌ {A = ℕ} 0 1 = cc in absurd (omega arith)
+-- ---- which way
 
 pub up_small : (d : ℤ) (m : ℕ) → SFits w32 d → Up m ≡ direction_of d → m < 2 ^ 31
 up_small (pos x) m h e = let same : m ≡ x = cc in omega (arith, h.sfits)
@@ -85,12 +54,12 @@ lower-is (negsuc y) m x e = let same : m ≡ suc y = cc in rw same (sym (shift-d
 
 -- ---- the map
 
-pub shift-refused : (b : List ℕ) (r : Refusal) → counts_file 1 b ≡ refused r → (d : ℤ) (out : List ℕ)
-    → (Refused r ≡ file_answer (shift_outcome b d (length out))) × (out ≡ shift_buffer b d out)
+pub shift-refused : (b : List ℕ) (r : Refusal) → counts_file 1 b ≡ Err r → (d : ℤ) (out : List ℕ)
+    → (Err r ≡ (shift_outcome b d (length out))) × (out ≡ shift_buffer b d out)
 unfolding shift_outcome shift_buffer
 shift-refused b r e d out = (rw e, rw e)
 
-module _ (b : List ℕ) (s : Counts) (e : counts_file 1 b ≡ done s) (d : ℤ) where
+module _ (b : List ℕ) (s : Counts) (e : counts_file 1 b ≡ Ok s) (d : ℤ) where
   pub checked : CheckedMap b s.n s.k
   checked = (done-counts 1 b s e).0
 
@@ -106,9 +75,9 @@ module _ (b : List ℕ) (s : Counts) (e : counts_file 1 b ≡ done s) (d : ℤ) 
     same i h =
         is i ∙ ap (shifted_by d) (sym (at-list b s.n s.k checked.header.n_is checked.header.k_is i h))
 
-    pub shift-written : (out d' : List ℕ) (x : FileAnswer) → x ≡ file_answer (map_into s.n v (length out))
+    pub shift-written : (out d' : List ℕ) (x : Outcome Summary) → x ≡ (map_into s.n v (length out))
         → d' ≡ file_buffer (map_into s.n v (length out)) s.n v out
-        → (x ≡ file_answer (shift_outcome b d (length out))) × (d' ≡ shift_buffer b d out)
+        → (x ≡ (shift_outcome b d (length out))) × (d' ≡ shift_buffer b d out)
     unfolding shift_outcome shift_buffer
     shift-written out d' x answer buffer =
         map-written s.n v shifted same (length (list_of b)) (length-list_of b ∙ checked.header.n_is) out d' x

@@ -5,7 +5,6 @@
 #![tactic(auto)]
 
 ghost use Rattle.std.specs.Prelude.{◌≡◌, length};
-ghost use Rattle.pciv_format.specs.Refusals.{file_answer, number_answer};
 ghost use Rattle.pciv_format.specs.Arith.{combine_maps_outcome, combine_maps_buffer, shift_outcome, shift_buffer};
 ghost use Rattle.pciv_format.specs.Arith.{signed_difference_outcome, signed_difference_list};
 ghost use Rattle.pciv_format.specs.declared.SlotOp.TheVariants.{Minimum, Maximum, Sum, Difference};
@@ -18,38 +17,30 @@ use pciv_arith_change::differences_into;
 use pciv_arith_lower::lowered_into;
 use pciv_arith_merge::combine::{MergeOp, combine_into};
 use pciv_check::check_counts;
-use pciv_check::pair::{PairAnswer, check_pair};
-use pciv_format::{BUFFER_TOO_SMALL, CountsAnswer, FileAnswer, NumberAnswer};
-use pciv_layout::refusals::refuse_number;
+use pciv_check::pair::check_pair;
+use pciv_format::{Refusal, RefusalKind, Summary};
+use pciv_layout::refusals::refuse;
 
 // Checks both maps, and writes the file of the operation on them.
-fn combine(op: MergeOp, a: &[u8], b: &[u8], out: &mut [u8]) -> FileAnswer
-    ensures answer { result ≡ file_answer (combine_maps_outcome (slot_op_of op) a.now b.now (length out.old)) }
+fn combine(op: MergeOp, a: &[u8], b: &[u8], out: &mut [u8]) -> Result<Summary, Refusal>
+    ensures answer { result ≡ combine_maps_outcome (slot_op_of op) a.now b.now (length out.old) }
     ensures buffer { out.new ≡ combine_maps_buffer (slot_op_of op) a.now b.now out.old }
 {
-    let checked = check_pair(a, b);
-    match checked {
-        PairAnswer::Refused(r) => FileAnswer::Refused(r),
-        PairAnswer::Ready(s) => {
-            let n = s.n;
-            let ka = s.ka;
-            let kb = s.kb;
-            combine_into(out, op, a, b, n, ka, kb)
-        }
-    }
+    let pair = check_pair(a, b)?;
+    combine_into(out, op, a, b, pair.n, pair.ka, pair.kb)
 }
 
 // The smaller distance of each slot. Refusals: 1 to 8, then 10, then 12.
-pub fn minimum(a: &[u8], b: &[u8], out: &mut [u8]) -> FileAnswer
-    ensures answer { result ≡ file_answer (combine_maps_outcome Minimum a.now b.now (length out.old)) }
+pub fn minimum(a: &[u8], b: &[u8], out: &mut [u8]) -> Result<Summary, Refusal>
+    ensures answer { result ≡ combine_maps_outcome Minimum a.now b.now (length out.old) }
     ensures buffer { out.new ≡ combine_maps_buffer Minimum a.now b.now out.old }
 {
     combine(MergeOp::Minimum, a, b, out)
 }
 
 // The larger distance of each slot. Refusals: 1 to 8, then 10, then 12.
-pub fn maximum(a: &[u8], b: &[u8], out: &mut [u8]) -> FileAnswer
-    ensures answer { result ≡ file_answer (combine_maps_outcome Maximum a.now b.now (length out.old)) }
+pub fn maximum(a: &[u8], b: &[u8], out: &mut [u8]) -> Result<Summary, Refusal>
+    ensures answer { result ≡ combine_maps_outcome Maximum a.now b.now (length out.old) }
     ensures buffer { out.new ≡ combine_maps_buffer Maximum a.now b.now out.old }
 {
     combine(MergeOp::Maximum, a, b, out)
@@ -57,25 +48,17 @@ pub fn maximum(a: &[u8], b: &[u8], out: &mut [u8]) -> FileAnswer
 
 // The sum of the two distances of each slot. Refusals: 1 to 8, then 10, then 11 with the least slot whose sum is no
 // distance, then 12.
-pub fn sum_maps(a: &[u8], b: &[u8], out: &mut [u8]) -> FileAnswer
-    ensures answer { result ≡ file_answer (combine_maps_outcome Sum a.now b.now (length out.old)) }
+pub fn sum_maps(a: &[u8], b: &[u8], out: &mut [u8]) -> Result<Summary, Refusal>
+    ensures answer { result ≡ combine_maps_outcome Sum a.now b.now (length out.old) }
     ensures buffer { out.new ≡ combine_maps_buffer Sum a.now b.now out.old }
 {
-    let checked = check_pair(a, b);
-    match checked {
-        PairAnswer::Refused(r) => FileAnswer::Refused(r),
-        PairAnswer::Ready(c) => {
-            let n = c.n;
-            let ka = c.ka;
-            let kb = c.kb;
-            added_into(Addend::Map, a, b, n, ka, kb, out)
-        }
-    }
+    let pair = check_pair(a, b)?;
+    added_into(Addend::Map, a, b, pair.n, pair.ka, pair.kb, out)
 }
 
 // The first distance of each slot less the second, at least 0. Refusals: 1 to 8, then 10, then 12.
-pub fn difference(a: &[u8], b: &[u8], out: &mut [u8]) -> FileAnswer
-    ensures answer { result ≡ file_answer (combine_maps_outcome Difference a.now b.now (length out.old)) }
+pub fn difference(a: &[u8], b: &[u8], out: &mut [u8]) -> Result<Summary, Refusal>
+    ensures answer { result ≡ combine_maps_outcome Difference a.now b.now (length out.old) }
     ensures buffer { out.new ≡ combine_maps_buffer Difference a.now b.now out.old }
 {
     combine(MergeOp::Difference, a, b, out)
@@ -91,52 +74,38 @@ enum Direction {
 fn which_way(by: i32) -> Direction
     ensures { result ≡ direction_of by }
 {
-    let d = by as i64;
-    let is_down = d < 0;
+    let is_down = by < 0;
     if is_down {
-        return Direction::Down((0 - d) as u32);
+        return Direction::Down(by.unsigned_abs());
     }
-    Direction::Up(d as u32)
+    Direction::Up(by.unsigned_abs())
 }
 
 // Each non-zero distance with `by` added, or 1 where that is 0 or below; a zero distance stays. Refusals: 1 to 8, then 11
 // with the least slot whose result is no distance, then 12.
-pub fn shift(file: &[u8], by: i32, out: &mut [u8]) -> FileAnswer
-    ensures answer { result ≡ file_answer (shift_outcome file.now by (length out.old)) }
+pub fn shift(file: &[u8], by: i32, out: &mut [u8]) -> Result<Summary, Refusal>
+    ensures answer { result ≡ shift_outcome file.now by (length out.old) }
     ensures buffer { out.new ≡ shift_buffer file.now by out.old }
 {
-    let checked = check_counts(file, 1);
-    match checked {
-        CountsAnswer::Refused(r) => FileAnswer::Refused(r),
-        CountsAnswer::Counted(s) => {
-            let n = s.n;
-            let k = s.k;
-            let way = which_way(by);
-            match way {
-                Direction::Down(m) => lowered_into(file, n, k, m, out),
-                Direction::Up(m) => added_into(Addend::Number(m), file, file, n, k, k, out),
-            }
-        }
+    let counts = check_counts(file, 1)?;
+    let n = counts.n;
+    let k = counts.k;
+    match which_way(by) {
+        Direction::Down(m) => lowered_into(file, n, k, m, out),
+        Direction::Up(m) => added_into(Addend::Number(m), file, file, n, k, k, out),
     }
 }
 
 // The exact b - a of each slot, to the front of the caller's list; answers how many. Refusals: 1 to 8, then 10, then 12.
-pub fn signed_difference(a: &[u8], b: &[u8], out: &mut [i64]) -> NumberAnswer
-    ensures answer { result ≡ number_answer (signed_difference_outcome a.now b.now (length out.old)) }
+pub fn signed_difference(a: &[u8], b: &[u8], out: &mut [i64]) -> Result<usize, Refusal>
+    ensures answer { result ≡ signed_difference_outcome a.now b.now (length out.old) }
     ensures list { out.new ≡ signed_difference_list a.now b.now out.old }
 {
-    let checked = check_pair(a, b);
-    match checked {
-        PairAnswer::Refused(r) => NumberAnswer::Refused(r),
-        PairAnswer::Ready(c) => {
-            let n = c.n;
-            let ka = c.ka;
-            let kb = c.kb;
-            if out.len() < n {
-                return refuse_number(BUFFER_TOO_SMALL, 0, 0);
-            }
-            differences_into(a, b, n, ka, kb, out);
-            NumberAnswer::Number(n)
-        }
+    let pair = check_pair(a, b)?;
+    let n = pair.n;
+    if out.len() < n {
+        return refuse(RefusalKind::BufferTooSmall, 0, 0);
     }
+    differences_into(a, b, n, pair.ka, pair.kb, out);
+    Ok(n)
 }

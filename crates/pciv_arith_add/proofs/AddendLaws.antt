@@ -1,4 +1,5 @@
 -- What is added to the distances of a map P: those of a second map Q, or one number.
+--   checked-maps                 two checked files of bytes
 --   added-low, -high             the result is from the distance of P to the sum
 --   added-sum                    and the sum where it is not 0
 --   cursor_of-start, -to, -gap    the laws of the cursor in Q, where there may be none
@@ -8,14 +9,23 @@
 use mathlib.Core.Path.{◌≡◌, refl}
 use Prim.Native.Nat.{ℕ, ◌+◌, ◌^◌, ◌≤◌, ◌<◌}
 use native.Mathlib.Omega.{arith}
+use mathlib.Core.List.{List}
+use lib.ListN.{get_or}
+use mir.Syntax.{w8}
+use mir.Val.{Fits}
 use native.Mathlib.Decide.{ℕ_discrete}
 use borrow.Author.Tests.{ne_eqb}
 use Rattle.pciv_format.specs.Parts.{Parts, value_of}
-use Rattle.pciv_check.proofs.SoundPairLaws.{SoundPair}
+use Rattle.pciv_check.specs.Pair.{CheckedPair}
+use Rattle.pciv_check.proofs.SoundPairLaws.{SoundPair, Maps}
 use Rattle.pciv_map.proofs.CursorLaws.{cursor-start, cursor-to, cursor-gap, next_slot-low, next_slot-le, gap-small}
 use Rattle.pciv_arith_add.specs.Addition.{addend_at, added_at, CursorOf, next_of, Small}
 use Rattle.pciv_arith_add.specs.declared.addend.Addend.{Addend}
 use Rattle.pciv_arith_add.specs.declared.addend.Addend.TheVariants.{Map, Number}
+
+pub checked-maps : {a b : List ℕ} {n ka kb : ℕ} → CheckedPair a b n ka kb → ((i : ℕ) → Fits w8 (get_or a i 0))
+    → ((i : ℕ) → Fits w8 (get_or b i 0)) → Maps a b n ka kb
+checked-maps p a b = record { pair = p; bytes-a = λ i. (a i).fits; bytes-b = λ i. (b i).fits }
 
 -- ---- the result at a slot
 

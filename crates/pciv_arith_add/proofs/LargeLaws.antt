@@ -3,7 +3,7 @@
 --                 one with an entry in either map
 --   walked_start, _more    at the first slot with an entry in either map, and at the next one
 --   walked-found, _none    the slot is too large, or no slot is
---   MostOf, most-more, most-all    a distance that none is above: of the entries before j, one entry on, of all slots
+--   MostOf, most-all    a distance that none is above: of the entries before j, of all slots
 --   none-large    no slot is too large where the largest of both are not
 -- Axioms: none.
 use mathlib.Core.Path.{◌≡◌, refl, sym}
@@ -120,17 +120,6 @@ module _ {P Q : Parts} (p : SoundPair P Q) (of : Addend) (small : Small of) wher
 pub record MostOf (P : Parts) (j x : ℕ) : Type 0 where
   pub inline : 255 ≤ x
   pub entries : (t : ℕ) → t < j → P.distance t ≤ x
-
-pub most-more : (P : Parts) (j x y : ℕ) → MostOf P j x → x ≤ y → P.distance j ≤ y → MostOf P (j + 1) y
-most-more P j x y m more fits =
-    record {
-      inline = omega (arith, m.inline);
-      entries = λ t h.
-          elim (dec_le j t) [
-            | yes d ↦ (let same : t ≡ j = omega arith in rw same (omega arith))
-            | no d ↦ omega (arith, m.entries t (omega arith))
-          ];
-    }
 
 pub most-all : (P : Parts) → SoundParts P → ((i : ℕ) → P.byte i < 256) → (j x : ℕ) → MostOf P j x → P.k ≤ j
     → NoneAbove P.n (value_of P) x

@@ -10,7 +10,6 @@ ghost use Rattle.pciv_map.specs.Cursor.{next_slot};
 ghost use Rattle.pciv_arith_add.specs.Addition.{addend_at, Small, next_of, too_large};
 
 use crate::addend::{Addend, addend_slot, take_addend};
-use pciv_bytes::numbers::smaller;
 use pciv_format::{MAX_DISTANCE, SENTINEL};
 use pciv_map::cursor::{next_slot, take_at};
 use pciv_map::entries::entry_distance;
@@ -29,7 +28,7 @@ fn either_slot(
     requires { CheckedPair a.now b.now n ka kb }
     ensures { result ≡ min (next_slot (file_parts a.now n ka) j) (next_of of (file_parts b.now n kb) t) }
 {
-    smaller(next_slot(a, n, ka, j), addend_slot(of, b, n, kb, t))
+    next_slot(a, n, ka, j).min(addend_slot(of, b, n, kb, t))
 }
 
 // The least slot where the result is too large, or n, by a walk.
@@ -60,14 +59,8 @@ fn most_in(file: &[u8], n: usize, k: usize) -> u32
     ensures { NoneAbove n (value_of (file_parts file.now n k)) result }
 {
     let mut most: u32 = SENTINEL as u32;
-    let mut j = 0;
-    while j < k {
-        let x = entry_distance(file, n, j);
-        j += 1;
-        let is_larger = most < x;
-        if is_larger {
-            most = x;
-        }
+    for j in 0..k {
+        most = most.max(entry_distance(file, n, j));
     }
     most
 }

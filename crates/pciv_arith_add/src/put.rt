@@ -22,8 +22,7 @@ use pciv_passes::pairs::{ByteOp, count_full, map_into, zip_into};
 fn first_full(d: u32) -> u8
     ensures { result ≡ max 1 (255 - primary_byte d) }
 {
-    let left = SENTINEL - primary_byte(d);
-    if left == 0 { 1 } else { left }
+    (SENTINEL - primary_byte(d)).max(1)
 }
 
 // How many slots of the result are in overflow.
@@ -83,16 +82,15 @@ pub fn put_entries(
     ensures { out.new ≡ sets out.old (40 + n) (overflow_part n (added_at of (file_parts a.now n ka) (file_parts b.now n kb))) }
 {
     put_slots(out, n);
-    let mut at = HEADER_LEN + n;
-    let end = at + 12 * k;
     let mut j = 0;
     let mut t = 0;
-    while at < end {
+    for e in 0..k {
+        let at = HEADER_LEN + n + 12 * e;
         let slot = get64(out, at);
         let x = take_at(a, n, ka, j, slot);
         let y = take_addend(of, b, n, kb, t, slot);
         j = x.next;
         t = y.next;
-        at = put_entry(out, at, slot, x.distance + y.distance);
+        put_entry(out, at, slot, x.distance + y.distance);
     }
 }

@@ -28,16 +28,6 @@ enum Side {
 // numbers: one instruction makes eight of the former, and none makes several of the latter from bytes.
 const PART: usize = 1024;
 
-// How many of those that are left are in the next part.
-fn part_len(left: usize) -> usize
-    ensures { (result ≤ left) × (result ≤ 1024) × (0 < left → 0 < result) }
-{
-    if left < PART {
-        return left;
-    }
-    PART
-}
-
 // 255 more than y - x of two bytes, which needs no sign.
 fn raised_difference(x: u8, y: u8) -> u16
     ensures { result ≡ 255 + y - x }
@@ -50,10 +40,8 @@ fn raised_differences(out: &mut [u16], a: &[u8], b: &[u8], from: usize, count: u
     requires { (count ≤ length out.old) × (from + count ≤ length a.now) × (from + count ≤ length b.now) }
     ensures { out.new ≡ sets out.old 0 (table (raised_at (byte_at a.now) (byte_at b.now) from) 0 count) }
 {
-    let mut i = 0;
-    while i < count {
+    for i in 0..count {
         out[i] = raised_difference(a[from + i], b[from + i]);
-        i += 1;
     }
 }
 
@@ -69,10 +57,8 @@ fn lower(out: &mut [i64], raised: &[u16], at: usize, count: usize)
     requires { (count ≤ length raised.now) × (at + count ≤ length out.old) }
     ensures { out.new ≡ sets out.old at (table (lowered_at raised.now) 0 count) }
 {
-    let mut i = 0;
-    while i < count {
+    for i in 0..count {
         out[at + i] = lowered(raised[i]);
-        i += 1;
     }
 }
 
@@ -84,7 +70,7 @@ fn byte_differences(a: &[u8], b: &[u8], out: &mut [i64])
     let mut raised = [0u16; PART];
     let mut i = 0;
     while i < a.len() {
-        let count = part_len(a.len() - i);
+        let count = PART.min(a.len() - i);
         raised_differences(&mut raised, a, b, i, count);
         lower(out, &raised, i, count);
         i += count;
@@ -108,13 +94,10 @@ fn move_entries(side: Side, file: &[u8], n: usize, k: usize, out: &mut [i64])
     requires n_in_bounds { (n ≤ length out.old) × SmallFrom 0 n out.old }
     ensures { out.new ≡ moved_from side (file_parts file.now n k) 0 k out.old }
 {
-    let mut j = 0;
-    while j < k {
+    for j in 0..k {
         let slot = entry_slot(file, n, j);
         let excess = entry_distance(file, n, j) - SENTINEL as u32;
-        let z = out[slot];
-        out[slot] = moved(side, z, excess);
-        j += 1;
+        out[slot] = moved(side, out[slot], excess);
     }
 }
 

@@ -1,7 +1,6 @@
 -- A map whose non-zero distances are lowered by m.
 --   low_byte m                           the primary byte that a byte or a distance leads to
 --   lowered-bytes-start, -more, -end    the primary bytes, put right one entry a step
---   lowered-bytes-again                 of bytes written twice the last count
 --   lowered-along                       it is in overflow only where the map is
 --   lowered-slot                        its distance at the slot of entry j
 -- Axioms: none.
@@ -16,7 +15,7 @@ use Rattle.pciv_bytes.specs.LittleEndian.{Bytes}
 use Rattle.pciv_passes.specs.Pairs.{byte_op, one_at}
 use Rattle.pciv_passes.specs.declared.pairs.ByteOp.TheVariants.{Lower}
 use Rattle.pciv_bytes.proofs.RangesLaws.{table-cong}
-use Rattle.pciv_bytes.proofs.WriteLaws.{set-sets, sets-again}
+use Rattle.pciv_bytes.proofs.WriteLaws.{set-sets}
 use Rattle.pciv_format.specs.Layout.{primary_byte, primary}
 use Rattle.pciv_format.specs.Parts.{Parts, SoundParts}
 use Rattle.pciv_format.specs.Check.{file_parts, CheckedMap}
@@ -64,16 +63,6 @@ module _ (b : List ℕ) (n k m : ℕ) (c : CheckedMap b n k) (bytes : Bytes b) w
   pub lowered-bytes-end : patched (low_byte m) (file_parts b n k) k ≡ primary n (lowered_at (file_parts b n k) m)
   unfolding primary
   lowered-bytes-end = patched-end (low_byte m) (file_parts b n k) c.parts (λ i. bytes (40 + i))
-
-  -- only the last bytes count
-  pub lowered-bytes-again : (j t : ℕ) (d : List ℕ) → 40 + n ≤ length d
-      → (let P = file_parts b n k in
-      sets (sets d 40 (patched (low_byte m) P t)) 40 (patched (low_byte m) P j) ≡ sets d 40 (patched (low_byte m) P j))
-  lowered-bytes-again j t d space =
-      let P : Parts = file_parts b n k in
-      let one : length (patched (low_byte m) P t) ≡ n = length-patched (low_byte m) P t in
-      sets-again d (patched (low_byte m) P t) (patched (low_byte m) P j) 40
-      (one ∙ sym (length-patched (low_byte m) P j)) (rw one space)
 
 -- ---- along the overflow entries
 

@@ -6,13 +6,12 @@
 ghost use Rattle.std.specs.Prelude.{◌≡◌, ◌+◌, ◌*◌, ◌≤◌, length};
 ghost use Rattle.std.proofs.lemmas.List.Edits.{sets};
 ghost use Rattle.pciv_format.specs.Layout.{primary, overflow_count, overflow_part};
-ghost use Rattle.pciv_format.specs.Refusals.{file_answer};
 ghost use Rattle.pciv_format.specs.Check.{file_parts, CheckedMap};
 ghost use Rattle.pciv_format.specs.Write.{map_into, file_buffer};
 ghost use Rattle.pciv_arith_lower.specs.Lowered.{lowered, lowered_at};
 
 use pciv_build::{begin, finish, put_entry};
-use pciv_format::{CountsAnswer, FileAnswer, HEADER_LEN};
+use pciv_format::{HEADER_LEN, Refusal, Summary};
 use pciv_layout::primary_byte;
 use pciv_map::entries::{entry_distance, entry_slot};
 use pciv_map::totals::summary_of;
@@ -23,7 +22,7 @@ fn lower(x: u32, m: u32) -> u32
     requires { 1 ≤ x }
     ensures { result ≡ lowered m x }
 {
-    if x <= m { 1 } else { x - m }
+    x.saturating_sub(m).max(1)
 }
 
 // How many slots of the result are in overflow.
@@ -32,10 +31,8 @@ fn count_lowered(file: &[u8], n: usize, k: usize, m: u32) -> usize
     ensures { result ≡ overflow_count n (lowered_at (file_parts file.now n k) m) }
 {
     let mut count: usize = 0;
-    let mut j = 0;
-    while j < k {
+    for j in 0..k {
         let x = lower(entry_distance(file, n, j), m);
-        j += 1;
         if 255 <= x {
             count += 1;
         }
@@ -57,11 +54,9 @@ fn put_primary(out: &mut [u8], file: &[u8], n: usize, k: usize, m: u32)
         out,
         HEADER_LEN,
     );
-    let mut j = 0;
-    while j < k {
+    for j in 0..k {
         let slot = entry_slot(file, n, j);
         out[HEADER_LEN + slot] = primary_byte(lower(entry_distance(file, n, j), m));
-        j += 1;
     }
 }
 
@@ -72,11 +67,9 @@ fn put_entries(out: &mut [u8], file: &[u8], n: usize, k: usize, m: u32)
     ensures { out.new ≡ sets out.old (40 + n) (overflow_part n (lowered_at (file_parts file.now n k) m)) }
 {
     let mut at = HEADER_LEN + n;
-    let mut j = 0;
-    while j < k {
+    for j in 0..k {
         let slot = entry_slot(file, n, j);
         let x = lower(entry_distance(file, n, j), m);
-        j += 1;
         if 255 <= x {
             at = put_entry(out, at, slot, x);
         }
@@ -84,20 +77,21 @@ fn put_entries(out: &mut [u8], file: &[u8], n: usize, k: usize, m: u32)
 }
 
 // Writes the result's file to the front of out. Refusal: 12.
-pub fn lowered_into(file: &[u8], n: usize, k: usize, m: u32, out: &mut [u8]) -> FileAnswer
+pub fn lowered_into(
+    file: &[u8],
+    n: usize,
+    k: usize,
+    m: u32,
+    out: &mut [u8],
+) -> Result<Summary, Refusal>
     requires { CheckedMap file.now n k }
-    ensures answer { result ≡ file_answer (map_into n (lowered_at (file_parts file.now n k) m) (length out.old)) }
+    ensures answer { result ≡ map_into n (lowered_at (file_parts file.now n k) m) (length out.old) }
     ensures buffer { out.new ≡ file_buffer (map_into n (lowered_at (file_parts file.now n k) m) (length out.old)) n (lowered_at (file_parts file.now n k) m) out.old }
 {
     let count = count_lowered(file, n, k, m);
-    let begun = begin(out, n, count);
-    match begun {
-        CountsAnswer::Refused(r) => FileAnswer::Refused(r),
-        CountsAnswer::Counted(c) => {
-            put_primary(out, file, n, k, m);
-            put_entries(out, file, n, k, m);
-            finish(out, n, count);
-            FileAnswer::Done(summary_of(out, c))
-        }
-    }
+    let counts = begin(out, n, count)?;
+    put_primary(out, file, n, k, m);
+    put_entries(out, file, n, k, m);
+    finish(out, n, count);
+    Ok(summary_of(out, counts))
 }

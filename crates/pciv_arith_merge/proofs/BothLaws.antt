@@ -1,6 +1,5 @@
 -- The slots in overflow in both of two maps A and B, and those in either.
 --   shared-more            those of the minimum, counted along the entries of A by the bytes of B: one entry on
---   minimum-swap           the minimum has as many either way round
 --   extremes-count         minimum and maximum have as many together as the two maps
 -- Axioms: none.
 use mathlib.Core.Path.{◌≡◌, refl, sym, ap, ap₂, ◌∙◌}
@@ -11,7 +10,7 @@ use native.Mathlib.Decide.{dec_le}
 use lib.Dec.{eqb}
 use borrow.Author.Tests.{eq-eqb, ne_eqb}
 use Rattle.pciv_bytes.specs.Ranges.{flag}
-use Rattle.pciv_bytes.proofs.SumLaws.{sum_from-cong, sum_from-plus}
+use Rattle.pciv_bytes.proofs.SumLaws.{sum_from-plus}
 use Rattle.pciv_format.specs.Layout.{in_overflow, overflow_count}
 use Rattle.pciv_format.specs.Parts.{Parts, lowest_slot, value_of}
 use Rattle.pciv_format.specs.declared.SlotOp.TheVariants.{Minimum, Maximum}
@@ -62,13 +61,3 @@ module _ {A B : Parts} (p : SoundPair A B) where
       ∙ ap₂ (λ (x y : ℕ). x + y) (sym (overflow_count-sum A.n u) ∙ overflow_count-is A p.first p.bytes-first)
       (sym (overflow_count-sum A.n v) ∙ ap (λ (m : ℕ). overflow_count m v) (sym p.sizes)
       ∙ overflow_count-is B p.second p.bytes-second))
-
-pub minimum-swap : (A B : Parts) (n : ℕ)
-    → overflow_count n (combined_of Minimum B A) ≡ overflow_count n (combined_of Minimum A B)
-minimum-swap A B n =
-    overflow_count-sum n (combined_of Minimum B A)
-    ∙ sum_from-cong (λ (i : ℕ). overflows (combined_of Minimum B A i))
-    (λ (i : ℕ). overflows (combined_of Minimum A B i)) 0 n
-    (λ i h₁ h₂. (let same : min (value_of B i) (value_of A i)
-    ≡ min (value_of A i) (value_of B i) = omega arith in ap overflows same))
-    ∙ sym (overflow_count-sum n (combined_of Minimum A B))

@@ -1,5 +1,6 @@
 -- Laws of the slot operations, and of the primary bytes of a combination.
---   shrinks-minimum, -difference    the result is never above the first distance
+--   checked-sound          two checked files of bytes, as their parts
+--   shrinks-minimum        the result is never above the first distance
 --   combined-fits          no result of a merge is too large
 --   SameBytes o p          the primary byte of a result of o is p of the primary bytes
 --   same-minimum, -maximum
@@ -19,6 +20,8 @@ use mathlib.Core.List.{List}
 use lib.ListN.{length, get_or}
 use lib.Seq.{sets, length-sets}
 use lib.Dec.{eqb}
+use mir.Syntax.{w8}
+use mir.Val as val
 use Rattle.pciv_bytes.specs.Ranges.{flag, table, sum_from}
 use Rattle.pciv_passes.specs.Pairs.{byte_op, pair_at, full_at}
 use Rattle.pciv_passes.specs.declared.pairs.ByteOp.{ByteOp}
@@ -37,16 +40,17 @@ use Rattle.pciv_format.proofs.MapLaws.{primary_of, primary-length, primary-at}
 use Rattle.pciv_build.specs.Build.{Fits}
 use Rattle.pciv_build.proofs.EntriesLaws.{overflow_count-sum}
 use Rattle.pciv_check.specs.Pair.{CheckedPair}
-use Rattle.pciv_check.proofs.SoundPairLaws.{SoundPair}
+use Rattle.pciv_check.proofs.SoundPairLaws.{SoundPair, sound}
 use Rattle.pciv_arith_merge.specs.Merge.{combined_of, combined_bytes, slot_op_of, parts_put, Shrinks, InlineRight}
 use Rattle.pciv_arith_merge.specs.declared.combine.MergeOp.{MergeOp}
 use Rattle.pciv_arith_merge.specs.declared.combine.MergeOp.TheVariants as MergeOps
 
+pub checked-sound : {a b : List ℕ} {n ka kb : ℕ} → CheckedPair a b n ka kb → ((i : ℕ) → val.Fits w8 (get_or a i 0))
+    → ((i : ℕ) → val.Fits w8 (get_or b i 0)) → SoundPair (file_parts a n ka) (file_parts b n kb)
+checked-sound p a b = sound (record { pair = p; bytes-a = λ i. (a i).fits; bytes-b = λ i. (b i).fits })
+
 pub shrinks-minimum : Shrinks Minimum
 shrinks-minimum x y = omega arith
-
-pub shrinks-difference : Shrinks Difference
-shrinks-difference x y = omega arith
 
 -- ---- no result is too large
 

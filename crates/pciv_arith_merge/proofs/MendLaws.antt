@@ -4,7 +4,7 @@
 --   Settled A v d₀ j d p  the same where the overflow entries of v are written too: those of the slots past the first j
 --                         entries of A are left to write from p on
 --   settled-start, -end   before the first entry, and after the last
---   settled-size, -byte   the buffer's length, and that slot i has a byte in it
+--   settled-byte          slot i has a byte in the buffer
 --   settled-space, -more, -pass    a byte is put right, and there is space for its entry, which is written, or none is
 --   settled-over          what the primary array was before does not matter
 -- Axioms: none.
@@ -119,10 +119,6 @@ pub settled-start : (A : Parts) (v : ℕ → ℕ) (d : List ℕ) → InlineRight
     → Settled A v d 0 d (40 + A.n)
 settled-start A v d right space =
     record { bytes = d; mended = mended-start A v d right; left = entries-start A.n v d (40 + A.n) space }
-
-pub settled-size : {A : Parts} {v : ℕ → ℕ} {d₀ : List ℕ} {j : ℕ} {d : List ℕ} {p : ℕ} → Settled A v d₀ j d p
-    → length d ≡ length d₀
-settled-size e = e.left.size ∙ e.mended.size
 
 pub settled-byte : {A : Parts} {v : ℕ → ℕ} {d₀ : List ℕ} {j : ℕ} {d : List ℕ} {p : ℕ} → Settled A v d₀ j d p
     → (i : ℕ) → i < A.n → 40 + i < length d

@@ -8,7 +8,6 @@ ghost use Rattle.pciv_check.specs.Pair.{CheckedPair};
 ghost use Rattle.pciv_arith_merge.specs.Merge.{combined_of};
 
 use crate::primary::count_full_slots;
-use pciv_bytes::numbers::smaller;
 use pciv_format::{HEADER_LEN, SENTINEL};
 use pciv_map::entries::entry_slot;
 use pciv_passes::pairs::ByteOp;
@@ -22,11 +21,9 @@ fn count_shared(a: &[u8], b: &[u8], n: usize, ka: usize, kb: usize) -> usize
     ensures { result ≡ overflow_count n (combined_of Minimum (file_parts a.now n ka) (file_parts b.now n kb)) }
 {
     let mut count: usize = 0;
-    let mut j: usize = 0;
-    while j < ka {
+    for j in 0..ka {
         let slot = entry_slot(a, n, j);
         count += (b[HEADER_LEN + slot] == SENTINEL) as usize;
-        j += 1;
     }
     count
 }
@@ -36,7 +33,7 @@ pub fn count_both(a: &[u8], b: &[u8], n: usize, ka: usize, kb: usize) -> usize
     requires { CheckedPair a.now b.now n ka kb }
     ensures { result ≡ overflow_count n (combined_of Minimum (file_parts a.now n ka) (file_parts b.now n kb)) }
 {
-    if n / ENTRY_COST < smaller(ka, kb) {
+    if n / ENTRY_COST < ka.min(kb) {
         return count_full_slots(ByteOp::Min, a, b, n, ka, kb);
     }
     if ka <= kb {

@@ -2,7 +2,6 @@
 // byte is written, and then its parts follow one another.
 ghost use Rattle.std.specs.Prelude.{◌≡◌, ◌+◌, ◌*◌, ◌≤◌, length};
 ghost use Rattle.pciv_format.specs.Layout.{overflow_count};
-ghost use Rattle.pciv_format.specs.Refusals.{file_answer};
 ghost use Rattle.pciv_check.specs.Pair.{CheckedPair};
 ghost use Rattle.pciv_arith_merge.specs.Merge.{result_of, parts_put, combined_into, combined_buffer};
 
@@ -11,7 +10,7 @@ use crate::joint::put_joint;
 use crate::led::{count_led, put_led, settle_led};
 use crate::primary::put_primary;
 use pciv_build::{begin, finish};
-use pciv_format::{CountsAnswer, FileAnswer, HEADER_LEN, SlotOp};
+use pciv_format::{HEADER_LEN, Refusal, SlotOp, Summary};
 use pciv_map::totals::summary_of;
 use pciv_passes::pairs::ByteOp;
 
@@ -67,20 +66,14 @@ pub fn combine_into(
     n: usize,
     ka: usize,
     kb: usize,
-) -> FileAnswer
+) -> Result<Summary, Refusal>
     requires { CheckedPair a.now b.now n ka kb }
-    ensures answer { result ≡ file_answer (combined_into op a.now b.now n ka kb (length out.old)) }
+    ensures answer { result ≡ combined_into op a.now b.now n ka kb (length out.old) }
     ensures buffer { out.new ≡ combined_buffer op a.now b.now n ka kb out.old }
 {
     let k = count_overflow(op, a, b, n, ka, kb);
-    let begun = begin(out, n, k);
-    match begun {
-        CountsAnswer::Refused(r) => FileAnswer::Refused(r),
-        CountsAnswer::Counted(c) => {
-            put_parts(out, op, a, b, n, ka, kb);
-            finish(out, n, k);
-            let result: &[u8] = out;
-            FileAnswer::Done(summary_of(result, c))
-        }
-    }
+    let counts = begin(out, n, k)?;
+    put_parts(out, op, a, b, n, ka, kb);
+    finish(out, n, k);
+    Ok(summary_of(out, counts))
 }

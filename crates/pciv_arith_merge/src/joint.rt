@@ -14,7 +14,6 @@ ghost use Rattle.pciv_arith_merge.specs.Joint.{head_of, distance_in, met_of};
 use crate::slots::slot_op;
 use pciv_build::put_entry;
 use pciv_bytes::little_endian::{get32, get64};
-use pciv_bytes::numbers::smaller;
 use pciv_format::{HEADER_LEN, SlotOp};
 
 // The next entry of a map: its slot and the distance there. Past the last entry the slot is n.
@@ -84,7 +83,7 @@ fn meet(
 {
     let x = read_head(a, n, ka, j, p);
     let y = read_head(b, n, kb, t, q);
-    let slot = smaller(x.slot, y.slot);
+    let slot = x.slot.min(y.slot);
     let dx = distance_in(x, slot);
     let dy = distance_in(y, slot);
     Met {

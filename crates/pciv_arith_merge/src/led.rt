@@ -101,11 +101,9 @@ pub fn count_led(op: SlotOp, a: &[u8], b: &[u8], n: usize, ka: usize, kb: usize)
 {
     let mut count: usize = 0;
     let mut t: usize = 0;
-    let mut j: usize = 0;
-    while j < ka {
+    for j in 0..ka {
         let found = combine_entry(op, a, b, n, ka, kb, j, t);
         t = found.next;
-        j += 1;
         if 255 <= found.distance {
             count += 1;
         }
@@ -131,11 +129,9 @@ pub fn put_led(
 {
     let mut at = from;
     let mut t: usize = 0;
-    let mut j: usize = 0;
-    while j < ka {
+    for j in 0..ka {
         let entry = combine_entry(op, a, b, n, ka, kb, j, t);
         t = entry.next;
-        j += 1;
         let is_far = 255 <= entry.distance;
         if is_far {
             at = put_entry(out, at, entry.slot, entry.distance);
@@ -154,14 +150,12 @@ pub fn settle_led(out: &mut [u8], op: SlotOp, a: &[u8], b: &[u8], n: usize, ka: 
 {
     let mut at = HEADER_LEN + n;
     let mut t: usize = 0;
-    let mut j: usize = 0;
-    while j < ka {
+    for j in 0..ka {
         let found = combine_entry(op, a, b, n, ka, kb, j, t);
         let slot = found.slot;
         let distance = found.distance;
         out[HEADER_LEN + slot] = primary_byte(distance);
         t = found.next;
-        j += 1;
         if 255 <= distance {
             at = put_entry(out, at, slot, distance);
         }

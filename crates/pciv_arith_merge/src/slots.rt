@@ -11,9 +11,9 @@ pub fn slot_op(op: SlotOp, x: u32, y: u32) -> u32
     ensures { result ≡ slot_op op x y }
 {
     match op {
-        SlotOp::Minimum => if x <= y { x } else { y },
-        SlotOp::Maximum => if x <= y { y } else { x },
+        SlotOp::Minimum => x.min(y),
+        SlotOp::Maximum => x.max(y),
         SlotOp::Sum => x + y,
-        SlotOp::Difference => if x <= y { 0 } else { x - y },
+        SlotOp::Difference => x.saturating_sub(y),
     }
 }

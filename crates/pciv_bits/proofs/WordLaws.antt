@@ -2,19 +2,20 @@
 --   ones_shr           the word of c set bits
 --   word-flip          the word of flags, or of their negations
 --   word-alike         the word of flags that are all alike
+--   words-alike        words of a mask that are all alike, written at once
 --   word_end, _more, _fits    a word made from its highest bit down
 --   mask_word-is        word w of a mask, by the slots that it has
 --   left-two, -mask    two words of a table written, and the last of a mask
 -- Axioms: none.
-use Rattle.std.proofs.Common.{◌≡◌, ℕ, zero, suc, ◌+◌, ◌-◌, ◌*◌, ◌/◌, ◌^◌, ◌<◌, ◌≤◌, min, Bool, true, false, cond, not, List, set, sym, refl, ap, ◌∙◌, pow-suc, arith, pow_mono}
+use Rattle.std.proofs.Common.{◌≡◌, ℕ, zero, suc, ◌+◌, ◌-◌, ◌*◌, ◌/◌, ◌^◌, ◌<◌, ◌≤◌, min, Bool, true, false, cond, not, List, ◌++◌, length, set, drop, replicate, zero-add, sym, refl, ap, ◌∙◌, pow-suc, arith, pow_mono}
 use lib.Seq.{sets}
 use lib.Pow.{ones_split, ones_lt, high}
-use Rattle.pciv_bytes.specs.Ranges.{flag}
-use Rattle.pciv_bytes.proofs.RangesLaws.{flag-not}
+use Rattle.pciv_bytes.specs.Ranges.{flag, table}
+use Rattle.pciv_bytes.proofs.RangesLaws.{flag-not, length-table}
 use Rattle.pciv_format.specs.Mask.{mask_len, word, mask_of}
 use Rattle.pciv_format.proofs.BitLaws.{word_lt}
 use Rattle.pciv_format.proofs.MaskLaws.{mask_word, mask_of-table}
-use Rattle.pciv_bytes.proofs.WriteLaws.{Left, left-more, left_end}
+use Rattle.pciv_bytes.proofs.WriteLaws.{Left, left-start, left-part, left-more, left_end, sets-front}
 use Rattle.pciv_bits.specs.Flags.{flip_if}
 
 -- c set bits, as the highest bits of 64 moved down
@@ -46,6 +47,23 @@ word_none i (suc c) = omega (arith, word_none (suc i) c)
 pub word-alike : (b : Bool) (i c : ℕ) → cond b (2 ^ c - 1) 0 ≡ word (λ (j : ℕ). b) i c
 word-alike true i c = omega (arith, word-not (λ (j : ℕ). true) i c, word_none i c)
 word-alike false i c = sym (word_none i c)
+
+-- ---- words that are all alike
+
+table-alike : (f : ℕ → ℕ) (x i c : ℕ) → ((j : ℕ) → i ≤ j → j < i + c → f j ≡ x) → table f i c ≡ replicate c x
+unfolding table
+table-alike f x i zero same = refl
+table-alike f x i (suc c) same =
+    rw (same i (omega arith) (omega arith), table-alike f x (suc i) c (λ j h k. same j (omega arith) (omega arith)))
+
+-- the first c words, each x, written to the front
+pub words-alike : (f : ℕ → ℕ) (n x c : ℕ) (out words : List ℕ) → c ≤ n → c ≤ length out
+    → ((j : ℕ) → j < c → f j ≡ x) → words ≡ replicate c x → Left f n out (words ++ drop c out) c
+words-alike f n x c out words few long same is =
+    let t : table f 0 c ≡ replicate c x = table-alike f x 0 c (λ j h k. same j (omega arith)) in
+    rw zero-add at
+    (left-part (left-start f n out) c (words ++ drop c out) (omega arith)
+    (rw (is, ← t) (sym (rw length-table at (sets-front (table f 0 c) out (rw length-table (omega arith)))))))
 
 -- ---- a word made from its highest bit down
 

@@ -8,7 +8,6 @@ ghost use Rattle.pciv_bits.specs.Flags.{flag_at, passes_at, near_at};
 use crate::gather::{ByteTest, Pair, gather, is_met};
 use crate::masks::ALL_BITS;
 use crate::transpose::transpose;
-use pciv_bytes::numbers::smaller;
 
 // The word of c set bits.
 fn ones(c: usize) -> u64
@@ -47,9 +46,7 @@ fn part_word(a: &[u8], from: usize, to: usize, test: ByteTest, negated: bool) ->
     ensures { result ≡ word (flag_at a.now test negated) from (to - from) }
 {
     let mut x: u64 = 0;
-    let mut j = to;
-    while from < j {
-        j -= 1;
+    for j in (from..to).rev() {
         x = 2 * x + is_met(test, a[j]) as u64;
     }
     flip_if(negated, ones(to - from), x)
@@ -61,17 +58,14 @@ fn words_into(a: &[u8], test: ByteTest, negated: bool, out: &mut [u64])
     ensures { out.new ≡ sets out.old 0 (mask_of (length a.now) (flag_at a.now test negated)) }
 {
     let n = a.len();
-    let full = n / 64;
-    let mut w = 0;
-    while 2 <= full - w {
-        let pair = full_words(a, 64 * w, test, negated);
-        out[w] = pair.first;
-        out[w + 1] = pair.second;
-        w += 2;
+    let pairs = n / 128;
+    for p in 0..pairs {
+        let pair = full_words(a, 128 * p, test, negated);
+        out[2 * p] = pair.first;
+        out[2 * p + 1] = pair.second;
     }
-    while 64 * w < n {
-        out[w] = part_word(a, 64 * w, smaller(64 * w + 64, n), test, negated);
-        w += 1;
+    for w in 2 * pairs..n.div_ceil(64) {
+        out[w] = part_word(a, 64 * w, usize::min(64 * w + 64, n), test, negated);
     }
 }
 
@@ -109,13 +103,8 @@ pub fn fill(n: usize, bit: bool, out: &mut [u64])
 {
     let full = n / 64;
     let tail = n % 64;
-    let x = uniform(bit, 64);
-    let mut w = 0;
-    while w < full {
-        out[w] = x;
-        w += 1;
-    }
+    out[..full].fill(uniform(bit, 64));
     if 0 < tail {
-        out[w] = uniform(bit, tail);
+        out[full] = uniform(bit, tail);
     }
 }

@@ -95,11 +95,9 @@ pub(crate) fn gather(a: &[u8], i: usize, test: ByteTest) -> Pair
     ensures { Gathered (is_met a.now test) i result.first × Gathered (is_met a.now test) (i + 64) result.second }
 {
     let mut lanes: [u8; 32] = [0; 32];
-    let mut j: usize = 0;
-    while j < 16 {
+    for j in 0..16 {
         lanes[j] = lane(a, i + j, test);
         lanes[16 + j] = lane(a, i + 64 + j, test);
-        j += 1;
     }
     Pair {
         first: (get64(&lanes, 0) | (get64(&lanes, 8) << 1)) as u64,

@@ -25,7 +25,7 @@ pub fn is_mask(n: usize, words: &[u64]) -> bool
 fn count_word(x: u64) -> usize
     ensures { (result ≡ count_ones x) × (result ≤ 64) }
 {
-    u64::count_ones(x) as usize
+    x.count_ones() as usize
 }
 
 // The set bits of all words.
@@ -34,10 +34,8 @@ pub fn count_bits(words: &[u64]) -> usize
     ensures { result ≡ sum_from (λ (i : ℕ). flag (mask_has words.now i)) 0 (64 * length words.now) }
 {
     let mut sum: usize = 0;
-    let mut i = 0;
-    while i < words.len() {
-        sum += count_word(words[i]);
-        i += 1;
+    for word in words {
+        sum += count_word(*word);
     }
     sum
 }

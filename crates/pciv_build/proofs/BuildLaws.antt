@@ -11,6 +11,8 @@
 --   built-checked       what stands there is a checked map
 --   built-sum           it has the sum of the distances
 -- Axioms: none.
+use Rattle.std.proofs.Common.{Ok, Err}
+use Rattle.pciv_format.specs.declared.RefusalKind.TheVariants.{BufferTooSmall}
 use mathlib.Core.Path.{◌≡◌, refl, sym, ap, ◌∙◌}
 use Prim.Native.Nat.{ℕ, suc, ◌+◌, ◌*◌, ◌≤◌, ◌<◌}
 use native.Mathlib.Nat.{zero-add, add_assoc}
@@ -32,7 +34,7 @@ use Rattle.pciv_bytes.proofs.WriteLaws.{sets-append, sets-front}
 use Rattle.pciv_format.specs.Layout.{max_slots, magic, in_overflow, index_step, index_len, file_len, primary}
 use Rattle.pciv_format.specs.Layout.{overflow_slots, overflow_count, overflow_entry, overflow_part, index_entry}
 use Rattle.pciv_format.specs.Layout.{index_part, header, file, counts_of, summarize, summary}
-use Rattle.pciv_format.specs.Refusals.{Outcome, done, refused, refuse, refuse_if}
+use Rattle.pciv_format.specs.Refusals.{Outcome, refuse, refuse_if}
 use Rattle.pciv_format.specs.Parts.{value_of}
 use Rattle.pciv_format.specs.Check.{file_parts, CheckedMap}
 use Rattle.pciv_format.specs.Read.{with_sum}
@@ -67,12 +69,12 @@ sets-header n k m step d d₁ d₂ d₃ d₄ d₅ m_is step_is e₁ e₂ e₃ e�
 -- ---- begin
 
 module _ (n k : ℕ) (d : List ℕ) where
-  pub begin-short : length d < file_len n k → (begin_outcome n k (length d) ≡ refuse 12 0 0) × (begin_buffer n k d ≡ d)
+  pub begin-short : length d < file_len n k → (begin_outcome n k (length d) ≡ refuse BufferTooSmall 0 0) × (begin_buffer n k d ≡ d)
   unfolding begin_outcome begin_buffer
   begin-short h = let t = lt-ltb (length d) (file_len n k) h in (rw t, rw t)
 
   pub begin-fits : file_len n k ≤ length d
-      → (begin_outcome n k (length d) ≡ done (counts_of n k)) × (begin_buffer n k d ≡ sets d 0 (header n k))
+      → (begin_outcome n k (length d) ≡ Ok (counts_of n k)) × (begin_buffer n k d ≡ sets d 0 (header n k))
   unfolding begin_outcome begin_buffer
   begin-fits h = let t = le-ltb (length d) (file_len n k) h in (rw t, rw t)
 
@@ -83,10 +85,10 @@ pub record Begun (n k : ℕ) (d : List ℕ) (s : Counts) : Type 0 where
   pub counts : s ≡ counts_of n k
   pub buffer : begin_buffer n k d ≡ sets d 0 (header n k)
 
-pub begun : (n k : ℕ) (d : List ℕ) (s : Counts) → begin_outcome n k (length d) ≡ done s → Begun n k d s
+pub begun : (n k : ℕ) (d : List ℕ) (s : Counts) → begin_outcome n k (length d) ≡ Ok s → Begun n k d s
 unfolding begin_outcome
 begun n k d s e =
-    let t = refuse_if-done (ltb (length d) (file_len n k)) _ (done (counts_of n k)) s e in
+    let t = refuse_if-done (ltb (length d) (file_len n k)) _ (Ok (counts_of n k)) s e in
     let fits : file_len n k ≤ length d = ltb-false _ _ t.0 in
     record {
       fits = fits;
@@ -95,7 +97,7 @@ begun n k d s e =
       buffer = (begin-fits n k d fits).1;
     }
 
-pub begin-refused : (n k : ℕ) (d : List ℕ) (r : Refusal) → begin_outcome n k (length d) ≡ refused r
+pub begin-refused : (n k : ℕ) (d : List ℕ) (r : Refusal) → begin_outcome n k (length d) ≡ Err r
     → begin_buffer n k d ≡ d
 begin-refused n k d r e =
     elim (dec_le (file_len n k) (length d)) [
@@ -191,7 +193,7 @@ module _ (n : ℕ) (v : ℕ → ℕ) (few : n ≤ max_slots) (q : List ℕ) wher
 
 -- a test that refuses, before or after the sum is told
 pub refuse_if-sum : (t : Bool) (c : Counts) (sum : ℕ)
-    → with_sum (refuse_if t (refuse 12 0 0) (done c)) sum ≡ refuse_if t (refuse 12 0 0) (done (summarize c sum))
+    → with_sum (refuse_if t (refuse BufferTooSmall 0 0) (Ok c)) sum ≡ refuse_if t (refuse BufferTooSmall 0 0) (Ok (summarize c sum))
 refuse_if-sum true c sum = refl
 refuse_if-sum false c sum = refl
 
@@ -219,15 +221,15 @@ module _ (n k : ℕ) (v : ℕ → ℕ) (count : k ≡ overflow_count n v) where
         (whole n v few (drop (length (front_of n v)) d) d D refl (rw count at fits)
         ((rw count at is) ∙ sets-front_of n v d))
 
-    pub built-refused : (d d₁ : List ℕ) (r : Refusal) → begin_outcome n k (length d) ≡ refused r → d₁ ≡ begin_buffer n k d
+    pub built-refused : (d d₁ : List ℕ) (r : Refusal) → begin_outcome n k (length d) ≡ Err r → d₁ ≡ begin_buffer n k d
         → d₁ ≡ file_buffer (file_into n v (length d)) n v d
     built-refused d d₁ r e e₁ =
         e₁
         ∙ begin-refused n k d r e
-        ∙ ap (λ (o : Outcome Summary). file_buffer o n v d) (begun-is (length d) (refused r) e)
+        ∙ ap (λ (o : Outcome Summary). file_buffer o n v d) (begun-is (length d) (Err r) e)
 
     -- the buffer after each of the parts
-    module _ (d d₁ d₂ d₃ d₄ : List ℕ) (s : Counts) (e : begin_outcome n k (length d) ≡ done s)
+    module _ (d d₁ d₂ d₃ d₄ : List ℕ) (s : Counts) (e : begin_outcome n k (length d) ≡ Ok s)
         (e₁ : d₁ ≡ begin_buffer n k d) (e₂ : d₂ ≡ sets d₁ 40 (primary n v))
         (e₃ : d₃ ≡ sets d₂ (40 + n) (overflow_part n v))
         (e₄ : d₄ ≡ sets d₃ (40 + n + 12 * k) (index_from d₃ n k)) where
@@ -237,7 +239,7 @@ module _ (n k : ℕ) (v : ℕ → ℕ) (count : k ≡ overflow_count n v) where
           e₄ ∙ built d d₃ b.fits (e₃ ∙ rw (e₂, e₁, b.buffer))
 
       pub built-done : d₄ ≡ file_buffer (file_into n v (length d)) n v d
-      built-done = built-file ∙ ap (λ (o : Outcome Summary). file_buffer o n v d) (begun-is (length d) (done s) e)
+      built-done = built-file ∙ ap (λ (o : Outcome Summary). file_buffer o n v d) (begun-is (length d) (Ok s) e)
 
       module _ (each : Fits n v) where
         map_is : CheckedMap d₄ n k

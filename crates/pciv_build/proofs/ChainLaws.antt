@@ -9,6 +9,7 @@
 --   opened-counted     the routine answers the counts with the sum of the distances: its answer and buffer are right
 --   opened-done        the same where it answers the summary of what stands there
 -- Axioms: none.
+use Rattle.std.proofs.Common.{Ok, Err}
 use mathlib.Core.Path.{◌≡◌, sym, ap, ◌∙◌}
 use Prim.Native.Nat.{ℕ, ◌+◌, ◌*◌, ◌≤◌}
 use native.Mathlib.Omega.{arith}
@@ -17,18 +18,14 @@ use lib.ListN.{length}
 use lib.Seq.{sets, length-sets}
 use Rattle.pciv_bytes.specs.Ranges.{sum_from}
 use Rattle.pciv_format.specs.Layout.{max_slots, file_len, header, primary, overflow_count, overflow_part, summarize}
-use Rattle.pciv_format.specs.Refusals.{Outcome, done, refused, counts_answer, file_answer}
+use Rattle.pciv_format.specs.Refusals.{Outcome}
 use Rattle.pciv_format.specs.Parts.{value_of}
 use Rattle.pciv_format.specs.Check.{file_parts, CheckedMap}
 use Rattle.pciv_format.specs.Write.{file_into, file_buffer}
 use Rattle.pciv_format.specs.declared.Counts.{Counts}
 use Rattle.pciv_format.specs.declared.Summary.{Summary}
 use Rattle.pciv_format.specs.declared.Refusal.{Refusal}
-use Rattle.pciv_format.specs.declared.CountsAnswer.{CountsAnswer}
-use Rattle.pciv_format.specs.declared.CountsAnswer.TheVariants as InCounts
-use Rattle.pciv_format.specs.declared.FileAnswer.TheVariants as InFile
 use Rattle.pciv_format.proofs.LayoutLaws.{overflow_count-le}
-use Rattle.pciv_format.proofs.RefusalsLaws.{counts_answer-counted, counts_answer-refused}
 use Rattle.pciv_build.specs.Build.{Fits, begin_outcome, begin_buffer, index_from}
 use Rattle.pciv_build.specs.Slots.{HoldsPrimary}
 use Rattle.pciv_build.proofs.BuildLaws.{Begun, begun, begun-is, built-done, built-refused}
@@ -38,31 +35,31 @@ use Rattle.pciv_build.proofs.IntoLaws.{holds-primary}
 pub begin-few : (n k : ℕ) (v : ℕ → ℕ) → n ≤ max_slots → k ≡ overflow_count n v → (n ≤ max_slots) × (k ≤ n)
 begin-few n k v few count = (few, omega (arith, overflow_count-le n v))
 
-pub record Opened (n k : ℕ) (v : ℕ → ℕ) (o : Outcome Summary) (d : List ℕ) (a : CountsAnswer) (d₁ : List ℕ) : Type 0 where
+pub record Opened (n k : ℕ) (v : ℕ → ℕ) (o : Outcome Summary) (d : List ℕ) (a : Outcome Counts) (d₁ : List ℕ) : Type 0 where
   pub few : n ≤ max_slots
   pub each : Fits n v
   pub count : k ≡ overflow_count n v
   pub into : o ≡ file_into n v (length d)
-  pub answer : a ≡ counts_answer (begin_outcome n k (length d))
+  pub answer : a ≡ begin_outcome n k (length d)
   pub buffer : d₁ ≡ begin_buffer n k d
 
-module _ {n k : ℕ} {v : ℕ → ℕ} {o : Outcome Summary} {d : List ℕ} {a : CountsAnswer} {d₁ : List ℕ}
+module _ {n k : ℕ} {v : ℕ → ℕ} {o : Outcome Summary} {d : List ℕ} {a : Outcome Counts} {d₁ : List ℕ}
     (e : Opened n k v o d a d₁) where
   -- the buffer after writing the file is that of the routine
   buffer-is : (d' : List ℕ) → d' ≡ file_buffer (file_into n v (length d)) n v d → d' ≡ file_buffer o n v d
   buffer-is d' is = is ∙ ap (λ (x : Outcome Summary). file_buffer x n v d) (sym e.into)
 
-  pub opened-refused : (r : Refusal) → a ≡ InCounts.Refused r
-      → (InFile.Refused r ≡ file_answer o) × (d₁ ≡ file_buffer o n v d)
+  pub opened-refused : (r : Refusal) → a ≡ Err r
+      → (Err r ≡ o) × (d₁ ≡ file_buffer o n v d)
   opened-refused r is =
-      let no : begin_outcome n k (length d) ≡ refused r = counts_answer-refused _ r (sym is ∙ e.answer) in (
-        ap file_answer (begun-is n k v e.count (length d) (refused r) no ∙ sym e.into),
+      let no : begin_outcome n k (length d) ≡ Err r = sym e.answer ∙ is in (
+        (begun-is n k v e.count (length d) (Err r) no ∙ sym e.into),
         buffer-is d₁ (built-refused n k v e.count e.few d d₁ r no e.buffer),
       )
 
-  module _ (s : Counts) (is : a ≡ InCounts.Counted s) where
-    ok : begin_outcome n k (length d) ≡ done s
-    ok = counts_answer-counted _ s (sym is ∙ e.answer)
+  module _ (s : Counts) (is : a ≡ Ok s) where
+    ok : begin_outcome n k (length d) ≡ Ok s
+    ok = sym e.answer ∙ is
 
     here : Begun n k d s
     here = begun n k d s ok
@@ -93,15 +90,15 @@ module _ {n k : ℕ} {v : ℕ → ℕ} {o : Outcome Summary} {d : List ℕ} {a :
               built-checked n k v e.count e.few d d₁ d₂ d₃ d₄ s ok e.buffer put₂ put₃ put₄ e.each
 
           pub opened-counted : (t : Summary) → t ≡ summarize s (sum_from v 0 n)
-              → (InFile.Done t ≡ file_answer o) × (d₄ ≡ file_buffer o n v d)
+              → (Ok t ≡ o) × (d₄ ≡ file_buffer o n v d)
           opened-counted t summed = (
-            ap file_answer (ap done summed ∙ begun-is n k v e.count (length d) (done s) ok ∙ sym e.into),
+            (ap Ok summed ∙ begun-is n k v e.count (length d) (Ok s) ok ∙ sym e.into),
             buffer-is d₄ (built-done n k v e.count e.few d d₁ d₂ d₃ d₄ s ok e.buffer put₂ put₃ put₄),
           )
 
           pub opened-done : (t : Summary)
               → t ≡ summarize s (sum_from (value_of (file_parts d₄ s.n s.k)) 0 s.n)
-              → (InFile.Done t ≡ file_answer o) × (d₄ ≡ file_buffer o n v d)
+              → (Ok t ≡ o) × (d₄ ≡ file_buffer o n v d)
           opened-done t summed =
               opened-counted t
               (summed

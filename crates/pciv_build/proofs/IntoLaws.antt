@@ -6,6 +6,7 @@
 --                          slots alone count
 --   holds-primary          the primary bytes stand in a buffer where they were written
 -- Axioms: none.
+use Rattle.pciv_format.specs.declared.RefusalKind.TheVariants.{DistanceOverflow}
 use mathlib.Core.Path.{◌≡◌, sym, ap, ◌∙◌}
 use Prim.Native.Nat.{ℕ, ◌+◌, ◌≤◌, ◌<◌}
 use native.Mathlib.Omega.{arith}
@@ -18,10 +19,9 @@ use Rattle.pciv_bytes.specs.Ranges.{first_below}
 use Rattle.pciv_bytes.specs.ByteAt.{byte_at}
 use Rattle.pciv_bytes.proofs.RangesLaws.{first_below-all, first_below-cong}
 use Rattle.pciv_format.specs.Layout.{max_distance, primary, file}
-use Rattle.pciv_format.specs.Refusals.{Outcome, refuse, written, file_answer}
+use Rattle.pciv_format.specs.Refusals.{Outcome, refuse, written}
 use Rattle.pciv_format.specs.Write.{file_into, map_into, file_buffer}
 use Rattle.pciv_format.specs.declared.Summary.{Summary}
-use Rattle.pciv_format.specs.declared.FileAnswer.{FileAnswer}
 use Rattle.pciv_format.proofs.RefusalsLaws.{refuse_first-none, refuse_first-some}
 use Rattle.pciv_format.proofs.LayoutLaws.{file-cong, summary-cong}
 use Rattle.pciv_format.proofs.PrimaryLaws.{primary-at}
@@ -31,16 +31,16 @@ use Rattle.pciv_build.specs.Slots.{HoldsPrimary}
 module _ (n : ℕ) (v : ℕ → ℕ) where
   -- a routine that refuses with 11 and leaves the buffer as it was
   pub map-large : (place : ℕ) → place ≡ first_below (λ (i : ℕ). ltb max_distance (v i)) n → place < n
-      → (d : List ℕ) (a : FileAnswer) → a ≡ file_answer (refuse 11 0 place)
-      → (a ≡ file_answer (map_into n v (length d))) × (d ≡ file_buffer (map_into n v (length d)) n v d)
+      → (d : List ℕ) (a : Outcome Summary) → a ≡ (refuse DistanceOverflow 0 place)
+      → (a ≡ (map_into n v (length d))) × (d ≡ file_buffer (map_into n v (length d)) n v d)
   map-large place is h d a answer =
-      let o : map_into n v (length d) ≡ refuse 11 0 place =
-      refuse_first-some 11 0 (λ (i : ℕ). ltb max_distance (v i)) n place (file_into n v (length d)) is h in
-      (answer ∙ ap file_answer (sym o), rw o)
+      let o : map_into n v (length d) ≡ refuse DistanceOverflow 0 place =
+      refuse_first-some DistanceOverflow 0 (λ (i : ℕ). ltb max_distance (v i)) n place (file_into n v (length d)) is h in
+      (answer ∙ (sym o), rw o)
 
   pub map-fits : (capacity : ℕ) → Fits n v → map_into n v capacity ≡ file_into n v capacity
   map-fits capacity fits =
-      refuse_first-none 11 0 (λ (i : ℕ). ltb max_distance (v i)) n (file_into n v capacity)
+      refuse_first-none DistanceOverflow 0 (λ (i : ℕ). ltb max_distance (v i)) n (file_into n v capacity)
       (λ i h. le-ltb max_distance (v i) (fits i h))
 
   pub fits-none : (place : ℕ) → place ≡ first_below (λ (i : ℕ). ltb max_distance (v i)) n → n ≤ place → Fits n v
@@ -62,13 +62,13 @@ module _ (n : ℕ) (v w : ℕ → ℕ) (same : (i : ℕ) → i < n → v i ≡ w
         summary-cong n v w same,
       )
 
-  pub map-written : (m : ℕ) → m ≡ n → (out d : List ℕ) (a : FileAnswer) (o : Outcome Summary)
+  pub map-written : (m : ℕ) → m ≡ n → (out d : List ℕ) (a : Outcome Summary) (o : Outcome Summary)
       → o ≡ map_into n w (length out)
-      → a ≡ file_answer (map_into n v (length out)) → d ≡ file_buffer (map_into n v (length out)) n v out
-      → (a ≡ file_answer o) × (d ≡ file_buffer o m w out)
+      → a ≡ (map_into n v (length out)) → d ≡ file_buffer (map_into n v (length out)) n v out
+      → (a ≡ o) × (d ≡ file_buffer o m w out)
   map-written m size out d a o is answer buffer =
       let e : map_into n v (length out) ≡ o = map_into-cong (length out) ∙ sym is in (
-        answer ∙ ap file_answer e,
+        answer ∙ e,
         buffer
             ∙ ap (λ (x : Outcome Summary). file_buffer x n v out) e
             ∙ ap (λ (f : List ℕ). written o f out) (file-cong n v w same ∙ ap (λ (t : ℕ). file t w) (sym size)),

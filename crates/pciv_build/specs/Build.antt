@@ -6,12 +6,14 @@
 --   index_entry_from d n k i       index entry i, read off the overflow entries that stand in d
 --   index_from d n k              the whole sparse index, read off them
 -- Laws are in proofs/BuildLaws.antt and proofs/IntoLaws.antt. Axioms: none.
+use Rattle.std.specs.Prelude.{Ok}
+use Rattle.pciv_format.specs.declared.RefusalKind.TheVariants.{BufferTooSmall}
 use Rattle.std.specs.Prelude.{ℕ, ◌+◌, ◌*◌, ◌≤◌, ◌<◌, cond, List, ◌++◌, length, ltb}
 use Rattle.std.proofs.lemmas.List.Edits.{sets}
 use Rattle.pciv_bytes.specs.Ranges.{table, joined}
 use Rattle.pciv_bytes.specs.LittleEndian.{le, get}
 use Rattle.pciv_format.specs.Layout.{max_distance, index_step, index_len, file_len, header, counts_of}
-use Rattle.pciv_format.specs.Refusals.{Outcome, done, refuse, refuse_if}
+use Rattle.pciv_format.specs.Refusals.{Outcome, refuse, refuse_if}
 use Rattle.pciv_format.specs.declared.Counts.{Counts}
 
 abbrev pub NoneAbove : ℕ → (ℕ → ℕ) → ℕ → Type 0
@@ -21,7 +23,7 @@ abbrev pub Fits : ℕ → (ℕ → ℕ) → Type 0
 Fits n v = NoneAbove n v max_distance
 
 unfoldable pub begin_outcome : ℕ → ℕ → ℕ → Outcome Counts
-begin_outcome n k capacity = refuse_if (ltb capacity (file_len n k)) (refuse 12 0 0) (done (counts_of n k))
+begin_outcome n k capacity = refuse_if (ltb capacity (file_len n k)) (refuse BufferTooSmall 0 0) (Ok (counts_of n k))
 
 unfoldable pub begin_buffer : ℕ → ℕ → List ℕ → List ℕ
 begin_buffer n k d = cond (ltb (length d) (file_len n k)) d (sets d 0 (header n k))

@@ -10,12 +10,11 @@ ghost use Rattle.std.specs.Prelude.{◌≡◌, ◌++◌, ◌+◌, ◌*◌, ◌�
 ghost use Rattle.std.proofs.lemmas.List.Edits.{sets};
 ghost use Rattle.pciv_bytes.specs.LittleEndian.{le};
 ghost use Rattle.pciv_format.specs.Layout.{max_slots, file_len, header};
-ghost use Rattle.pciv_format.specs.Refusals.{counts_answer};
 ghost use Rattle.pciv_build.specs.Build.{begin_outcome, begin_buffer, index_from};
 
 use pciv_bytes::little_endian::{get64, put32, put64};
-use pciv_format::{BUFFER_TOO_SMALL, CountsAnswer, HEADER_LEN, MAGIC};
-use pciv_layout::refusals::refuse_counts;
+use pciv_format::{Counts, HEADER_LEN, MAGIC, Refusal, RefusalKind};
+use pciv_layout::refusals::refuse;
 use pciv_layout::{counts_of, file_len, index_len, index_step};
 
 // Writes the header of a file with n slots and k overflow entries.
@@ -31,16 +30,17 @@ pub fn put_header(out: &mut [u8], n: usize, k: usize)
 }
 
 // Begins a file: its header and its counts; or refusal 12, with the buffer as it was.
-pub fn begin(out: &mut [u8], n: usize, k: usize) -> CountsAnswer
+#[tactic(auto, unfolding(crate::specs::Build::begin_outcome, crate::specs::Build::begin_buffer))]
+pub fn begin(out: &mut [u8], n: usize, k: usize) -> Result<Counts, Refusal>
     requires { (n ≤ max_slots) × (k ≤ n) }
-    ensures answer { result ≡ counts_answer (begin_outcome n k (length out.old)) }
+    ensures answer { result ≡ begin_outcome n k (length out.old) }
     ensures buffer { out.new ≡ begin_buffer n k out.old }
 {
     if out.len() < file_len(n, k) {
-        return refuse_counts(BUFFER_TOO_SMALL, 0, 0);
+        return refuse(RefusalKind::BufferTooSmall, 0, 0);
     }
     put_header(out, n, k);
-    CountsAnswer::Counted(counts_of(n, k))
+    Ok(counts_of(n, k))
 }
 
 // Writes an overflow entry, and answers the place after it.
@@ -72,11 +72,9 @@ pub fn finish(out: &mut [u8], n: usize, k: usize)
     let m = index_len(k);
     let entries = HEADER_LEN + n;
     let index = entries + 12 * k;
-    let mut i = 0;
-    while i < m {
+    for i in 0..m {
         let entry = i * step;
         let slot = get64(out, entries + 12 * entry);
         put_index_entry(out, index + 16 * i, slot, entry);
-        i += 1;
     }
 }

@@ -42,7 +42,7 @@ fn put_word(out: &mut [u8], place: usize, from: usize, to: usize, flags: u64) ->
     let mut bits = flags;
     let mut slot = from;
     while 0 < bits {
-        let zeros = u64::trailing_zeros(bits) as usize;
+        let zeros = bits.trailing_zeros() as usize;
         let full = slot + zeros;
         next = put_entry(out, next, full, SENTINEL as u32);
         bits = (bits >> zeros) >> 1;
@@ -60,12 +60,8 @@ fn put_words(out: &mut [u8], place: usize, from: usize, to: usize, words: &[u64]
     ensures buffer { out.new ≡ sets out.old place (blank_entries (full_slots out.old from (to - from))) }
 {
     let mut next = place;
-    let mut slot = from;
-    let mut w = 0;
-    while slot < to {
-        next = put_word(out, next, slot, to, words[w]);
-        slot += 64;
-        w += 1;
+    for w in 0..(to - from).div_ceil(64) {
+        next = put_word(out, next, from + 64 * w, to, words[w]);
     }
     next
 }
@@ -88,11 +84,10 @@ pub fn put_slots(out: &mut [u8], n: usize)
     requires { 40 + n + 12 * length (full_slots out.old 0 n) ≤ length out.old }
     ensures { out.new ≡ sets out.old (40 + n) (blank_entries (full_slots out.old 0 n)) }
 {
+    let whole = n / BLOCK;
     let mut place = HEADER_LEN + n;
-    let mut i = 0;
-    while BLOCK <= n - i {
-        place = put_block(out, place, i, i + BLOCK);
-        i += BLOCK;
+    for b in 0..whole {
+        place = put_block(out, place, BLOCK * b, BLOCK * b + BLOCK);
     }
-    put_block(out, place, i, n);
+    put_block(out, place, BLOCK * whole, n);
 }

@@ -5,6 +5,7 @@
 --   bundle-accepted        accepted bytes are such a bundle
 --   bundle-accepted-iff    bytes are accepted exactly when they are the header and such records behind it
 -- Axioms: none.
+use Rattle.std.proofs.Common.{Ok}
 use mathlib.Core.Path.{◌≡◌, sym, ap, subst, ◌∙◌}
 use mathlib.Core.Logic.{◌↔◌}
 use Prim.Native.Nat.{ℕ, ◌≤◌, ◌<◌}
@@ -12,7 +13,6 @@ use native.Mathlib.Omega.{arith}
 use mathlib.Core.List.{List, [], ◌∷◌, ◌++◌}
 use lib.ListN.{length, get_or, drop}
 use Rattle.pciv_bytes.specs.LittleEndian.{le, Bytes}
-use Rattle.pciv_format.specs.Refusals.{done}
 use Rattle.pciv_bundle_records.specs.Records.{record_kind, record_payload, record_count, frames, records_outcome}
 use Rattle.pciv_bundle_records.specs.Records.{slot_count, frame_count, Record, records_bytes}
 use Rattle.pciv_bundle_records.specs.Records.{header_of}
@@ -46,8 +46,8 @@ pub record BundleRest (c : BundleCounts) (rest : List Record) : Type 0 where
   pub sound : SoundRest c.frames rest
   pub each : (f : ℕ) → f < c.frames → FrameFile c.slots (get_or (frames_in rest) f [])
 
-module _ (b : List ℕ) (c : BundleCounts) (accepted : bundle_outcome b ≡ done c) where
-  records : records_outcome b ≡ done c
+module _ (b : List ℕ) (c : BundleCounts) (accepted : bundle_outcome b ≡ Ok c) where
+  records : records_outcome b ≡ Ok c
   records = records-accepted b c accepted
 
   module _ (bytes : Bytes b) where
@@ -92,7 +92,7 @@ module _ (b : List ℕ) (c : BundleCounts) (accepted : bundle_outcome b ≡ done
 -- ---- and the other way
 
 accepts : (c : BundleCounts) (rest : List Record) → BundleRest c rest
-    → bundle_outcome (records_bytes (header_of c.slots c.frames ∷ rest)) ≡ done c
+    → bundle_outcome (records_bytes (header_of c.slots c.frames ∷ rest)) ≡ Ok c
 accepts c rest q =
     let first = q.each 0 q.sound.some in
     let few : c.slots < 4294967296 = omega (arith, first.slots, first.limits.count) in
@@ -100,7 +100,7 @@ accepts c rest q =
     bundle-done _ c (rest-outcome c.slots c.frames rest q.sound few) c.slots
     (rw (rest-frames c.slots c.frames rest q.sound) files)
 
-pub bundle-accepted-iff : (b : List ℕ) → Bytes b → (c : BundleCounts) → (bundle_outcome b ≡ done c)
+pub bundle-accepted-iff : (b : List ℕ) → Bytes b → (c : BundleCounts) → (bundle_outcome b ≡ Ok c)
     ↔ ((rest : List Record) × BundleRest c rest × (b ≡ records_bytes (header_of c.slots c.frames ∷ rest)))
 bundle-accepted-iff b bytes c = (
   λ e. (drop 1 (records_of b), rest-accepted b c e bytes, bytes-accepted b c e bytes),

@@ -12,6 +12,8 @@
 --   write-n, write-frames              frames that are accepted: n, and the length of each, fits in 4 bytes
 --   write-short, write_done, write-buffer    refusal 12, or how many bytes, and what is written
 -- Axioms: none.
+use Rattle.std.proofs.Common.{Ok, Err}
+use Rattle.pciv_format.specs.declared.RefusalKind.TheVariants.{SlotOutOfRange, BufferTooSmall, BadBundle}
 use mathlib.Core.Path.{◌≡◌, sym, ap, ◌∙◌}
 use Prim.Native.Nat.{ℕ, ◌≤◌, ◌<◌, ◌^◌}
 use native.Mathlib.Omega.{arith}
@@ -21,7 +23,7 @@ use lib.ListN.{length, get_or, take}
 use lib.Seq.{sets, get_or-take}
 use borrow.Author.Tests.{le-leb, lt-leb, lt-ltb, le-ltb}
 use Rattle.pciv_bytes.proofs.WriteLaws.{sets-front}
-use Rattle.pciv_format.specs.Refusals.{done, refused, refuse, and_then}
+use Rattle.pciv_format.specs.Refusals.{refuse, and_then}
 use Rattle.pciv_format.specs.Check.{n_field}
 use Rattle.pciv_format.specs.declared.Refusal.{Refusal}
 use Rattle.pciv_format.proofs.RefusalsLaws.{and_then-done}
@@ -40,51 +42,51 @@ use Rattle.pciv_bundle.specs.Bundle.{used_slots, ShortFrames, bundle_write_outco
 -- ---- the check of a bundle
 
 module _ (b : List ℕ) where
-  pub bundle-records : (r : Refusal) → records_outcome b ≡ refused r → bundle_outcome b ≡ refused r
+  pub bundle-records : (r : Refusal) → records_outcome b ≡ Err r → bundle_outcome b ≡ Err r
   unfolding bundle_outcome
   bundle-records r e = rw e
 
-  module _ (c : BundleCounts) (e : records_outcome b ≡ done c) where
+  module _ (c : BundleCounts) (e : records_outcome b ≡ Ok c) where
     pub counted-frames : (c.frames ≤ 8) × (c.frames ≡ length (frames b))
     counted-frames =
         let a = done-accepted b c e in
         rw (done-counts b c e) (a.header.few, sym a.counted)
 
-    pub bundle-frames : (r : Refusal) → frames_outcome c.slots (frames b) ≡ refused r → bundle_outcome b ≡ refused r
+    pub bundle-frames : (r : Refusal) → frames_outcome c.slots (frames b) ≡ Err r → bundle_outcome b ≡ Err r
     unfolding bundle_outcome
     bundle-frames r g = rw (e, g)
 
-    pub bundle-done : (n : ℕ) → frames_outcome c.slots (frames b) ≡ done n → bundle_outcome b ≡ done c
+    pub bundle-done : (n : ℕ) → frames_outcome c.slots (frames b) ≡ Ok n → bundle_outcome b ≡ Ok c
     unfolding bundle_outcome
     bundle-done n g = rw (e, g)
 
 -- ---- the bundle is refused
 
-module _ (b : List ℕ) (r : Refusal) (e : bundle_outcome b ≡ refused r) where
-  pub row-refused : (slot : ℕ) → row_outcome b slot ≡ refused r
+module _ (b : List ℕ) (r : Refusal) (e : bundle_outcome b ≡ Err r) where
+  pub row-refused : (slot : ℕ) → row_outcome b slot ≡ Err r
   unfolding row_outcome
   row-refused slot = rw e
 
-  pub nearest-refused : (capacity : ℕ) → nearest_outcome b capacity ≡ refused r
+  pub nearest-refused : (capacity : ℕ) → nearest_outcome b capacity ≡ Err r
   unfolding nearest_outcome
   nearest-refused capacity = rw e
 
 -- ---- the bundle is accepted
 
-module _ (b : List ℕ) (c : BundleCounts) (e : bundle_outcome b ≡ done c) where
-  parts : (n : ℕ) × (records_outcome b ≡ done c) × (frames_outcome c.slots (frames b) ≡ done n)
+module _ (b : List ℕ) (c : BundleCounts) (e : bundle_outcome b ≡ Ok c) where
+  parts : (n : ℕ) × (records_outcome b ≡ Ok c) × (frames_outcome c.slots (frames b) ≡ Ok n)
   unfolding bundle_outcome
   parts =
       let d = and_then-done (records_outcome b) _ c e in
       let g = and_then-done (frames_outcome d.0.slots (frames b)) _ c d.2 in
-      let last : done d.0 ≡ done c = g.2 in
+      let last : Ok d.0 ≡ Ok c = g.2 in
       let same : d.0 ≡ c = cc in
       (g.0, d.1 ∙ last, ap (λ (x : BundleCounts). frames_outcome x.slots (frames b)) (sym same) ∙ g.1)
 
-  pub records-accepted : records_outcome b ≡ done c
+  pub records-accepted : records_outcome b ≡ Ok c
   records-accepted = parts.1
 
-  pub frames-accepted : (n : ℕ) × (frames_outcome c.slots (frames b) ≡ done n)
+  pub frames-accepted : (n : ℕ) × (frames_outcome c.slots (frames b) ≡ Ok n)
   frames-accepted = (parts.0, parts.2)
 
   pub accepted-frames : (c.frames ≤ 8) × (c.frames ≡ length (frames b))
@@ -94,20 +96,20 @@ module _ (b : List ℕ) (c : BundleCounts) (e : bundle_outcome b ≡ done c) whe
   bundle-checked = frames-checked c.slots (frames b) _ frames-accepted.1
 
   -- one slot
-  pub row-outside : (slot : ℕ) → c.slots ≤ slot → row_outcome b slot ≡ refuse 9 0 0
+  pub row-outside : (slot : ℕ) → c.slots ≤ slot → row_outcome b slot ≡ refuse SlotOutOfRange 0 0
   unfolding row_outcome
   row-outside slot h = rw (e, le-leb c.slots slot h)
 
-  pub row_inside : (slot : ℕ) → slot < c.slots → row_outcome b slot ≡ done (row_of (frames b) slot)
+  pub row_inside : (slot : ℕ) → slot < c.slots → row_outcome b slot ≡ Ok (row_of (frames b) slot)
   unfolding row_outcome
   row_inside slot h = rw (e, lt-leb c.slots slot h)
 
   -- every slot
-  pub nearest-short : (capacity : ℕ) → capacity < c.slots → nearest_outcome b capacity ≡ refuse 12 0 0
+  pub nearest-short : (capacity : ℕ) → capacity < c.slots → nearest_outcome b capacity ≡ refuse BufferTooSmall 0 0
   unfolding nearest_outcome
   nearest-short capacity h = rw e (items-short c.slots capacity h)
 
-  pub nearest-done : (capacity : ℕ) → c.slots ≤ capacity → nearest_outcome b capacity ≡ done c.slots
+  pub nearest-done : (capacity : ℕ) → c.slots ≤ capacity → nearest_outcome b capacity ≡ Ok c.slots
   unfolding nearest_outcome
   nearest-done capacity h = rw e (items-fit c.slots capacity h)
 
@@ -122,26 +124,25 @@ module _ (b : List ℕ) (c : BundleCounts) (e : bundle_outcome b ≡ done c) whe
 -- ---- writing
 
 module _ (fs : List (List ℕ)) (count : ℕ) where
-  pub write-none : (capacity : ℕ) → count < 1 → bundle_write_outcome fs count capacity ≡ refuse 14 0 0
+  pub write-none : (capacity : ℕ) → count < 1 → bundle_write_outcome fs count capacity ≡ refuse BadBundle 0 0
   unfolding bundle_write_outcome
   write-none capacity h = rw (lt-ltb count 1 h)
 
-  pub write-many : (capacity : ℕ) → 8 < count → bundle_write_outcome fs count capacity ≡ refuse 14 0 0
+  pub write-many : (capacity : ℕ) → 8 < count → bundle_write_outcome fs count capacity ≡ refuse BadBundle 0 0
   unfolding bundle_write_outcome
   write-many capacity h = rw (le-ltb count 1 (omega arith), lt-ltb 8 count h)
 
   module _ (some : 1 ≤ count) (few : count ≤ 8) where
     -- a first frame without a whole header is refused, whatever its n is taken for
     pub write-slots : (n : ℕ) → length (take count fs) ≡ count
-        → (let first = get_or (take count fs) 0 [] in
+        → (let first = get_or fs 0 [] in
         (40 ≤ length first → n ≡ n_field first)
         → frames_outcome n (take count fs) ≡ frames_outcome (used_slots fs) (take count fs))
     write-slots n all is =
-        let first : List ℕ = get_or (take count fs) 0 [] in
-        let same : first ≡ get_or fs 0 [] = get_or-take count fs 0 [] some in
-        elim (dec_le 40 (length first)) [
-          | yes long ↦ ap (λ (m : ℕ). frames_outcome m (take count fs)) (is long ∙ ap n_field same)
-          | no short ↦ frames_outcome-any n (used_slots fs) (take count fs) (rw all some) (omega arith)
+        let first : get_or (take count fs) 0 [] ≡ get_or fs 0 [] = get_or-take count fs 0 [] some in
+        elim (dec_le 40 (length (get_or fs 0 []))) [
+          | yes long ↦ ap (λ (m : ℕ). frames_outcome m (take count fs)) (is long)
+          | no short ↦ frames_outcome-any n (used_slots fs) (take count fs) (rw all some) (omega (arith, ap length first))
         ]
 
     -- what is left to refuse
@@ -151,11 +152,11 @@ module _ (fs : List (List ℕ)) (count : ℕ) where
     unfolding bundle_write_outcome
     past-count capacity = rw (le-ltb count 1 some, le-ltb 8 count few)
 
-    pub write-refused : (capacity : ℕ) (r : Refusal) → frames_outcome (used_slots fs) (take count fs) ≡ refused r
-        → bundle_write_outcome fs count capacity ≡ refused r
+    pub write-refused : (capacity : ℕ) (r : Refusal) → frames_outcome (used_slots fs) (take count fs) ≡ Err r
+        → bundle_write_outcome fs count capacity ≡ Err r
     write-refused capacity r e = past-count capacity ∙ rw e
 
-    module _ (n : ℕ) (e : frames_outcome (used_slots fs) (take count fs) ≡ done n) where
+    module _ (n : ℕ) (e : frames_outcome (used_slots fs) (take count fs) ≡ Ok n) where
       pub write-n : length (take count fs) ≡ count → n < 2 ^ 32
       write-n all = rw (← frames-value _ _ n e) at (frames_small _ _ n e 0 (rw all some)).0
 
@@ -163,12 +164,12 @@ module _ (fs : List (List ℕ)) (count : ℕ) where
       write-frames f h = (frames_small _ _ n e f h).1
 
       pub write-short : (capacity : ℕ) → capacity < length (bundle_of n (take count fs))
-          → bundle_write_outcome fs count capacity ≡ refuse 12 0 0
+          → bundle_write_outcome fs count capacity ≡ refuse BufferTooSmall 0 0
       write-short capacity h =
           past-count capacity ∙ rw e (items-short (length (bundle_of n (take count fs))) capacity h)
 
       pub write_done : (capacity : ℕ) → length (bundle_of n (take count fs)) ≤ capacity
-          → bundle_write_outcome fs count capacity ≡ done (length (bundle_of n (take count fs)))
+          → bundle_write_outcome fs count capacity ≡ Ok (length (bundle_of n (take count fs)))
       write_done capacity h =
           past-count capacity ∙ rw e (items-fit (length (bundle_of n (take count fs))) capacity h)
 

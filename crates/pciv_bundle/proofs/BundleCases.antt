@@ -3,6 +3,8 @@
 --   further    what it is read as, each fault of 14 with its place, the refusals behind it, and the writer
 --   bundled    those two maps are such as the theorems of Bundles.antt ask for
 -- Axioms: none.
+use Rattle.std.proofs.Common.{Ok}
+use Rattle.pciv_format.specs.declared.RefusalKind.TheVariants.{TruncatedHeader, BadMagic, BadOverflowEntry, SlotOutOfRange, SizeMismatch, BufferTooSmall, BadBundle}
 use mathlib.Core.Path.{◌≡◌, refl}
 use Prim.Native.Nat.{ℕ, zero, suc, ◌≤◌, ◌<◌}
 use native.Mathlib.Omega.{arith}
@@ -13,7 +15,7 @@ use Rattle.pciv_bytes.specs.Ranges.{first_from, first_below, table, positions, j
 use Rattle.pciv_bytes.specs.LittleEndian.{le, number, get}
 use Rattle.pciv_format.specs.Layout.{index_step, index_len, file_len, primary, overflow_slots, overflow_count, overflow_entry}
 use Rattle.pciv_format.specs.Layout.{overflow_part, index_part, header, file, counts_of, file_of, Limits}
-use Rattle.pciv_format.specs.Refusals.{done, refuse}
+use Rattle.pciv_format.specs.Refusals.{refuse}
 use Rattle.pciv_format.specs.Parts.{wrong_entry, bad_entry, entry_of, bad_slot, value_of}
 use Rattle.pciv_format.specs.Check.{bad_index_entry, bad_counts, check_header, check_parts, check_with}
 use Rattle.pciv_format.specs.Read.{list_of}
@@ -41,7 +43,7 @@ skipped =
 
 -- refused with 14 at this place
 abbrev Fault : List ℕ → ℕ → Type 0
-Fault b place = bundle_outcome b ≡ refuse 14 0 place
+Fault b place = bundle_outcome b ≡ refuse BadBundle 0 place
 
 -- the bundle, a row, and its nearest list
 abbrev Reads : Type 0
@@ -52,12 +54,12 @@ Reads =
     × (record_at AB 2 ≡ 86)
     × (frames_before AB 2 ≡ 1)
     × (frames AB ≡ file_of A ∷ file_of B ∷ [])
-    × (bundle_outcome AB ≡ done (record { slots = 4; frames = 2 }))
-    × (row_outcome AB 3 ≡ done (300 ∷ 4294967295 ∷ 0 ∷ 0 ∷ 0 ∷ 0 ∷ 0 ∷ 0 ∷ []))
-    × (row_outcome AB 4 ≡ refuse 9 0 0)
+    × (bundle_outcome AB ≡ Ok (record { slots = 4; frames = 2 }))
+    × (row_outcome AB 3 ≡ Ok (300 ∷ 4294967295 ∷ 0 ∷ 0 ∷ 0 ∷ 0 ∷ 0 ∷ 0 ∷ []))
+    × (row_outcome AB 4 ≡ refuse SlotOutOfRange 0 0)
     × (nearest_list (frames AB) 4 ≡ 1 ∷ 1 ∷ 1 ∷ 300 ∷ [])
-    × (nearest_outcome AB 4 ≡ done 4)
-    × (nearest_outcome AB 3 ≡ refuse 12 0 0)
+    × (nearest_outcome AB 4 ≡ Ok 4)
+    × (nearest_outcome AB 3 ≡ refuse BufferTooSmall 0 0)
     × (nearest_buffer AB (replicate 5 7) ≡ 1 ∷ 1 ∷ 1 ∷ 300 ∷ 7 ∷ [])
 
 -- no bytes; the bundle cut off in record 0, behind it, in the next length, between the frames, in a frame; one, two and
@@ -95,38 +97,38 @@ Wrong =
 -- another one; a slot count that no map has; a frame without payload
 abbrev Damaged : Type 0
 Damaged =
-    (bundle_outcome (bundle_of 4 (file_of A ∷ set (file_of B) 44 9 ∷ [])) ≡ refuse 6 2 0)
-    × (bundle_outcome (bundle_of 5 (file_of A ∷ set (file_of B) 0 9 ∷ [])) ≡ refuse 2 2 0)
-    × (bundle_outcome (bundle_of 4 (file_of A ∷ file_of (1 ∷ []) ∷ [])) ≡ refuse 10 0 2)
-    × (bundle_outcome (bundle_of 5 (file_of A ∷ file_of B ∷ [])) ≡ refuse 10 0 1)
-    × (bundle_outcome (bundle_of 1048577 (file_of A ∷ [])) ≡ refuse 10 0 1)
-    × (bundle_outcome (bundle_of 4 (file_of A ∷ [] ∷ [])) ≡ refuse 1 2 0)
+    (bundle_outcome (bundle_of 4 (file_of A ∷ set (file_of B) 44 9 ∷ [])) ≡ refuse BadOverflowEntry 2 0)
+    × (bundle_outcome (bundle_of 5 (file_of A ∷ set (file_of B) 0 9 ∷ [])) ≡ refuse BadMagic 2 0)
+    × (bundle_outcome (bundle_of 4 (file_of A ∷ file_of (1 ∷ []) ∷ [])) ≡ refuse SizeMismatch 0 2)
+    × (bundle_outcome (bundle_of 5 (file_of A ∷ file_of B ∷ [])) ≡ refuse SizeMismatch 0 1)
+    × (bundle_outcome (bundle_of 1048577 (file_of A ∷ [])) ≡ refuse SizeMismatch 0 1)
+    × (bundle_outcome (bundle_of 4 (file_of A ∷ [] ∷ [])) ≡ refuse TruncatedHeader 2 0)
 
 -- other kinds between the frames and behind them
 abbrev Skips : Type 0
 Skips =
-    (bundle_outcome skipped ≡ done (record { slots = 4; frames = 2 }))
-    × (row_outcome skipped 3 ≡ done (300 ∷ 4294967295 ∷ 0 ∷ 0 ∷ 0 ∷ 0 ∷ 0 ∷ 0 ∷ []))
+    (bundle_outcome skipped ≡ Ok (record { slots = 4; frames = 2 }))
+    × (row_outcome skipped 3 ≡ Ok (300 ∷ 4294967295 ∷ 0 ∷ 0 ∷ 0 ∷ 0 ∷ 0 ∷ 0 ∷ []))
     × (nearest_buffer skipped (replicate 5 7) ≡ 1 ∷ 1 ∷ 1 ∷ 300 ∷ 7 ∷ [])
 
 -- no slots
 abbrev Empty : Type 0
 Empty =
-    (bundle_outcome (bundle_of 0 (file_of [] ∷ [])) ≡ done (record { slots = 0; frames = 1 }))
-    × (row_outcome (bundle_of 0 (file_of [] ∷ [])) 0 ≡ refuse 9 0 0)
-    × (nearest_outcome (bundle_of 0 (file_of [] ∷ [])) 0 ≡ done 0)
+    (bundle_outcome (bundle_of 0 (file_of [] ∷ [])) ≡ Ok (record { slots = 0; frames = 1 }))
+    × (row_outcome (bundle_of 0 (file_of [] ∷ [])) 0 ≡ refuse SlotOutOfRange 0 0)
+    × (nearest_outcome (bundle_of 0 (file_of [] ∷ [])) 0 ≡ Ok 0)
 
 -- the writer: a buffer just long enough, and one byte short; no frames, and nine; frame 2 of another slot count, and
 -- with a wrong mark; what is past the count is not looked at; bytes past the bundle stay
 abbrev Writes : Type 0
 Writes =
-    (bundle_write_outcome (file_of A ∷ file_of B ∷ []) 2 148 ≡ done 148)
-    × (bundle_write_outcome (file_of A ∷ file_of B ∷ []) 2 147 ≡ refuse 12 0 0)
-    × (bundle_write_outcome (file_of A ∷ file_of B ∷ []) 0 148 ≡ refuse 14 0 0)
-    × (bundle_write_outcome (file_of A ∷ file_of B ∷ []) 9 148 ≡ refuse 14 0 0)
-    × (bundle_write_outcome (file_of A ∷ file_of (1 ∷ []) ∷ []) 2 148 ≡ refuse 10 0 2)
-    × (bundle_write_outcome (file_of A ∷ set (file_of B) 0 9 ∷ []) 2 148 ≡ refuse 2 2 0)
-    × (bundle_write_outcome (file_of A ∷ (9 ∷ []) ∷ []) 1 148 ≡ done 86)
+    (bundle_write_outcome (file_of A ∷ file_of B ∷ []) 2 148 ≡ Ok 148)
+    × (bundle_write_outcome (file_of A ∷ file_of B ∷ []) 2 147 ≡ refuse BufferTooSmall 0 0)
+    × (bundle_write_outcome (file_of A ∷ file_of B ∷ []) 0 148 ≡ refuse BadBundle 0 0)
+    × (bundle_write_outcome (file_of A ∷ file_of B ∷ []) 9 148 ≡ refuse BadBundle 0 0)
+    × (bundle_write_outcome (file_of A ∷ file_of (1 ∷ []) ∷ []) 2 148 ≡ refuse SizeMismatch 0 2)
+    × (bundle_write_outcome (file_of A ∷ set (file_of B) 0 9 ∷ []) 2 148 ≡ refuse BadMagic 2 0)
+    × (bundle_write_outcome (file_of A ∷ (9 ∷ []) ∷ []) 1 148 ≡ Ok 86)
     × (bundle_write_buffer (file_of A ∷ file_of B ∷ (9 ∷ []) ∷ []) 2 (replicate 150 7) ≡ AB ++ (7 ∷ 7 ∷ []))
 
 pub further : Reads × Cut × Wrong × Damaged × Skips × Empty × Writes

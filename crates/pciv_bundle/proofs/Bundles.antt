@@ -8,6 +8,8 @@
 --   nearest_of_lists n xss       the nearest distance of every slot over those lists
 --   NearestWritten, bundle-nearest    the nearest list of such a bundle, and the caller's list afterwards
 -- Axioms: none.
+use Rattle.std.proofs.Common.{Ok}
+use Rattle.pciv_format.specs.declared.RefusalKind.TheVariants.{SlotOutOfRange}
 use mathlib.Core.Path.{◌≡◌, refl, sym, ap, ap₂, ◌∙◌}
 use Prim.Native.Nat.{ℕ, suc, ◌+◌, ◌≤◌, ◌<◌}
 use native.Mathlib.Nat.{zero-add}
@@ -19,7 +21,7 @@ use lib.Seq.{take_at, drop_at, get_or-take}
 use Rattle.pciv_bytes.specs.Ranges.{table}
 use Rattle.pciv_bytes.proofs.RangesLaws.{get_or-map_inside, get_or-table, table-cong}
 use Rattle.pciv_format.specs.Layout.{at, file_of, Limits}
-use Rattle.pciv_format.specs.Refusals.{done, refuse, written}
+use Rattle.pciv_format.specs.Refusals.{refuse, written}
 use Rattle.pciv_format.specs.Check.{n_field}
 use Rattle.pciv_format.specs.Read.{items_into}
 use Rattle.pciv_format.proofs.Acceptance.{file-read}
@@ -46,11 +48,11 @@ bundle_of_lists n xss = bundle_of n (map file_of xss)
 
 -- what the writer answers and leaves, and what that is read as
 pub record WrittenRead (xss : List (List ℕ)) (n : ℕ) (fs : List (List ℕ)) (out : List ℕ) : Type 0 where
-  pub answer : bundle_write_outcome fs (length xss) (length out) ≡ done (length (bundle_of_lists n xss))
+  pub answer : bundle_write_outcome fs (length xss) (length out) ≡ Ok (length (bundle_of_lists n xss))
   pub front : take (length (bundle_of_lists n xss)) (bundle_write_buffer fs (length xss) out) ≡ bundle_of_lists n xss
   pub rest : drop (length (bundle_of_lists n xss)) (bundle_write_buffer fs (length xss) out)
       ≡ drop (length (bundle_of_lists n xss)) out
-  pub counts : bundle_outcome (bundle_of_lists n xss) ≡ done (record { slots = n; frames = length xss })
+  pub counts : bundle_outcome (bundle_of_lists n xss) ≡ Ok (record { slots = n; frames = length xss })
   pub given : frames (bundle_of_lists n xss) ≡ map file_of xss
 
 abbrev pub row_of_lists : List (List ℕ) → ℕ → List ℕ
@@ -105,7 +107,7 @@ module _ (xss : List (List ℕ)) (n : ℕ) (l : Bundled xss n) where
       let inside : f < length xss = omega (arith, count) in
       rw (file-at f inside, ← l.slots f inside) (file-frame (get_or xss f []) (l.limits f inside))
 
-  frames-done : frames_outcome n files ≡ done n
+  frames-done : frames_outcome n files ≡ Ok n
   frames-done = files-done n files frame-file
 
   small : (f : ℕ) → f < length files → (n < 4294967296) × (2 + length (get_or files f []) < 4294967296)
@@ -123,7 +125,7 @@ module _ (xss : List (List ℕ)) (n : ℕ) (l : Bundled xss n) where
   slots-are : slot_count b ≡ n
   slots-are = bundle_of-slot_count n files n-small
 
-  counts : bundle_outcome b ≡ done (record { slots = n; frames = length xss })
+  counts : bundle_outcome b ≡ Ok (record { slots = n; frames = length xss })
   counts =
       let records = bundle_of-sound n files (λ f h. (small f h).1) first (omega (arith, count, l.few)) n-small in
       bundle-done b _ (rw count at records) n (rw frames-are frames-done)
@@ -138,10 +140,10 @@ module _ (xss : List (List ℕ)) (n : ℕ) (l : Bundled xss n) where
         ∙ ap (λ (l : List (List ℕ)). get_or l 0 []) given)
         ∙ (frames-checked n files n frames-done 0 first).header.n_is
 
-    frames-given : frames_outcome (used_slots fs) (take (length xss) fs) ≡ done n
+    frames-given : frames_outcome (used_slots fs) (take (length xss) fs) ≡ Ok n
     frames-given = rw (used, given) frames-done
 
-    write-is : (capacity : ℕ) → length b ≤ capacity → bundle_write_outcome fs (length xss) capacity ≡ done (length b)
+    write-is : (capacity : ℕ) → length b ≤ capacity → bundle_write_outcome fs (length xss) capacity ≡ Ok (length b)
     write-is capacity fits =
         rw given at (write_done fs (length xss) l.some l.few n frames-given capacity (rw given fits))
 
@@ -173,13 +175,13 @@ module _ (xss : List (List ℕ)) (n : ℕ) (l : Bundled xss n) where
             rw (file-at f inside, file-read (get_or xss f []) (l.limits f inside)))
       ]
 
-  pub bundle-row : (slot : ℕ) → slot < n → row_outcome (bundle_of_lists n xss) slot ≡ done (row_of_lists xss slot)
+  pub bundle-row : (slot : ℕ) → slot < n → row_outcome (bundle_of_lists n xss) slot ≡ Ok (row_of_lists xss slot)
   unfolding row_of
   bundle-row slot inside =
       row_inside b _ counts slot inside
-      ∙ ap done (rw frames-are (table-cong _ _ 0 8 (λ f h. row_is slot f)))
+      ∙ ap Ok (rw frames-are (table-cong _ _ 0 8 (λ f h. row_is slot f)))
 
-  pub bundle-row-outside : (slot : ℕ) → n ≤ slot → row_outcome (bundle_of_lists n xss) slot ≡ refuse 9 0 0
+  pub bundle-row-outside : (slot : ℕ) → n ≤ slot → row_outcome (bundle_of_lists n xss) slot ≡ refuse SlotOutOfRange 0 0
   bundle-row-outside = row-outside b _ counts
 
   -- ---- the nearest distance of every slot

@@ -4,6 +4,8 @@
 --                      the bundle may be accepted, or refused because of its frames
 --   put-in             computed: a record put into the bundle of one frame, where it is skipped and where it is refused
 -- Axioms: none.
+use Rattle.std.proofs.Common.{Ok}
+use Rattle.pciv_format.specs.declared.RefusalKind.TheVariants.{BadBundle}
 use mathlib.Core.Path.{◌≡◌, refl}
 use Prim.Native.Nat.{ℕ, ◌≤◌}
 use mathlib.Core.List.{List, [], ◌∷◌}
@@ -11,7 +13,7 @@ use Rattle.pciv_bytes.specs.Ranges.{first_from, first_below, table, positions, j
 use Rattle.pciv_bytes.specs.LittleEndian.{le, number, get, Bytes}
 use Rattle.pciv_format.specs.Layout.{index_step, index_len, file_len, primary, overflow_slots, overflow_count}
 use Rattle.pciv_format.specs.Layout.{overflow_entry, overflow_part, index_part, header, file, file_of, counts_of}
-use Rattle.pciv_format.specs.Refusals.{done, refuse}
+use Rattle.pciv_format.specs.Refusals.{refuse}
 use Rattle.pciv_format.specs.Parts.{wrong_entry, bad_entry, entry_of, bad_slot, value_of}
 use Rattle.pciv_format.specs.Check.{bad_index_entry, bad_counts, check_header, check_parts, check_with}
 use Rattle.pciv_format.specs.Read.{list_of}
@@ -34,7 +36,7 @@ pub record SameAnswers (a b : List ℕ) : Type 0 where
   pub nearest : (capacity : ℕ) → nearest_outcome a capacity ≡ nearest_outcome b capacity
   pub list : (out : List ℕ) → nearest_buffer a out ≡ nearest_buffer b out
 
-module _ (b : List ℕ) (bytes : Bytes b) (c : BundleCounts) (right : records_outcome b ≡ done c)
+module _ (b : List ℕ) (bytes : Bytes b) (c : BundleCounts) (right : records_outcome b ≡ Ok c)
     (r : ℕ) (low : 1 ≤ r) (high : r ≤ record_count b) (x : Record) (fits : FitsRecord x) (other : 2 ≤ x.kind) where
   frames-same : frames (with_record b r x) ≡ frames b
   frames-same = skipped-frames b bytes c right r low high x fits other
@@ -70,12 +72,12 @@ note kind = record_of kind (1 ∷ 0 ∷ 255 ∷ [])
 pub put-in :
     (with_record alone 1 (note 7) ≡ records_bytes (header_of 4 1 ∷ note 7 ∷ record_of 1 (file_of A) ∷ []))
     × (with_record alone 2 (note 7) ≡ records_bytes (header_of 4 1 ∷ record_of 1 (file_of A) ∷ note 7 ∷ []))
-    × (bundle_outcome (with_record alone 1 (note 7)) ≡ done (record { slots = 4; frames = 1 }))
-    × (row_outcome (with_record alone 2 (note 7)) 3 ≡ done (300 ∷ 0 ∷ 0 ∷ 0 ∷ 0 ∷ 0 ∷ 0 ∷ 0 ∷ []))
+    × (bundle_outcome (with_record alone 1 (note 7)) ≡ Ok (record { slots = 4; frames = 1 }))
+    × (row_outcome (with_record alone 2 (note 7)) 3 ≡ Ok (300 ∷ 0 ∷ 0 ∷ 0 ∷ 0 ∷ 0 ∷ 0 ∷ 0 ∷ []))
     × (nearest_buffer (with_record alone 1 (note 7)) (7 ∷ 7 ∷ 7 ∷ 7 ∷ 7 ∷ []) ≡ 0 ∷ 254 ∷ 255 ∷ 300 ∷ 7 ∷ [])
-    × (bundle_outcome (with_record alone 0 (note 7)) ≡ refuse 14 0 0)
-    × (bundle_outcome (with_record alone 1 (note 0)) ≡ refuse 14 0 1)
-    × (bundle_outcome (with_record alone 2 (note 1)) ≡ refuse 14 0 2)
+    × (bundle_outcome (with_record alone 0 (note 7)) ≡ refuse BadBundle 0 0)
+    × (bundle_outcome (with_record alone 1 (note 0)) ≡ refuse BadBundle 0 1)
+    × (bundle_outcome (with_record alone 2 (note 1)) ≡ refuse BadBundle 0 2)
 unfolding
     bundle_of records_bytes bundle_records record_bytes file le header primary overflow_part overflow_slots
     overflow_count overflow_entry index_part index_len index_step table positions joined bundle_outcome records_outcome

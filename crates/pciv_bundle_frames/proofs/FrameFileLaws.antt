@@ -4,6 +4,7 @@
 --   done-file        where the frames' outcome is done, each frame that is bytes is such a file
 --   files-done       and it is done where each frame is
 -- Axioms: none.
+use Rattle.std.proofs.Common.{Ok}
 use mathlib.Core.Path.{◌≡◌, sym, ap, subst, ◌∙◌}
 use Prim.Native.Nat.{ℕ, suc, ◌+◌, ◌<◌}
 use native.Mathlib.Omega.{arith}
@@ -13,7 +14,6 @@ use borrow.Author.Tests.{le-ltb}
 use Rattle.pciv_bytes.specs.LittleEndian.{Bytes}
 use Rattle.pciv_bytes.proofs.RangesLaws.{first_below-none}
 use Rattle.pciv_format.specs.Layout.{counts_of, file_of, Limits}
-use Rattle.pciv_format.specs.Refusals.{done}
 use Rattle.pciv_format.specs.Check.{k_field, counts_file}
 use Rattle.pciv_format.specs.Read.{list_of}
 use Rattle.pciv_format.proofs.PartsLaws.{eqb-not}
@@ -34,7 +34,7 @@ file-frame xs l =
     record { limits = subst Limits (sym e) l; slots = ap length e; bytes = ap file_of (sym e) }
 
 -- every frame of an outcome that is done
-pub done-file : (n m : ℕ) (fs : List (List ℕ)) → frames_outcome n fs ≡ done m → (f : ℕ) → f < length fs
+pub done-file : (n m : ℕ) (fs : List (List ℕ)) → frames_outcome n fs ≡ Ok m → (f : ℕ) → f < length fs
     → Bytes (get_or fs f []) → FrameFile n (get_or fs f [])
 done-file n m fs e f h bytes =
     let b : List ℕ = get_or fs f [] in
@@ -45,16 +45,16 @@ done-file n m fs e f h bytes =
 
 -- and an outcome is done where every frame is a file
 files-sound : (n f : ℕ) (fs : List (List ℕ)) → ((i : ℕ) → i < length fs → FrameFile n (get_or fs i []))
-    → sound_frames f fs ≡ done (f + length fs)
+    → sound_frames f fs ≡ Ok (f + length fs)
 unfolding sound_frames
-files-sound n f [] each = ap done (omega arith)
+files-sound n f [] each = ap Ok (omega arith)
 files-sound n f (b ∷ fs) each =
     let a = each 0 (omega arith) in
     rw (ap (counts_file f) a.bytes ∙ file-counted f (list_of b) a.limits)
-    (files-sound n (suc f) fs (λ i h. each (suc i) (omega arith)) ∙ ap done (omega arith))
+    (files-sound n (suc f) fs (λ i h. each (suc i) (omega arith)) ∙ ap Ok (omega arith))
 
 pub files-done : (n : ℕ) (fs : List (List ℕ)) → ((i : ℕ) → i < length fs → FrameFile n (get_or fs i []))
-    → frames_outcome n fs ≡ done n
+    → frames_outcome n fs ≡ Ok n
 unfolding frames_outcome
 files-done n fs each =
     rw (

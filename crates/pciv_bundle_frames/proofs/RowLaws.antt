@@ -1,20 +1,20 @@
 -- Laws of the row of a slot.
 --   row_at fs slot f    the distance at a slot in frame f
 --   absent-zero        it is 0 where that frame is absent
---   row-filled         the distances of the frames, written over zeros, are the row
+--   row-filled         the distances of the frames, and zeros up to eight, are the row
 -- Axioms: none.
 use mathlib.Core.Path.{◌≡◌, refl, sym, ap, ◌∙◌}
-use Prim.Native.Nat.{ℕ, ◌≤◌, ◌<◌}
+use Prim.Native.Nat.{ℕ, ◌+◌, ◌-◌, ◌≤◌, ◌<◌}
 use native.Mathlib.Nat.{zero-add}
 use native.Mathlib.Omega.{arith}
 use native.Mathlib.Decide.{dec_le}
-use mathlib.Core.List.{List, []}
-use lib.ListN.{length, get_or, replicate, length-replicate, get_or-replicate, get_or-eq_default}
-use lib.Seq.{sets, length-sets, ext_get_or}
+use mathlib.Core.List.{List, [], ◌++◌}
+use lib.ListN.{length, get_or, drop, replicate, length-append, length-drop, get_or-append, get_or-replicate, get_or-eq_default}
+use Rattle.std.proofs.lemmas.List.{get_or-drop, get_or-append_right}
+use lib.Seq.{ext_get_or}
 use Rattle.pciv_bytes.specs.LittleEndian.{get, number}
 use Rattle.pciv_bytes.specs.Ranges.{table}
 use Rattle.pciv_bytes.proofs.RangesLaws.{length-table, get_or-table}
-use Rattle.pciv_bytes.proofs.WriteLaws.{sets-table-at, sets-table-above}
 use Rattle.pciv_format.specs.Layout.{at}
 use Rattle.pciv_format.specs.Check.{n_field}
 use Rattle.pciv_format.specs.Read.{list_of}
@@ -33,26 +33,25 @@ absent-zero fs slot f h =
     rw (get_or-eq_default fs [] h)
     (get_or-eq_default (list_of []) 0 (omega (arith, length-list_of [], no-slots)))
 
--- the distances of the frames, written over zeros
-pub row-filled : (fs : List (List ℕ)) (slot : ℕ) (row : List ℕ) → length fs ≤ 8
-    → row ≡ sets (replicate 8 0) 0 (table (row_at fs slot) 0 (length fs)) → row ≡ row_of fs slot
+-- the distances of the frames, and zeros
+pub row-filled : (fs : List (List ℕ)) (slot : ℕ) (distances : List ℕ) (count : ℕ) → count ≡ length fs → count ≤ 8
+    → length distances ≡ count → ((f : ℕ) → f < count → get_or distances f 0 ≡ row_at fs slot f)
+    → distances ++ drop count (replicate 8 0) ≡ row_of fs slot
 unfolding row_of
-row-filled fs slot row few is =
+row-filled fs slot distances count many few long each =
+    let rest : List ℕ = drop count (replicate 8 0) in
     let v : ℕ → ℕ = row_at fs slot in
-    let zeros : List ℕ = replicate 8 0 in
-    let long : length (sets zeros 0 (table v 0 (length fs))) ≡ 8 =
-    length-sets zeros 0 (table v 0 (length fs)) ∙ length-replicate {A = ℕ} 8 0 in
-    is
-    ∙ ext_get_or 0 (sets zeros 0 (table v 0 (length fs))) (table v 0 8) (long ∙ sym (length-table v 0 8))
-    (λ g h.
-    each g (omega (arith, long)) ∙ sym (get_or-table v 0 0 8 g (omega (arith, long)) ∙ ap v (zero-add g)))
+    let eight : length (distances ++ rest) ≡ 8 = simp (length-append, length-drop) (omega arith) in
+    ext_get_or 0 (distances ++ rest) (table v 0 8) (eight ∙ sym (length-table v 0 8))
+    (λ f h. at_each f (omega (arith, eight)) ∙ sym (get_or-table v 0 0 8 f (omega (arith, eight)) ∙ ap v (zero-add f)))
   where
-    each : (g : ℕ) → g < 8 → at (sets (replicate 8 0) 0 (table (row_at fs slot) 0 (length fs))) g ≡ row_at fs slot g
-    each g h =
-        elim (dec_le (length fs) g) [
-          | yes d ↦ sets-table-above (row_at fs slot) (length fs) (replicate 8 0) g d
-              ∙ get_or-replicate {A = ℕ} 8 g 0 0 h
-              ∙ sym (absent-zero fs slot g d)
-          | no d ↦ sets-table-at (row_at fs slot) (length fs) (replicate 8 0)
-              (omega (arith, length-replicate {A = ℕ} 8 0)) g (omega arith)
+    at_each : (f : ℕ) → f < 8 → get_or (distances ++ drop count (replicate 8 0)) f 0 ≡ row_at fs slot f
+    at_each f h =
+        let rest : List ℕ = drop count (replicate 8 0) in
+        elim (dec_le count f) [
+          | yes d ↦ get_or-append_right distances rest count f 0 long d
+              ∙ get_or-drop count (replicate 8 0) (f - count) 0
+              ∙ get_or-replicate 8 (count + (f - count)) 0 0 (omega arith)
+              ∙ sym (absent-zero fs slot f (omega arith))
+          | no d ↦ get_or-append distances rest 0 f (omega arith) ∙ each f (omega arith)
         ]

@@ -2,118 +2,90 @@
 // one slot (docs/FORMAT.md, "Bundles"). Definitions are in specs/Frames.antt.
 #![tactic(auto)]
 
-ghost use Rattle.std.specs.Prelude.{◌≡◌, ◌+◌, ◌≤◌, ◌<◌, map, length, take, ltb};
-ghost use Rattle.pciv_format.specs.Refusals.{done, refuse, refuse_if, number_answer};
+ghost use Rattle.std.specs.Prelude.{◌≡◌, ◌≤◌, ◌<◌, map, length, take, IfSome};
 ghost use Rattle.pciv_bundle_records.specs.Records.{frames, PlacedFrames};
-ghost use Rattle.pciv_bundle_frames.specs.Frames.{frames_outcome, next_other, next_frame, CheckedFrames, row_of};
+ghost use Rattle.pciv_bundle_frames.specs.Frames.{frames_outcome, next_frame, same_slots, CheckedFrames, row_of};
 
-use pciv_bundle_records::{Places, frame_at};
+use pciv_bundle_records::{MAX_FRAMES, Span, frame_at};
 use pciv_bytes::little_endian::get64;
 use pciv_check::check_counts;
-use pciv_format::{CountsAnswer, NumberAnswer, SIZE_MISMATCH};
-use pciv_layout::refusals::refuse_number;
+use pciv_format::{Refusal, RefusalKind};
+use pciv_layout::refusals::refuse;
 use pciv_map_lookup::locate;
 
-// The least of the frames up to f that has not n slots, or f + 1, where `other` is that of those below f and frame f has
-// `have` slots.
-fn next_other(other: usize, f: usize, have: usize, n: usize) -> usize
+// The check of frame f, then the least of the frames up to it that has not n slots, if there is one, where `other` is that
+// of those below.
+fn check_next(
+    frame: &[u8],
+    f: usize,
+    other: Option<usize>,
+    n: usize,
+) -> Result<Option<usize>, Refusal>
     requires { f < 8 }
-    ensures { result ≡ next_other n f other have }
+    ensures { result ≡ next_frame n f other frame.now }
 {
-    if other != f {
-        return other;
-    }
-    if have != n {
-        return other;
-    }
-    f + 1
+    let counts = check_counts(frame, f + 1)?;
+    let this = (counts.n != n).then_some(f);
+    Ok(other.or(this))
 }
 
-// The check of frame f, then the least of the frames up to it that has not n slots, or f + 1, where `other` is that of
-// those below.
-fn check_next(frame: &[u8], f: usize, other: usize, n: usize) -> NumberAnswer
-    requires { f < 8 }
-    ensures { result ≡ number_answer (next_frame n f other frame.now) }
+// Refusal 10 where there is a frame, of eight from 0, that has not n slots, else n.
+fn same_slots(other: Option<usize>, n: usize) -> Result<usize, Refusal>
+    requires { IfSome other (λ f. f < 8) }
+    ensures { result ≡ same_slots n other }
 {
-    let checked = check_counts(frame, f + 1);
-    match checked {
-        CountsAnswer::Refused(r) => NumberAnswer::Refused(r),
-        CountsAnswer::Counted(s) => NumberAnswer::Number(next_other(other, f, s.n, n)),
+    match other {
+        Some(f) => refuse(RefusalKind::SizeMismatch, 0, f + 1),
+        None => Ok(n),
     }
-}
-
-// Refusal 10 where one of `count` frames has not n slots, else n; `other` is the least such frame, from 0, or `count`.
-fn same_slots(other: usize, count: usize, n: usize) -> NumberAnswer
-    requires { other ≤ 8 }
-    ensures { result ≡ number_answer (refuse_if (ltb other count) (refuse 10 0 (other + 1)) (done n)) }
-{
-    if other < count {
-        return refuse_number(SIZE_MISMATCH, 0, other + 1);
-    }
-    NumberAnswer::Number(n)
 }
 
 // The check of a bundle's frames, of which each has to have n slots. Refusals: 1 to 8, then 10.
-pub fn check_frames(bundle: &[u8], places: Places, count: usize, n: usize) -> NumberAnswer
+pub fn check_frames(
+    bundle: &[u8],
+    places: [Span; MAX_FRAMES],
+    count: usize,
+    n: usize,
+) -> Result<usize, Refusal>
     requires count_bound { (count ≤ 8) × (count ≡ length (frames bundle.now)) }
     requires placed_frames { PlacedFrames bundle.now places }
-    ensures { result ≡ number_answer (frames_outcome n (frames bundle.now)) }
+    ensures { result ≡ frames_outcome n (frames bundle.now) }
 {
-    let mut other: usize = 0;
-    let mut next: usize = 0;
-    while next < count {
-        let checked = check_next(frame_at(bundle, places, next), next, other, n);
-        next += 1;
-        match checked {
-            NumberAnswer::Refused(r) => {
-                return NumberAnswer::Refused(r);
-            }
-            NumberAnswer::Number(least) => {
-                other = least;
-            }
-        }
+    let mut other = None;
+    for f in 0..count {
+        other = check_next(frame_at(bundle, places, f), f, other, n)?;
     }
-    same_slots(other, count, n)
+    same_slots(other, n)
 }
 
 // The same of the first `count` of eight frames that a caller lends.
-pub fn check_lent(frames: &[&[u8]; 8], count: usize, n: usize) -> NumberAnswer
+pub fn check_lent(frames: &[&[u8]; MAX_FRAMES], count: usize, n: usize) -> Result<usize, Refusal>
     requires { count ≤ 8 }
-    ensures { result ≡ number_answer (frames_outcome n (take count (map (λ x. x.now) frames.now))) }
+    ensures { result ≡ frames_outcome n (take count (map (λ x. x.now) frames.now)) }
 {
-    // as a slice, since that tells how many there are
-    let all: &[&[u8]] = frames;
-    let mut other: usize = 0;
-    let mut passed: usize = 0;
-    while passed < count {
-        let checked = check_next(all[passed], passed, other, n);
-        passed += 1;
-        match checked {
-            NumberAnswer::Refused(r) => {
-                return NumberAnswer::Refused(r);
-            }
-            NumberAnswer::Number(least) => {
-                other = least;
-            }
-        }
+    let mut other = None;
+    for (f, frame) in frames[..count].iter().enumerate() {
+        other = check_next(frame, f, other, n)?;
     }
-    same_slots(other, count, n)
+    same_slots(other, n)
 }
 
 // The distance at a slot in each frame of a bundle, 0 where there is no frame.
-pub fn row_of(bundle: &[u8], places: Places, count: usize, n: usize, slot: usize) -> [u32; 8]
+pub fn row_of(
+    bundle: &[u8],
+    places: [Span; MAX_FRAMES],
+    count: usize,
+    n: usize,
+    slot: usize,
+) -> [u32; MAX_FRAMES]
     requires count_bound { (count ≤ 8) × (count ≡ length (frames bundle.now)) × (slot < n) }
     requires placed_frames { PlacedFrames bundle.now places × CheckedFrames (frames bundle.now) n }
     ensures { result ≡ row_of (frames bundle.now) slot }
 {
-    let mut row: [u32; 8] = [0; 8];
-    let mut f: usize = 0;
-    while f < count {
+    let mut row = [0; MAX_FRAMES];
+    for (f, distance) in row[..count].iter_mut().enumerate() {
         let frame = frame_at(bundle, places, f);
-        let k = get64(frame, 16);
-        let found = locate(frame, n, k, slot);
-        row[f] = found.distance;
-        f += 1;
+        *distance = locate(frame, n, get64(frame, 16), slot).distance;
     }
     row
 }

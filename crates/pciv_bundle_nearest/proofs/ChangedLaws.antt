@@ -1,19 +1,16 @@
 -- Laws of a list that is changed in place, element by element or frame by frame.
---   changed-start, -more    no element yet, and one more
+--   changed-more            one more element
 --   changed-to              past elements that the change leaves as they are
 --   changed-cong            changes that agree
 --   Turns G fs n old new f  changing the first n elements by every frame from the start on equals changing them by the
 --                           frames from f on
---   turns-start, _more, -end    no frame yet, one more, and all
+--   turns_more, -end        one more frame, and all
 -- Axioms: none.
-use Rattle.std.proofs.Common.{◌≡◌, ℕ, suc, ◌+◌, ◌<◌, ◌≤◌, List, [], length, get_or, drop, set, sym, refl, ap, ◌∙◌, add-one, arith, length-set, drop_of_length-le, drop-cons, get_or-set_other, get_or-set_same}
+use Rattle.std.proofs.Common.{◌≡◌, ℕ, suc, ◌+◌, ◌<◌, ◌≤◌, List, [], length, get_or, drop, set, sym, ap, ◌∙◌, add-one, arith, length-set, drop_of_length-le, drop-cons, get_or-set_other, get_or-set_same}
 use native.Mathlib.Decide.{dec_le}
 use mathlib.Core.List.{foldl}
 use Rattle.pciv_format.specs.Layout.{at}
 use Rattle.pciv_bundle_nearest.specs.Passes.{Changed}
-
-pub changed-start : (g : ℕ → ℕ → ℕ) (old : List ℕ) → Changed g 0 old old
-changed-start g old = record { same = refl; each = λ i h. absurd (omega arith); rest = λ i h. refl }
 
 module _ {g : ℕ → ℕ → ℕ} {n : ℕ} {old new : List ℕ} (c : Changed g n old new) where
   pub changed-more : (x : ℕ) → n < length old → x ≡ g n (at new n) → Changed g (n + 1) old (set new n x)
@@ -51,9 +48,6 @@ pub record Turns (G : ℕ → ℕ → List ℕ → ℕ) (fs : List (List ℕ)) (
   pub same : length new ≡ length old
   pub each : (i : ℕ) → i < n → foldl (G i) (at old i) fs ≡ foldl (G i) (at new i) (drop f fs)
   pub rest : (i : ℕ) → n ≤ i → at new i ≡ at old i
-
-pub turns-start : (G : ℕ → ℕ → List ℕ → ℕ) (fs : List (List ℕ)) (n : ℕ) (old : List ℕ) → Turns G fs n old old 0
-turns-start G fs n old = record { same = refl; each = λ i h. refl; rest = λ i h. refl }
 
 module _ {G : ℕ → ℕ → List ℕ → ℕ} {fs : List (List ℕ)} {n : ℕ} {old new : List ℕ} {f : ℕ}
     (t : Turns G fs n old new f) where

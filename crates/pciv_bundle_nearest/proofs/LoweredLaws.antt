@@ -1,16 +1,14 @@
 -- Laws of distances that are lowered by the overflow entries of a map.
 --   lowered_to-inline, -full, -entry    a slot that is inline stays; one in overflow gets the smaller distance
 --   lowered-entry, lowered-entries     one entry on, and all of them
---   entries-turn     one frame's turn
 -- Axioms: none.
-use Rattle.std.proofs.Common.{◌≡◌, ℕ, zero, suc, ◌+◌, ◌<◌, ◌≤◌, min, List, length, set, sym, ap, ◌∙◌, ap₂, add-one, arith, eq-eqb, ne_eqb}
+use Rattle.std.proofs.Common.{◌≡◌, ℕ, zero, suc, ◌+◌, ◌<◌, ◌≤◌, min, List, length, set, sym, ap, ◌∙◌, add-one, arith, eq-eqb, ne_eqb}
 use Rattle.pciv_format.specs.Layout.{at}
 use Rattle.pciv_format.specs.Parts.{Parts, lowest_slot, value_of, SoundParts}
-use Rattle.pciv_format.specs.Check.{k_field, file_parts}
 use Rattle.pciv_format.proofs.PartsLaws.{entry-good, value_of-slot}
 use Rattle.pciv_format.proofs.EntryLaws.{gap-inline}
-use Rattle.pciv_bundle_nearest.specs.Passes.{lowered_to, entry_step, Changed}
-use Rattle.pciv_bundle_nearest.proofs.ChangedLaws.{changed-more, changed-to, changed-cong}
+use Rattle.pciv_bundle_nearest.specs.Passes.{lowered_to, Changed}
+use Rattle.pciv_bundle_nearest.proofs.ChangedLaws.{changed-more, changed-to}
 
 module _ (P : Parts) (i x : ℕ) where
   pub lowered_to-inline : P.byte i < 255 → lowered_to P i x ≡ x
@@ -51,11 +49,3 @@ module _ (P : Parts) (sound : SoundParts P) (bytes : (i : ℕ) → P.byte i < 25
       lowest-le : (j : ℕ) → j ≤ P.k → lowest_slot P j ≤ P.n
       lowest-le zero h = omega arith
       lowest-le (suc j) h = omega (arith, (entry-good P sound j (omega arith)).inside)
-
--- one frame's turn, b as the code has it
-module _ (b frame : List ℕ) (is : b ≡ frame) {old new : List ℕ} where
-  pub entries-turn : (n k : ℕ) → k ≡ k_field b → Changed (lowered_to (file_parts b n k)) n old new
-      → Changed (λ (i x : ℕ). entry_step n i x frame) n old new
-  entries-turn n k count c =
-      changed-cong c (λ (i x : ℕ). entry_step n i x frame)
-      (λ i x h. ap₂ (λ (l : List ℕ) (t : ℕ). lowered_to (file_parts l n t) i x) is (count ∙ ap k_field is))

@@ -1,13 +1,14 @@
 -- Laws of the nearest of several distances.
---   nearer-left, -right, -both, -cases    of two distances: the first is 0, the second is, neither; what is known of it
+--   nearer-left, -right    of two distances: the first is 0, the second is
 --   nearer-assoc     of three distances
 --   nearest-hole     it is 0 exactly where all of them are 0
 --   nearest-least    else it is one of them, and none of them is smaller but 0
 --   hole-case, least-case    both at small lists, computed
 --   length-nearest_list    that of every slot, as a list
 -- Axioms: none.
-use Rattle.std.proofs.Common.{◌≡◌, ℕ, zero, suc, ◌<◌, ◌≤◌, min, List, [], ◌∷◌, length, sym, refl, ap, ◌∙◌, arith, eq-eqb, ne_eqb}
+use Rattle.std.proofs.Common.{◌≡◌, ℕ, zero, suc, ◌<◌, ◌≤◌, min, List, [], ◌∷◌, length, sym, refl, ◌∙◌, arith}
 use native.Mathlib.Decide.{dec_le}
+use Rattle.std.proofs.lemmas.Bool.Decides.{nat_tests}
 use Rattle.pciv_bytes.proofs.RangesLaws.{length-table}
 use Rattle.pciv_format.specs.Layout.{at}
 use Rattle.pciv_bundle_nearest.specs.Nearest.{nearer, nearest_of, nearest_at, nearest_list}
@@ -15,40 +16,25 @@ use Rattle.pciv_bundle_nearest.specs.Nearest.{nearer, nearest_of, nearest_at, ne
 -- ---- of two, and of three
 
 pub nearer-left : (x y : ℕ) → x ≡ 0 → nearer x y ≡ y
-nearer-left x y e = rw (eq-eqb x 0 e)
+nearer-left x y e = grind (arith, nat_tests)
 
 pub nearer-right : (x : ℕ) → nearer x 0 ≡ x
-nearer-right x =
-    elim (dec_le x 0) [
-      | yes d ↦ nearer-left x 0 (omega arith) ∙ omega arith
-      | no d ↦ rw (ne_eqb x 0 (λ q. omega arith))
-    ]
-
-pub nearer-both : (x y : ℕ) → 0 < x → 0 < y → nearer x y ≡ min x y
-nearer-both x y h₁ h₂ = rw (ne_eqb x 0 (λ q. omega arith), ne_eqb y 0 (λ q. omega arith))
+nearer-right x = grind (arith, nat_tests)
 
 -- what is known of the nearer: by which of the two are 0
-pub nearer-cases : {B : Type 0} (x y : ℕ) → (x ≡ 0 → nearer x y ≡ y → B) → (y ≡ 0 → nearer x y ≡ x → B)
+nearer-cases : {B : Type 0} (x y : ℕ) → (x ≡ 0 → nearer x y ≡ y → B) → (y ≡ 0 → nearer x y ≡ x → B)
     → (0 < x → 0 < y → nearer x y ≡ min x y → B) → B
 nearer-cases x y first second both =
     elim (dec_le x 0) [
-      | yes d ↦ first (omega arith) (nearer-left x y (omega arith))
+      | yes d ↦ first (omega arith) (grind (arith, nat_tests))
       | no d ↦ elim (dec_le y 0) [
-        | yes e ↦ (let z : y ≡ 0 = omega arith in second z (ap (nearer x) z ∙ nearer-right x))
-        | no e ↦ both (omega arith) (omega arith) (nearer-both x y (omega arith) (omega arith))
+        | yes e ↦ second (omega arith) (grind (arith, nat_tests))
+        | no e ↦ both (omega arith) (omega arith) (grind (arith, nat_tests))
       ]
     ]
 
 pub nearer-assoc : (x y z : ℕ) → nearer (nearer x y) z ≡ nearer x (nearer y z)
-nearer-assoc x y z =
-    nearer-cases x y (λ h e. rw e (sym (nearer-left x (nearer y z) h)))
-    (λ h e. rw e (ap (nearer x) (sym (nearer-left y z h))))
-    (λ h₁ h₂ e.
-    nearer-cases y z (λ h q. absurd (omega arith))
-    (λ h q. rw q (ap (nearer (nearer x y)) h ∙ nearer-right (nearer x y)))
-    (λ h₃ h₄ q.
-    rw (e, q)
-    (nearer-both (min x y) z (omega arith) h₄ ∙ omega arith ∙ sym (nearer-both x (min y z) h₁ (omega arith)))))
+nearer-assoc x y z = grind (arith, nat_tests)
 
 -- ---- of a list
 
@@ -56,8 +42,7 @@ not-zero : (x : ℕ) → (x ≡ 0 → ⊥) → 0 < x
 not-zero x some = omega arith
 
 nearer-zero : (x y : ℕ) → nearer x y ≡ 0 → (x ≡ 0) × (y ≡ 0)
-nearer-zero x y z =
-    nearer-cases x y (λ h e. (h, omega arith)) (λ h e. (omega arith, h)) (λ h₁ h₂ e. absurd (omega arith))
+nearer-zero x y z = (grind (arith, nat_tests), grind (arith, nat_tests))
 
 hole-all : (xs : List ℕ) → nearest_of xs ≡ 0 → (f : ℕ) → at xs f ≡ 0
 unfolding nearest_of
@@ -93,12 +78,9 @@ one_of (x ∷ xs) h =
 none-nearer : (xs : List ℕ) (f : ℕ) → 0 < at xs f → nearest_of xs ≤ at xs f
 unfolding nearest_of
 none-nearer [] f h = omega arith
-none-nearer (x ∷ xs) zero h =
-    nearer-cases x (nearest_of xs) (λ z e. absurd (omega arith)) (λ z e. omega arith) (λ h₁ h₂ e. omega arith)
+none-nearer (x ∷ xs) zero h = grind (arith, nat_tests)
 none-nearer (x ∷ xs) (suc f) h =
-    let low = none-nearer xs f h in
-    nearer-cases x (nearest_of xs) (λ z e. omega arith) (λ z e. absurd (omega (arith, hole-all xs z f)))
-    (λ h₁ h₂ e. omega arith)
+    let low = none-nearer xs f h in let hole : nearest_of xs ≡ 0 → at xs f ≡ 0 = (λ z. hole-all xs z f) in grind (arith, nat_tests)
 
 -- else the distance of one frame, and no frame has a smaller one but 0
 pub nearest-least : (xs : List ℕ) → (nearest_of xs ≡ 0 → ⊥)

@@ -3,6 +3,7 @@
 -- Axioms: none.
 use Rattle.std.proofs.Common.{◌≡◌, ℕ, suc, ◌+◌, ◌<◌, ◌≤◌, min, List, [], ◌∷◌, length, sym, refl, ap, ◌∙◌, arith, ext_get_or}
 use native.Mathlib.Decide.{dec_le}
+use Rattle.std.proofs.lemmas.Bool.Decides.{nat_tests}
 use mathlib.Core.List.{foldl}
 use lib.Seq.{sets, length-sets}
 use Rattle.pciv_bytes.specs.LittleEndian.{Bytes}
@@ -18,8 +19,7 @@ use Rattle.pciv_format.proofs.ReadLaws.{at-list}
 use Rattle.pciv_bundle_frames.specs.Frames.{CheckedFrames}
 use Rattle.pciv_bundle_nearest.specs.Nearest.{nearer, nearest_of, distances_at, nearest_at, nearest_list}
 use Rattle.pciv_bundle_nearest.specs.Passes.{raised_byte, nearest_byte, entry_step, Changed}
-use Rattle.pciv_bundle_nearest.proofs.NearestLaws.{nearer-left, nearer-right, nearer-both}
-use Rattle.pciv_bundle_nearest.proofs.NearestLaws.{nearer-cases, nearer-assoc}
+use Rattle.pciv_bundle_nearest.proofs.NearestLaws.{nearer-left, nearer-assoc}
 use Rattle.pciv_bundle_nearest.proofs.BlockLaws.{raised_byte-hole, capped, capped-full, capped-inline}
 use Rattle.pciv_bundle_nearest.proofs.BlockLaws.{AllBytes, caps, bytes-nearest}
 use Rattle.pciv_bundle_nearest.proofs.LoweredLaws.{lowered_to-inline, lowered_to-full}
@@ -27,20 +27,9 @@ use Rattle.pciv_bundle_nearest.proofs.LoweredLaws.{lowered_to-inline, lowered_to
 -- ---- one slot
 
 -- the largest distance gives way to the true one
-less-cap : (v rest : ℕ) → 0 < v → v ≤ max_distance → min (nearer max_distance rest) v ≡ nearer v rest
-less-cap v rest some small =
-    nearer-cases max_distance rest (λ z e. absurd (omega arith))
-    (λ z e. ap (λ (t : ℕ). min t v) e ∙ omega arith ∙ sym (ap (nearer v) z ∙ nearer-right v))
-    (λ h₁ h₂ e. ap (λ (t : ℕ). min t v) e ∙ omega arith ∙ sym (nearer-both v rest some h₂))
-
-less-nearer : (y c v : ℕ) → 0 < c → 0 < v → min (nearer y c) v ≡ nearer y (min c v)
-less-nearer y c v some h =
-    nearer-cases y c (λ z e. ap (λ (t : ℕ). min t v) e ∙ sym (nearer-left y (min c v) z)) (λ z e. absurd (omega arith))
-    (λ h₁ h₂ e. ap (λ (t : ℕ). min t v) e ∙ omega arith ∙ sym (nearer-both y (min c v) h₁ (omega arith)))
-
-cap-some : (rest : ℕ) → 0 < nearer max_distance rest
-cap-some rest =
-    nearer-cases max_distance rest (λ z e. absurd (omega arith)) (λ z e. omega arith) (λ h₁ h₂ e. omega arith)
+less-cap : (y v rest : ℕ) → 0 < v → v ≤ max_distance
+    → min (nearer y (nearer max_distance rest)) v ≡ nearer y (nearer v rest)
+less-cap y v rest some small = grind (arith, nat_tests)
 
 -- the entry of a frame puts its true distance for the one that its byte stands for
 module _ (b : List ℕ) (n i y rest : ℕ) (c : CheckedMap b n (k_field b)) (bytes : Bytes b) (inside : i < n) where
@@ -59,8 +48,7 @@ module _ (b : List ℕ) (n i y rest : ℕ) (c : CheckedMap b n (k_field b)) (byt
       (λ j hj at' full w overflows.
       lowered_to-full P i _ full
       ∙ ap (λ (t : ℕ). min (nearer y (nearer t rest)) v) (capped-full x full)
-      ∙ less-nearer y (nearer max_distance rest) v (cap-some rest) (omega arith)
-      ∙ ap (nearer y) (less-cap v rest (omega arith) (omega (arith, value-lt b n (k_field b) c bytes i inside)))
+      ∙ less-cap y v rest (omega arith) (omega (arith, value-lt b n (k_field b) c bytes i inside))
       ∙ sym (nearer-assoc y v rest)
       ∙ ap (λ (t : ℕ). nearer (nearer y t) rest) (sym is))
 

@@ -14,10 +14,16 @@ ghost use Rattle.pciv_bundle_nearest.specs.Nearest.{nearest_list};
 
 use crate::blocks::nearest_bytes;
 use crate::entries::lower_all;
-use pciv_bundle_records::Places;
+use pciv_bundle_records::{MAX_FRAMES, Span};
 
 // The nearest distance of each of n slots, to the front of the caller's list.
-pub fn nearest_into(bundle: &[u8], places: Places, count: usize, n: usize, out: &mut [u32])
+pub fn nearest_into(
+    bundle: &[u8],
+    places: [Span; MAX_FRAMES],
+    count: usize,
+    n: usize,
+    out: &mut [u32],
+)
     requires count_bound { (count ≤ 8) × (count ≡ length (frames bundle.now)) × (n ≤ length out.old) }
     requires placed_frames { PlacedFrames bundle.now places × CheckedFrames (frames bundle.now) n }
     ensures { out.new ≡ sets out.old 0 (nearest_list (frames bundle.now) n) }

@@ -13,6 +13,7 @@
 --   rest-fit, rest-frames, rest-outcome    of a header and records that may stand behind it: they fit, their frames, and no refusal
 --   bundle_of-slot_count, -frames, -sound    of the bundle of frames: its slot count, its frames; no refusal
 -- Axioms: none.
+use Rattle.std.proofs.Common.{Ok}
 use mathlib.Core.Path.{◌≡◌, refl, sym, ap, ap₂, subst, ◌∙◌}
 use Prim.Native.Nat.{ℕ, zero, suc, ◌+◌, ◌-◌, ◌≤◌, ◌<◌}
 use native.Mathlib.Omega.{arith}
@@ -25,7 +26,6 @@ use borrow.Author.Tests.{ne_eqb}
 use Rattle.pciv_bytes.specs.LittleEndian.{le, get}
 use Rattle.pciv_bytes.proofs.RangesLaws.{get_or-map_inside}
 use Rattle.pciv_bytes.proofs.LittleEndianLaws.{length-le, get_at}
-use Rattle.pciv_format.specs.Refusals.{done}
 use Rattle.pciv_bundle_records.specs.Records.{record_at, record_len, record_kind, record_payload, record_count}
 use Rattle.pciv_bundle_records.specs.Records.{slot_count, frame_count, is_frame, frames_before, frames, bad_header}
 use Rattle.pciv_bundle_records.specs.Records.{bad_record, records_outcome, Record, record_of, record_bytes}
@@ -312,13 +312,13 @@ module _ (n c : ℕ) (rest : List Record) (sound : SoundRest c rest) where
       })
 
   pub rest-outcome : n < 4294967296
-      → records_outcome (records_bytes (header_of n c ∷ rest)) ≡ done (record { slots = n; frames = c })
+      → records_outcome (records_bytes (header_of n c ∷ rest)) ≡ Ok (record { slots = n; frames = c })
   rest-outcome few =
       let found = records-before rs rest-fit (length rs) (omega arith) in
       let whole = ap (λ (l : List Record). length (frames_in l)) (take-length rs) in
       records-done b (length rs) clear (records-end rs rest-fit) (omega arith)
       (omega (arith, found, whole, frames_in-all, count))
-      ∙ ap₂ (λ (x y : ℕ). done (record { slots = x; frames = y })) (records-slot_count n c rest few) count
+      ∙ ap₂ (λ (x y : ℕ). Ok (record { slots = x; frames = y })) (records-slot_count n c rest few) count
 
 -- ---- the bundle of frames
 
@@ -350,7 +350,7 @@ module _ (n : ℕ) (fs : List (List ℕ))
       ∙ frames_in-of fs
 
   pub bundle_of-sound : 1 ≤ length fs → length fs ≤ 8 → n < 4294967296
-      → records_outcome (bundle_of n fs) ≡ done (record { slots = n; frames = length fs })
+      → records_outcome (bundle_of n fs) ≡ Ok (record { slots = n; frames = length fs })
   unfolding bundle_of bundle_records
   bundle_of-sound some few =
       rest-outcome n (length fs) (map (record_of 1) fs)

@@ -7,6 +7,7 @@
 --   records-list, whole-list   the records of b are its header and the others, and so are the bytes
 --   frames-list, sound-list    the frames are those of the others, which are such records
 -- Axioms: none.
+use Rattle.std.proofs.Common.{Ok}
 use mathlib.Core.Path.{◌≡◌, refl, sym, ap, ap₂, ◌∙◌}
 use Prim.Native.Nat.{ℕ, zero, suc, ◌+◌, ◌-◌, ◌≤◌, ◌<◌}
 use native.Mathlib.Nat.{zero-add, le_refl}
@@ -19,7 +20,6 @@ use Rattle.pciv_bytes.specs.Ranges.{table}
 use Rattle.pciv_bytes.specs.LittleEndian.{le, get, Bytes}
 use Rattle.pciv_bytes.proofs.RangesLaws.{length-table, get_or-table, table-append}
 use Rattle.pciv_bytes.proofs.LittleEndianLaws.{le-get, get-lt}
-use Rattle.pciv_format.specs.Refusals.{done}
 use Rattle.pciv_bundle_records.specs.Records.{record_at, record_len, record_kind, record_payload, record_count}
 use Rattle.pciv_bundle_records.specs.Records.{slot_count, frame_count, frames, records_outcome}
 use Rattle.pciv_bundle_records.specs.Records.{Record, record_of, record_bytes, records_bytes}
@@ -60,7 +60,7 @@ parts b at l h =
     ∙ ap (λ (t : List ℕ). take 2 (drop (at + 4) b) ++ take (l - 2) t)
     (drop-drop 2 (at + 4) b ∙ ap (λ (n : ℕ). drop n b) e'))
 
-module _ (b : List ℕ) (bytes : Bytes b) (c : BundleCounts) (accepted : records_outcome b ≡ done c) where
+module _ (b : List ℕ) (bytes : Bytes b) (c : BundleCounts) (accepted : records_outcome b ≡ Ok c) where
   sound : Accepted b
   sound = done-accepted b c accepted
 

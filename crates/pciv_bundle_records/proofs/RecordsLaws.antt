@@ -7,43 +7,41 @@
 --   frames_to-zero, -frame, -other    none, and those below the next record, where record r is a frame or is not
 --   frames_before-frame, -other    the same of their number
 --   Header b, header-right, right-header    what a record 0 that is not at fault says, and only such a one
---   bad_kind, bad-len, bad-none, header-count    each test of record 0
 --   header-end, header-frames    where it ends; no frame stands below record 1
 --   Later b at found count, wrong-right    what a later record that is not at fault says
---   wrong-prefix, -cut, -short, -kind, -other, -frame    each test of a later record
 --   Right b r, bad_record-right, right-bad_record    the same of any record
 --   bad_record-first, first-right, bad_record-later    whether record 0 is at fault, and whether a later one is
 --   records-header, -refused, -missing, -done    the outcomes
 --   frames-few                no more frames than record 0 says
 --   Accepted b, done-counts, done-accepted    what a done outcome says
---   bundle_answer-counted, -refused    the outcome of an answer
 -- Axioms: none.
+use Rattle.std.proofs.Common.{Ok}
+use Rattle.pciv_format.specs.declared.RefusalKind.TheVariants.{BadBundle}
 use mathlib.Core.Path.{◌≡◌, refl, sym, ap, ◌∙◌}
 use Prim.Native.Nat.{ℕ, zero, suc, ◌+◌, ◌*◌, ◌-◌, ◌≤◌, ◌<◌}
 use native.Mathlib.Nat.{zero-add}
 use native.Mathlib.Omega.{arith}
 use native.Mathlib.Decide.{dec_le}
 use native.Mathlib.Numerals.{add-one}
-use mathlib.Core.Bool.{Bool, true, false, not, cond, ◌||◌, ◌&&◌}
+use mathlib.Core.Bool.{Bool, true, false, cond, ◌||◌}
 use mathlib.Core.List.{List, [], ◌∷◌, ◌++◌, map, map-append, append-nil}
 use lib.ListN.{length, get_or, drop, length-append, length-map}
 use lib.Dec.{ltb, leb, eqb}
-use borrow.Author.Tests.{lt-ltb, le-ltb, le-leb, lt-leb, eq-eqb, ne_eqb}
-use borrow.Author.Tests.{ltb-false, leb-false, leb-true, eqb-true, eqb-false, not-false}
+use borrow.Author.Tests.{lt-ltb, le-ltb, le-leb, lt-leb, ne_eqb}
+use borrow.Author.Tests.{ltb-false, leb-true, eqb-false}
+use Rattle.std.proofs.lemmas.Bool.Decides.{nat_tests}
 use Rattle.pciv_bytes.specs.Ranges.{first_below, positions, keep_if}
 use Rattle.pciv_bytes.specs.LittleEndian.{get, Bytes}
 use Rattle.pciv_bytes.proofs.RangesLaws.{true-false, get_or-map_inside, first_below-at, first_below-none, first_below-has}
 use Rattle.pciv_bytes.proofs.LittleEndianLaws.{bytes_drop, bytes_take}
 use Rattle.pciv_bytes.proofs.PositionsLaws.{positions-append, rises}
-use Rattle.pciv_format.specs.Refusals.{Outcome, done, refused, refuse, refuse_if}
-use Rattle.pciv_format.specs.declared.Refusal.{Refusal}
+use Rattle.pciv_format.specs.Refusals.{Outcome, refuse, refuse_if}
 use Rattle.pciv_format.proofs.RefusalsLaws.{refuse_if-done, refuse_first-done, refuse_first-none, refuse_first-some}
 use Rattle.pciv_format.proofs.PartsLaws.{or-false, or-true}
 use Rattle.pciv_bundle_records.specs.Records.{behind_record, record_at, record_len, record_kind, record_payload, record_count}
 use Rattle.pciv_bundle_records.specs.Records.{frame_count, is_frame, frames_before, frames, bad_header, bad_record}
-use Rattle.pciv_bundle_records.specs.Records.{wrong_record, counts_in, records_outcome, bundle_answer}
+use Rattle.pciv_bundle_records.specs.Records.{wrong_record, counts_in, records_outcome}
 use Rattle.pciv_bundle_records.specs.declared.BundleCounts.{BundleCounts}
-use Rattle.pciv_bundle_records.specs.declared.BundleAnswer.TheVariants as InBundle
 
 -- ---- where records start
 
@@ -174,41 +172,19 @@ pub record Header (b : List ℕ) : Type 0 where
   pub few : frame_count b ≤ 8
 
 module _ (b : List ℕ) where
-  -- each test
-  pub bad_kind : (get 2 b 4 ≡ 0 → ⊥) → bad_header b ≡ true
-  unfolding bad_header record_kind record_at
-  bad_kind other = rw (ne_eqb (get 2 b 4) 0 other)
-
-  pub bad-len : (get 4 b 0 ≡ 8 → ⊥) → bad_header b ≡ true
-  unfolding bad_header record_len record_at
-  bad-len other = rw (ne_eqb (get 4 b 0) 8 other, or-true (not (eqb (record_kind b 0) 0)))
-
-  pub bad-none : frame_count b < 1 → bad_header b ≡ true
-  unfolding bad_header
-  bad-none none =
-      rw (lt-ltb (frame_count b) 1 none, or-true (not (eqb (record_kind b 0) 0) || not (eqb (record_len b 0) 8)))
-
-  pub header-count : get 2 b 4 ≡ 0 → get 4 b 0 ≡ 8 → 1 ≤ frame_count b → bad_header b ≡ ltb 8 (frame_count b)
-  unfolding bad_header record_kind record_len record_at
-  header-count kind len some =
-      rw (eq-eqb (get 2 b 4) 0 kind, eq-eqb (get 4 b 0) 8 len, le-ltb (frame_count b) 1 some)
-
   pub header-right : bad_header b ≡ false → Header b
   unfolding bad_header record_kind record_len record_at
   header-right e =
-      let few = or-false (not (eqb (get 2 b 4) 0) || not (eqb (get 4 b 0) 8) || ltb (frame_count b) 1)
-      (ltb 8 (frame_count b)) e in
-      let some = or-false (not (eqb (get 2 b 4) 0) || not (eqb (get 4 b 0) 8)) (ltb (frame_count b) 1) few.0 in
-      let front = or-false (not (eqb (get 2 b 4) 0)) (not (eqb (get 4 b 0) 8)) some.0 in
       record {
-        kind = eqb-true _ _ (not-false _ front.0);
-        len = eqb-true _ _ (not-false _ front.1);
-        some = ltb-false _ _ some.1;
-        few = ltb-false _ _ few.1;
+        kind = grind (arith, nat_tests);
+        len = grind (arith, nat_tests);
+        some = grind (arith, nat_tests);
+        few = grind (arith, nat_tests);
       }
 
   pub right-header : Header b → bad_header b ≡ false
-  right-header h = header-count h.kind h.len h.some ∙ le-ltb 8 (frame_count b) h.few
+  unfolding bad_header record_kind record_len record_at
+  right-header h = grind (arith, nat_tests)
 
   -- where it ends, and what stands below record 1
   pub header-end : Header b → record_at b 1 ≡ 12
@@ -232,56 +208,14 @@ pub record Later (b : List ℕ) (at found count : ℕ) : Type 0 where
   pub room : get 2 b (at + 4) ≡ 1 → found < count
 
 module _ (b : List ℕ) (at found count : ℕ) where
-  -- each test
-  pub wrong-cut : length b < behind_record b at → wrong_record b at found count ≡ true
-  unfolding wrong_record
-  wrong-cut h = rw (lt-ltb (length b) (behind_record b at) h)
-
-  pub wrong-short : get 4 b at < 2 → wrong_record b at found count ≡ true
-  unfolding wrong_record
-  wrong-short h = rw (lt-ltb (get 4 b at) 2 h, or-true (ltb (length b) (behind_record b at)))
-
-  -- no room for length and kind
-  pub wrong-prefix : length b < at + 6 → wrong_record b at found count ≡ true
-  wrong-prefix h =
-      elim (dec_le 2 (get 4 b at)) [ yes d ↦ wrong-cut (omega arith) | no d ↦ wrong-short (omega arith) ]
-
-  pub wrong-kind : get 2 b (at + 4) ≡ 0 → wrong_record b at found count ≡ true
-  unfolding wrong_record
-  wrong-kind e =
-      rw (eq-eqb (get 2 b (at + 4)) 0 e, or-true (ltb (length b) (behind_record b at) || ltb (get 4 b at) 2))
-
-  module _ (inside : behind_record b at ≤ length b) (long : 2 ≤ get 4 b at) (later : get 2 b (at + 4) ≡ 0 → ⊥) where
-    -- then it is wrong where it is a frame too many
-    wrong-extra : wrong_record b at found count ≡ eqb (get 2 b (at + 4)) 1 && leb count found
-    unfolding wrong_record
-    wrong-extra =
-        rw (
-          le-ltb (length b) (behind_record b at) inside,
-          le-ltb (get 4 b at) 2 long,
-          ne_eqb (get 2 b (at + 4)) 0 later,
-        )
-
-    pub wrong-other : (get 2 b (at + 4) ≡ 1 → ⊥) → wrong_record b at found count ≡ false
-    wrong-other other = wrong-extra ∙ rw (ne_eqb (get 2 b (at + 4)) 1 other)
-
-    pub wrong-frame : get 2 b (at + 4) ≡ 1 → wrong_record b at found count ≡ leb count found
-    wrong-frame e = wrong-extra ∙ rw (eq-eqb (get 2 b (at + 4)) 1 e)
-
   pub wrong-right : wrong_record b at found count ≡ false → Later b at found count
   unfolding wrong_record
   wrong-right e =
-      let cut : Bool = ltb (length b) (behind_record b at) in
-      let short : Bool = ltb (get 4 b at) 2 in
-      let again : Bool = eqb (get 2 b (at + 4)) 0 in
-      let room = or-false (cut || short || again) (eqb (get 2 b (at + 4)) 1 && leb count found) e in
-      let later = or-false (cut || short) again room.0 in
-      let front = or-false cut short later.0 in
       record {
-        inside = ltb-false _ _ front.0;
-        long = ltb-false _ _ front.1;
-        kind = eqb-false _ _ later.1;
-        room = λ q. leb-false count found (rw (eq-eqb (get 2 b (at + 4)) 1 q) at room.1);
+        inside = grind (arith, nat_tests);
+        long = grind (arith, nat_tests);
+        kind = grind (arith, nat_tests);
+        room = grind (arith, nat_tests);
       }
 
 -- ---- any record
@@ -297,28 +231,16 @@ module _ (b : List ℕ) (r : ℕ) where
   pub bad_record-right : bad_record b r ≡ false → Right b r
   unfolding bad_record
   bad_record-right e =
-      let cut : Bool = ltb (length b) (record_at b (suc r)) in
-      let short : Bool = ltb (record_len b r) 2 in
-      let first : Bool = cond (eqb r 0) (bad_header b) (eqb (record_kind b r) 0) in
-      let room = or-false (cut || short || first) (is_frame b r && leb (frame_count b) (frames_before b r)) e in
-      let kind = or-false (cut || short) first room.0 in
-      let front = or-false cut short kind.0 in
       record {
-        inside = ltb-false _ _ front.0;
-        long = ltb-false _ _ front.1;
-        kind = kind.1;
-        room = λ q. leb-false (frame_count b) (frames_before b r) (rw q at room.1);
+        inside = grind (arith, nat_tests);
+        long = grind (arith, nat_tests);
+        kind = grind (arith, nat_tests);
+        room = grind (arith, nat_tests);
       }
 
   pub right-bad_record : Right b r → bad_record b r ≡ false
   unfolding bad_record
-  right-bad_record s =
-      rw (le-ltb (length b) (record_at b (suc r)) s.inside, le-ltb (record_len b r) 2 s.long, s.kind)
-      (go (is_frame b r) refl)
-    where
-      go : (t : Bool) → is_frame b r ≡ t → t && leb (frame_count b) (frames_before b r) ≡ false
-      go true q = lt-leb (frame_count b) (frames_before b r) (s.room q)
-      go false q = refl
+  right-bad_record s = grind (arith, nat_tests)
 
 -- ---- the outcomes
 
@@ -354,35 +276,35 @@ module _ (b : List ℕ) where
 
   module _ (r : ℕ) (clear : (j : ℕ) → j < r → bad_record b j ≡ false) where
     -- record r is at fault, the least one
-    pub records-refused : record_at b r < length b → bad_record b r ≡ true → records_outcome b ≡ refuse 14 0 r
+    pub records-refused : record_at b r < length b → bad_record b r ≡ true → records_outcome b ≡ refuse BadBundle 0 r
     unfolding records_outcome
     records-refused inside bad =
         let past : r < record_count b = record_count-past b r inside in
-        refuse_first-some 14 0 (bad_record b) (record_count b) r _
+        refuse_first-some BadBundle 0 (bad_record b) (record_count b) r _
         (sym (first_below-at (bad_record b) (record_count b) r past clear bad)) past
 
     module _ (end : record_at b r ≡ length b) (some : 1 ≤ r) where
-      none-bad : records_outcome b ≡ refuse_if (ltb (frames_before b r) (frame_count b)) (refuse 14 0 r) (done (counts_in b))
+      none-bad : records_outcome b ≡ refuse_if (ltb (frames_before b r) (frame_count b)) (refuse BadBundle 0 r) (Ok (counts_in b))
       unfolding records_outcome
       none-bad =
           rw (record_count-end b r end)
-          (refuse_first-none 14 0 (bad_record b) r _ clear ∙ rw (ne_eqb r 0 (λ e. omega arith)))
+          (refuse_first-none BadBundle 0 (bad_record b) r _ clear ∙ rw (ne_eqb r 0 (λ e. omega arith)))
 
       -- frames are missing
-      pub records-missing : frames_before b r < frame_count b → records_outcome b ≡ refuse 14 0 r
+      pub records-missing : frames_before b r < frame_count b → records_outcome b ≡ refuse BadBundle 0 r
       records-missing few = none-bad ∙ rw (lt-ltb (frames_before b r) (frame_count b) few)
 
-      pub records-done : frame_count b ≤ frames_before b r → records_outcome b ≡ done (counts_in b)
+      pub records-done : frame_count b ≤ frames_before b r → records_outcome b ≡ Ok (counts_in b)
       records-done all = none-bad ∙ rw (le-ltb (frames_before b r) (frame_count b) all)
 
   -- no bytes at all
-  none : length b ≡ 0 → records_outcome b ≡ refuse 14 0 0
+  none : length b ≡ 0 → records_outcome b ≡ refuse BadBundle 0 0
   unfolding records_outcome
   none e = rw (record_count-end b 0 (record_at-first b ∙ sym e))
-      (refuse_first-none 14 0 (bad_record b) 0 _ (λ j h. absurd (omega arith)))
+      (refuse_first-none BadBundle 0 (bad_record b) 0 _ (λ j h. absurd (omega arith)))
 
   -- record 0 is at fault, or there is none
-  pub records-header : ltb (length b) 12 || bad_header b ≡ true → records_outcome b ≡ refuse 14 0 0
+  pub records-header : ltb (length b) 12 || bad_header b ≡ true → records_outcome b ≡ refuse BadBundle 0 0
   records-header e =
       elim (dec_le (length b) 0) [
         | yes d ↦ none (omega arith)
@@ -415,14 +337,14 @@ pub record Accepted (b : List ℕ) : Type 0 where
   pub header : Header b
   pub counted : length (frames b) ≡ frame_count b
 
-module _ (b : List ℕ) (c : BundleCounts) (accepted : records_outcome b ≡ done c) where
+module _ (b : List ℕ) (c : BundleCounts) (accepted : records_outcome b ≡ Ok c) where
   -- no record is at fault, and neither records nor frames are missing
   passed : ((j : ℕ) → j < record_count b → bad_record b j ≡ false)
       × (eqb (record_count b) 0 || ltb (frames_before b (record_count b)) (frame_count b) ≡ false)
-      × (◌≡◌ {A = Outcome BundleCounts} (done (counts_in b)) (done c))
+      × (◌≡◌ {A = Outcome BundleCounts} (Ok (counts_in b)) (Ok c))
   unfolding records_outcome
   passed =
-      let p = refuse_first-done 14 0 (bad_record b) (record_count b) _ c accepted in
+      let p = refuse_first-done BadBundle 0 (bad_record b) (record_count b) _ c accepted in
       let q = refuse_if-done (eqb (record_count b) 0 || ltb (frames_before b (record_count b)) (frame_count b)) _ _ c p.1 in
       (p.0, q.0, q.1)
 
@@ -447,13 +369,3 @@ module _ (b : List ℕ) (c : BundleCounts) (accepted : records_outcome b ≡ don
           ltb-false (frames_before b k) (frame_count b) full.1,
         );
       }
-
--- ---- answers
-
-pub bundle_answer-counted : (o : Outcome BundleCounts) (c : BundleCounts) → InBundle.Counted c ≡ bundle_answer o → o ≡ done c
-bundle_answer-counted (done x) c e = cc
-bundle_answer-counted (refused r) c e = cc
-
-pub bundle_answer-refused : (o : Outcome BundleCounts) (r : Refusal) → InBundle.Refused r ≡ bundle_answer o → o ≡ refused r
-bundle_answer-refused (done x) r e = cc
-bundle_answer-refused (refused x) r e = cc

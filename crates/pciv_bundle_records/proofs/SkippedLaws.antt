@@ -1,6 +1,7 @@
 -- A record that is neither header nor frame, put in among the records of bytes that pass refusal 14.
 --   skipped-frames, -outcome, -slots    frames, outcome and slot count stay
 -- Axioms: none.
+use Rattle.std.proofs.Common.{Ok}
 use mathlib.Core.Path.{◌≡◌, refl, sym, ap, ap₂, ◌∙◌}
 use Prim.Native.Nat.{ℕ, zero, suc, ◌-◌, ◌≤◌, ◌<◌}
 use native.Mathlib.Omega.{arith}
@@ -10,7 +11,6 @@ use lib.Seq.{take_at}
 use borrow.Author.Tests.{ne_eqb}
 use Rattle.pciv_bytes.specs.LittleEndian.{Bytes}
 use Rattle.pciv_bytes.proofs.LittleEndianLaws.{get-lt}
-use Rattle.pciv_format.specs.Refusals.{done}
 use Rattle.pciv_bundle_records.specs.Records.{record_at, record_count, slot_count, frame_count, frames, counts_in}
 use Rattle.pciv_bundle_records.specs.Records.{records_outcome, Record, record_bytes, records_bytes}
 use Rattle.pciv_bundle_records.specs.Records.{header_of}
@@ -80,7 +80,7 @@ module _ (rs : List Record) (fit : AllFit rs) (r : ℕ) (h : r ≤ length rs) wh
 
 -- ---- of accepted bytes
 
-module _ (b : List ℕ) (bytes : Bytes b) (c : BundleCounts) (accepted : records_outcome b ≡ done c)
+module _ (b : List ℕ) (bytes : Bytes b) (c : BundleCounts) (accepted : records_outcome b ≡ Ok c)
     (r : ℕ) (low : 1 ≤ r) (high : r ≤ record_count b) (x : Record) (fits : FitsRecord x) (other : 2 ≤ x.kind) where
   abbrev old : List Record
   old = drop 1 (records_of b)
@@ -110,13 +110,13 @@ module _ (b : List ℕ) (bytes : Bytes b) (c : BundleCounts) (accepted : records
       ∙ frames_in-with old (r - 1) x (λ e. omega arith)
       ∙ sym (frames-list b bytes c accepted)
 
-  new-outcome : records_outcome (with_record b r x) ≡ done (counts_in b)
+  new-outcome : records_outcome (with_record b r x) ≡ Ok (counts_in b)
   new-outcome =
       ap records_outcome inserted
       ∙ rest-outcome (slot_count b) (frame_count b) (with old (r - 1) x) new-sound (get-lt 4 b 6 bytes)
 
   pub skipped-outcome : records_outcome (with_record b r x) ≡ records_outcome b
-  skipped-outcome = new-outcome ∙ ap done (sym (done-counts b c accepted)) ∙ sym accepted
+  skipped-outcome = new-outcome ∙ ap Ok (sym (done-counts b c accepted)) ∙ sym accepted
 
   pub skipped-slots : slot_count (with_record b r x) ≡ slot_count b
   skipped-slots =

@@ -1,14 +1,15 @@
 -- Laws of the walk over the records of a bundle.
---   places_of starts ends      where frames start and end
---   Splitting b starts ends found number at    the walk: record `number` would start at `at`, no record before it is at
+--   place_at start end         a place
+--   Splitting b places found number at    the walk: record `number` would start at `at`, no record before it is at
 --                             fault, `found` of them are frames, and each has its place
 --   splitting-start           behind record 0
 --   splitting-header          what record 0 says
 --   splitting-refused         the next record is at fault
 --   splitting-other, -frame   past a record that is no frame, and past a frame
 --   splitting-missing, -done, -placed    at the end: frames are missing, or all are there, in their places
---   split-refused             what a refusal says
 -- Axioms: none.
+use Rattle.std.proofs.Common.{Ok}
+use Rattle.pciv_format.specs.declared.RefusalKind.TheVariants.{BadBundle}
 use mathlib.Core.Path.{◌≡◌, sym, ap, ◌∙◌}
 use Prim.Native.Nat.{ℕ, suc, ◌+◌, ◌-◌, ◌≤◌, ◌<◌}
 use native.Mathlib.Omega.{arith}
@@ -21,14 +22,12 @@ use lib.Seq.{get_or-set_same, get_or-set_other, get_or_at}
 use lib.Dec.{eqb}
 use borrow.Author.Tests.{eq-eqb, ne_eqb}
 use Rattle.pciv_bytes.specs.LittleEndian.{get}
-use Rattle.pciv_format.specs.Refusals.{done, refuse}
+use Rattle.pciv_format.specs.Refusals.{refuse}
 use Rattle.pciv_bundle_records.specs.Records.{behind_record, record_at, record_len, record_kind, record_payload}
 use Rattle.pciv_bundle_records.specs.Records.{frame_count, is_frame, frames_before, bad_header, bad_record}
-use Rattle.pciv_bundle_records.specs.Records.{wrong_record, counts_in, records_outcome, bundle_answer}
-use Rattle.pciv_bundle_records.specs.Records.{PlacedFrame, PlacedFrames}
-use Rattle.pciv_bundle_records.specs.declared.BundleCounts.{BundleCounts}
-use Rattle.pciv_bundle_records.specs.declared.Places.{Places}
-use Rattle.pciv_bundle_records.specs.declared.Split.{Split}
+use Rattle.pciv_bundle_records.specs.Records.{wrong_record, counts_in, records_outcome}
+use Rattle.pciv_bundle_records.specs.Records.{no_place, PlacedFrame, PlacedFrames}
+use Rattle.pciv_bundle_records.specs.declared.Span.{Span}
 use Rattle.pciv_bundle_records.proofs.RecordsLaws.{record_at-next, record_count-end}
 use Rattle.pciv_bundle_records.proofs.RecordsLaws.{frames_to, length-frames_to, frames-all, frames_to-frame, frames_to-other}
 use Rattle.pciv_bundle_records.proofs.RecordsLaws.{frames_before-frame, frames_before-other, Header, header-right}
@@ -36,27 +35,25 @@ use Rattle.pciv_bundle_records.proofs.RecordsLaws.{header-end, header-frames, La
 use Rattle.pciv_bundle_records.proofs.RecordsLaws.{bad_record-first, first-right, bad_record-later}
 use Rattle.pciv_bundle_records.proofs.RecordsLaws.{records-refused, records-missing, records-done}
 
-abbrev pub places_of : List ℕ → List ℕ → Places
-places_of starts ends = record { starts = starts; ends = ends }
+abbrev pub place_at : ℕ → ℕ → Span
+place_at start end = record { start = start; end = end }
 
-pub record Splitting (b starts ends : List ℕ) (found number at : ℕ) : Type 0 where
-  pub starts-long : length starts ≡ 8
-  pub ends-long : length ends ≡ 8
+pub record Splitting (b : List ℕ) (places : List Span) (found number at : ℕ) : Type 0 where
+  pub eight : length places ≡ 8
   pub past : 1 ≤ number
   pub here : at ≡ record_at b number
   pub inside : at ≤ length b
   pub counted : found ≡ frames_before b number
   pub clear : (j : ℕ) → j < number → bad_record b j ≡ false
-  pub placed : (f : ℕ) → f < found → PlacedFrame b (places_of starts ends) (frames_to b number) f
+  pub placed : (f : ℕ) → f < found → PlacedFrame b places (frames_to b number) f
 
 -- behind record 0
-pub splitting-start : (b starts ends : List ℕ) → length starts ≡ 8 → length ends ≡ 8 → 12 ≤ length b
-    → bad_header b ≡ false → Splitting b starts ends 0 1 12
-splitting-start b starts ends starts-long ends-long long right =
+pub splitting-start : (b : List ℕ) (places : List Span) → length places ≡ 8 → 12 ≤ length b
+    → bad_header b ≡ false → Splitting b places 0 1 12
+splitting-start b places eight long right =
     let h = header-right b right in
     record {
-      starts-long = starts-long;
-      ends-long = ends-long;
+      eight = eight;
       past = omega arith;
       here = sym (header-end b h);
       inside = long;
@@ -65,7 +62,7 @@ splitting-start b starts ends starts-long ends-long long right =
       placed = λ f l. absurd (omega arith);
     }
 
-module _ {b starts ends : List ℕ} {found number at : ℕ} (s : Splitting b starts ends found number at) where
+module _ {b : List ℕ} {places : List Span} {found number at : ℕ} (s : Splitting b places found number at) where
   -- what record 0 says
   pub splitting-header : Header b
   splitting-header = first-right b (s.clear 0 s.past)
@@ -75,7 +72,7 @@ module _ {b starts ends : List ℕ} {found number at : ℕ} (s : Splitting b sta
 
   -- the next record is at fault
   pub splitting-refused : at < length b → wrong_record b at found (frame_count b) ≡ true
-      → records_outcome b ≡ refuse 14 0 number
+      → records_outcome b ≡ refuse BadBundle 0 number
   splitting-refused more wrong =
       records-refused b number s.clear (omega (arith, s.here)) (bad-here ∙ wrong)
 
@@ -103,13 +100,12 @@ module _ {b starts ends : List ℕ} {found number at : ℕ} (s : Splitting b sta
     next-payload = let e : next - (at + 6) ≡ get 4 b at - 2 = omega arith in rw (e, s.here)
 
     -- past a record that is no frame
-    pub splitting-other : (get 2 b (at + 4) ≡ 1 → ⊥) → Splitting b starts ends found (number + 1) next
+    pub splitting-other : (get 2 b (at + 4) ≡ 1 → ⊥) → Splitting b places found (number + 1) next
     splitting-other other =
         let q : is_frame b number ≡ false = next-frame ∙ ne_eqb (get 2 b (at + 4)) 1 other in
         rw (add-one number)
         (record {
-          starts-long = s.starts-long;
-          ends-long = s.ends-long;
+          eight = s.eight;
           past = omega arith;
           here = next-at;
           inside = omega (arith, next-says.inside);
@@ -121,42 +117,38 @@ module _ {b starts ends : List ℕ} {found number at : ℕ} (s : Splitting b sta
     -- past a frame
     module _ (room : found < 8) where
       frame-placed : is_frame b number ≡ true → (f : ℕ) → f < found + 1
-          → PlacedFrame b (places_of (set starts found (at + 6)) (set ends found next)) (frames_to b (suc number)) f
+          → PlacedFrame b (set places found (place_at (at + 6) next)) (frames_to b (suc number)) f
       frame-placed q f h =
           elim (dec_le found f) [
             | yes d ↦ (let e : f ≡ found = omega arith in
-                let e₁ = get_or-set_same starts found (at + 6) 0 (omega (arith, s.starts-long)) in
-                let e₂ = get_or-set_same ends found next 0 (omega (arith, s.ends-long)) in
-                rw e
+                let here = get_or-set_same places found (place_at (at + 6) next) no_place (omega (arith, s.eight)) in
+                rw (e, here, frames_to-frame b number q)
                 (record {
-                  rising = omega (arith, e₁, e₂, next-says.long);
-                  inside = omega (arith, e₂, next-says.inside);
-                  bytes = rw (e₁, e₂, frames_to-frame b number q)
-                      (next-payload
+                  rising = omega (arith, next-says.long);
+                  inside = omega (arith, next-says.inside);
+                  bytes = next-payload
                       ∙ sym (get_or_at (frames_to b number) (record_payload b number) [] [] found
-                      (length-frames_to b number ∙ sym s.counted)));
+                      (length-frames_to b number ∙ sym s.counted));
                 }))
             | no d ↦ (let p = s.placed f (omega arith) in
-                let e₁ = get_or-set_other starts found f (at + 6) 0 (λ e. omega arith) in
-                let e₂ = get_or-set_other ends found f next 0 (λ e. omega arith) in
-                record {
-                  rising = omega (arith, e₁, e₂, p.rising);
-                  inside = omega (arith, e₂, p.inside);
-                  bytes = rw (e₁, e₂, frames_to-frame b number q)
-                      (p.bytes
+                let there = get_or-set_other places found f (place_at (at + 6) next) no_place (λ e. omega arith) in
+                rw (there, frames_to-frame b number q)
+                (record {
+                  rising = p.rising;
+                  inside = p.inside;
+                  bytes = p.bytes
                       ∙ sym (get_or-append (frames_to b number) (record_payload b number ∷ []) [] f
-                      (omega (arith, length-frames_to b number, s.counted))));
-                })
+                      (omega (arith, length-frames_to b number, s.counted)));
+                }))
           ]
 
       pub splitting-frame : get 2 b (at + 4) ≡ 1
-          → Splitting b (set starts found (at + 6)) (set ends found next) (found + 1) (number + 1) next
+          → Splitting b (set places found (place_at (at + 6) next)) (found + 1) (number + 1) next
       splitting-frame kind =
           let q : is_frame b number ≡ true = next-frame ∙ eq-eqb (get 2 b (at + 4)) 1 kind in
           rw (add-one number)
           (record {
-            starts-long = length-set starts found (at + 6) ∙ s.starts-long;
-            ends-long = length-set ends found next ∙ s.ends-long;
+            eight = length-set places found (place_at (at + 6) next) ∙ s.eight;
             past = omega arith;
             here = next-at;
             inside = omega (arith, next-says.inside);
@@ -170,21 +162,13 @@ module _ {b starts ends : List ℕ} {found number at : ℕ} (s : Splitting b sta
     at-end : record_at b number ≡ length b
     at-end = omega (arith, s.here, s.inside)
 
-    pub splitting-missing : found < frame_count b → records_outcome b ≡ refuse 14 0 number
+    pub splitting-missing : found < frame_count b → records_outcome b ≡ refuse BadBundle 0 number
     splitting-missing few = records-missing b number s.clear at-end s.past (omega (arith, s.counted))
 
-    pub splitting-done : frame_count b ≤ found → records_outcome b ≡ done (counts_in b)
+    pub splitting-done : frame_count b ≤ found → records_outcome b ≡ Ok (counts_in b)
     splitting-done all = records-done b number s.clear at-end s.past (omega (arith, s.counted))
 
-    pub splitting-placed : PlacedFrames b (places_of starts ends)
+    pub splitting-placed : PlacedFrames b places
     splitting-placed f h =
         let e = frames-all b number (record_count-end b number at-end) in
         rw e (s.placed f (omega (arith, s.counted, length-frames_to b number, ap length e)))
-
--- what a refusal says: its answer, and no places
-pub split-refused : (b : List ℕ) (s : Split) (place : ℕ) → records_outcome b ≡ refuse 14 0 place
-    → s.answer ≡ bundle_answer (refuse 14 0 place)
-    → (s.answer ≡ bundle_answer (records_outcome b))
-    × ((c : BundleCounts) → records_outcome b ≡ done c → PlacedFrames b s.places)
-split-refused b s place e answer =
-    (answer ∙ ap bundle_answer (sym e), λ c accepted. (let z : ◌≡◌ {A = ℕ} 0 1 = cc in absurd (omega arith)))

@@ -13,21 +13,24 @@
 --   wrong_record b at found count    so is a record that starts at `at` and is not the first, behind `found` frames of `count`
 --   counts_in b            the two counts, as the reader's answer
 --   records_outcome b      refusal 14, else the two counts
---   bundle_answer          an outcome as a value of the answer's type
+--   IsSplit b o result     a walk over the records answers o, and with the counts the places of the frames
 --   Record, record_bytes, records_bytes rs    a record; its bytes; the bytes of records one after another
 --   header_of n c          record 0 of a bundle of c frames with n slots
 --   bundle_records n fs, bundle_of n fs       the records, and the bytes, of the bundle of the frames fs with n slots
---   PlacedFrame b p fs f    frame f of fs, here from 0, stands in b from `starts` to `ends` of the places p
+--   no_place               that of an absent frame
+--   Stands b place frame   the bytes of b at a place are the frame
+--   PlacedFrame b p fs f    frame f of fs, here from 0, stands in b at place f of the places p
 --   PlacedFrames b p      all frames of b do
 -- Laws are in proofs/RecordsLaws.antt and, of the bytes of records, in RecordBytesLaws.antt. Axioms: none.
+use Rattle.std.specs.Prelude.{Ok, Err}
+use Rattle.pciv_format.specs.declared.RefusalKind.TheVariants.{BadBundle}
 use Rattle.std.specs.Prelude.{◌≡◌, ℕ, zero, suc, ◌+◌, ◌-◌, ◌≤◌, ◌<◌, Bool, not, cond, ◌&&◌, ◌||◌, List, [], ◌∷◌, ◌++◌, map, length, get_or, take, drop, ltb, leb, eqb}
 use Rattle.pciv_bytes.specs.Ranges.{first_below, positions}
 use Rattle.pciv_bytes.specs.LittleEndian.{le, get}
-use Rattle.pciv_format.specs.Refusals.{Outcome, done, refused, refuse, refuse_if, refuse_first}
+use Rattle.pciv_format.specs.Refusals.{Outcome, refuse, refuse_if, refuse_first}
 use Rattle.pciv_bundle_records.specs.declared.BundleCounts.{BundleCounts}
-use Rattle.pciv_bundle_records.specs.declared.BundleAnswer.{BundleAnswer}
-use Rattle.pciv_bundle_records.specs.declared.BundleAnswer.TheVariants as InBundle
-use Rattle.pciv_bundle_records.specs.declared.Places.{Places}
+use Rattle.pciv_bundle_records.specs.declared.Span.{Span}
+use Rattle.pciv_bundle_records.specs.declared.Split.{Split}
 
 -- ---- the records
 
@@ -95,13 +98,9 @@ counts_in b = record { slots = slot_count b; frames = frame_count b }
 -- the least record at fault; with none, the number of records where all are missing, or frames are
 unfoldable pub records_outcome : List ℕ → Outcome BundleCounts
 records_outcome b =
-    refuse_first 14 0 (bad_record b) (record_count b)
-    (refuse_if (eqb (record_count b) 0 || ltb (frames_before b (record_count b)) (frame_count b)) (refuse 14 0 (record_count b))
-    (done (counts_in b)))
-
-abbrev pub bundle_answer : Outcome BundleCounts → BundleAnswer
-bundle_answer (done c) = InBundle.Counted c
-bundle_answer (refused r) = InBundle.Refused r
+    refuse_first BadBundle 0 (bad_record b) (record_count b)
+    (refuse_if (eqb (record_count b) 0 || ltb (frames_before b (record_count b)) (frame_count b)) (refuse BadBundle 0 (record_count b))
+    (Ok (counts_in b)))
 
 -- ---- the bytes of records
 
@@ -131,10 +130,21 @@ bundle_of n fs = records_bytes (bundle_records n fs)
 
 -- ---- where the frames stand
 
-pub record PlacedFrame (b : List ℕ) (p : Places) (fs : List (List ℕ)) (f : ℕ) : Type 0 where
-  pub rising : get_or p.starts f 0 ≤ get_or p.ends f 0
-  pub inside : get_or p.ends f 0 ≤ length b
-  pub bytes : take (get_or p.ends f 0 - get_or p.starts f 0) (drop (get_or p.starts f 0) b) ≡ get_or fs f []
+abbrev pub no_place : Span
+no_place = record { start = 0; end = 0 }
 
-abbrev pub PlacedFrames : List ℕ → Places → Type 0
+pub record Stands (b : List ℕ) (place : Span) (frame : List ℕ) : Type 0 where
+  pub rising : place.start ≤ place.end
+  pub inside : place.end ≤ length b
+  pub bytes : take (place.end - place.start) (drop place.start b) ≡ frame
+
+abbrev pub PlacedFrame : List ℕ → List Span → List (List ℕ) → ℕ → Type 0
+PlacedFrame b p fs f = Stands b (get_or p f no_place) (get_or fs f [])
+
+abbrev pub PlacedFrames : List ℕ → List Span → Type 0
 PlacedFrames b p = (f : ℕ) → f < length (frames b) → PlacedFrame b p (frames b) f
+
+-- a walk over the records answers the outcome o, and the places of the frames where it is no refusal
+abbrev pub IsSplit : List ℕ → Outcome BundleCounts → Outcome Split → Type 0
+IsSplit b o (Ok s) = (o ≡ Ok s.counts) × PlacedFrames b s.places
+IsSplit b o (Err r) = o ≡ Err r

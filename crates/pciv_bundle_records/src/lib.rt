@@ -3,13 +3,12 @@
 #![tactic(auto)]
 
 ghost use Rattle.std.specs.Prelude.{◌≡◌, ◌<◌, length, get_or, ◌||◌, [], ltb};
-ghost use Rattle.pciv_format.specs.Refusals.{refuse, done};
-ghost use Rattle.pciv_bundle_records.specs.Records.{bad_header, records_outcome, bundle_answer, frames};
-ghost use Rattle.pciv_bundle_records.specs.Records.{PlacedFrame, PlacedFrames, wrong_record};
-ghost use Rattle.pciv_bundle_records.specs.declared.BundleCounts.{BundleCounts};
+ghost use Rattle.pciv_bundle_records.specs.Records.{bad_header, records_outcome, frames};
+ghost use Rattle.pciv_bundle_records.specs.Records.{PlacedFrame, IsSplit, wrong_record};
 
 use pciv_bytes::little_endian::{get16, get32};
-use pciv_format::{BAD_BUNDLE, Refusal};
+use pciv_format::{Refusal, RefusalKind};
+use pciv_layout::refusals::refuse;
 
 // The most frames that a bundle may have.
 pub const MAX_FRAMES: usize = 8;
@@ -34,35 +33,27 @@ pub struct BundleCounts {
     pub frames: usize,
 }
 
-// The answer of the reader.
+// Where a frame stands in a bundle: from `start` up to `end`.
 #[derive(Clone, Copy)]
-pub enum BundleAnswer {
-    Counted(BundleCounts),
-    Refused(Refusal),
+pub struct Span {
+    pub start: usize,
+    pub end: usize,
 }
 
-// Where each frame starts, and where it ends.
-#[derive(Clone, Copy)]
-pub struct Places {
-    pub starts: [usize; 8],
-    pub ends: [usize; 8],
-}
-
-// What the walk over the records has found; the places are those of the frames where it is no refusal.
+// What the walk over the records of a bundle finds: its counts and the places of its frames.
 #[derive(Clone, Copy)]
 pub struct Split {
-    pub answer: BundleAnswer,
-    pub places: Places,
+    pub counts: BundleCounts,
+    pub places: [Span; MAX_FRAMES],
 }
 
 // The frame with this number, here from 0, as a part of the bundle.
-pub fn frame_at(bundle: &[u8], places: Places, f: usize) -> &[u8]
+pub fn frame_at(bundle: &[u8], places: [Span; MAX_FRAMES], f: usize) -> &[u8]
     requires { (f < 8) × PlacedFrame bundle.now places (frames bundle.now) f }
     ensures { result.now ≡ get_or (frames bundle.now) f [] }
 {
-    let start = places.starts[f];
-    let end = places.ends[f];
-    &bundle[start..end]
+    let place = places[f];
+    &bundle[place.start..place.end]
 }
 
 // Whether record 0 is at fault or missing. A right one has 12 bytes, kind 0, length 8 and a frame count from 1 to 8.
@@ -75,16 +66,7 @@ fn bad_header(bundle: &[u8]) -> bool
     let len = get32(bundle, 0) as usize;
     let kind = get16(bundle, 4);
     let count = get16(bundle, 10);
-    if kind != HEADER_KIND {
-        return true;
-    }
-    if len != HEADER_RECORD_LEN - 4 {
-        return true;
-    }
-    if count < 1 {
-        return true;
-    }
-    MAX_FRAMES < count
+    kind != HEADER_KIND || len != HEADER_RECORD_LEN - 4 || count < 1 || MAX_FRAMES < count
 }
 
 // Whether the record that starts at `at`, behind record 0 and `found` of `count` frames, is at fault.
@@ -98,77 +80,47 @@ fn wrong_record(bundle: &[u8], at: usize, found: usize, count: usize) -> bool
     }
     let len = get32(bundle, at) as usize;
     let kind = get16(bundle, at + 4);
-    if left - 4 < len {
-        return true;
-    }
-    if len < KIND_LEN {
-        return true;
-    }
     let is_header = kind == HEADER_KIND;
-    if is_header {
-        return true;
-    }
-    if kind != FRAME_KIND {
-        return false;
-    }
-    count <= found
+    left - 4 < len || len < KIND_LEN || is_header || (kind == FRAME_KIND && count <= found)
 }
 
-// Refusal 14, with the number of a record, or how many there are.
-fn refuse_split(place: usize) -> Split
-    ensures { result.answer ≡ bundle_answer (refuse 14 0 place) }
-{
-    Split {
-        answer: BundleAnswer::Refused(Refusal {
-            number: BAD_BUNDLE,
-            map: 0,
-            place,
-        }),
-        places: Places {
-            starts: [0; 8],
-            ends: [0; 8],
-        },
-    }
-}
-
-// The counts of a bundle and the places of its frames, which are not checked yet, or why it is none. Refusals: 14.
-pub fn split_records(bundle: &[u8]) -> Split
-    ensures answer { result.answer ≡ bundle_answer (records_outcome bundle.now) }
-    ensures places { (c : BundleCounts) → records_outcome bundle.now ≡ done c
-        → PlacedFrames bundle.now result.places }
+// The counts of a bundle and the places of its frames, which are not checked yet, or why it is none. Refusals: 14, with
+// the number of a record, or how many there are.
+pub fn split_records(bundle: &[u8]) -> Result<Split, Refusal>
+    ensures { IsSplit bundle.now (records_outcome bundle.now) result }
 {
     if bad_header(bundle) {
-        return refuse_split(0);
+        return refuse(RefusalKind::BadBundle, 0, 0);
     }
     let slots = get32(bundle, 6) as usize;
     let count = get16(bundle, 10);
-    let mut starts: [usize; 8] = [0; 8];
-    let mut ends: [usize; 8] = [0; 8];
-    let mut found: usize = 0;
-    let mut number: usize = 1;
-    let mut at: usize = HEADER_RECORD_LEN;
+    let mut places = [Span { start: 0, end: 0 }; MAX_FRAMES];
+    let mut found = 0;
+    let mut number = 1;
+    let mut at = HEADER_RECORD_LEN;
     while at < bundle.len() {
-        let this = number;
-        let start = at;
-        number += 1;
-        if wrong_record(bundle, start, found, count) {
-            return refuse_split(this);
+        if wrong_record(bundle, at, found, count) {
+            return refuse(RefusalKind::BadBundle, 0, number);
         }
-        at = start + 4 + get32(bundle, start) as usize;
-        if get16(bundle, start + 4) == FRAME_KIND {
-            starts[found] = start + PREFIX_LEN;
-            ends[found] = at;
+        let end = at + 4 + get32(bundle, at) as usize;
+        if get16(bundle, at + 4) == FRAME_KIND {
+            places[found] = Span {
+                start: at + PREFIX_LEN,
+                end,
+            };
             found += 1;
         }
+        number += 1;
+        at = end;
     }
     if found < count {
-        return refuse_split(number);
+        return refuse(RefusalKind::BadBundle, 0, number);
     }
-    Split {
-        answer: BundleAnswer::Counted(BundleCounts {
+    Ok(Split {
+        counts: BundleCounts {
             slots,
             frames: count,
-        }),
-        places: Places { starts, ends },
-    }
+        },
+        places,
+    })
 }

@@ -5,4 +5,3 @@ pub mod JoinedLaws
 pub mod LittleEndianLaws
 pub mod WriteLaws
 pub mod AnyLaws
-pub mod MoveLaws

@@ -1,5 +1,6 @@
 -- Laws of little-endian numbers, at any width w.
 --   bytes_drop, bytes_take     a part of a list of bytes is one
+--   le-bytes                   the library's bytes of a number
 --   length-le                  a number as w bytes is w bytes long
 --   number-le, le-number       a number that fits is read back; bytes are written back
 --   number_lt, get-lt          what w bytes can tell is below 256 ^ w
@@ -11,7 +12,7 @@
 -- Axioms: none.
 use mathlib.Core.Path.{◌≡◌, refl, sym, ap, ap₂, ◌∙◌, subst}
 use Prim.Native.Nat.{ℕ, zero, suc, ◌+◌, ◌*◌, ◌/◌, ◌%◌, ◌^◌, ◌≤◌, ◌<◌}
-use native.Mathlib.Nat.{div-lt_iff_lt-mul, pow-suc, lt_of_lt_of_le, min-le_left, pow-le-pow_right, add-zero, mul_assoc}
+use native.Mathlib.Nat.{div-lt_iff_lt-mul, pow-suc, lt_of_lt_of_le, min-le_left, pow-le-pow_right, add-zero, mul_assoc, div-one, div-div-eq-div-mul}
 use native.Mathlib.Omega.{arith}
 use mathlib.Core.List.{List, [], ◌∷◌, ◌++◌}
 use lib.ListN.{length, get_or, take, drop, length-drop, length-take, take-append-drop}
@@ -19,6 +20,7 @@ use lib.Seq.{take_at, drop_at, drop-drop, drop-append-le, take-append-le, length
 use lib.Bits.{bit_or, or_shifted_r}
 use lib.Dec.{lit<}
 use lib.Pow.{pow-add, shl_exact}
+use Rattle.std.specs.Int.{bytes_low_first}
 use Rattle.pciv_bytes.specs.LittleEndian.{le, number, get, Bytes}
 
 pub bytes_drop : (n : ℕ) (b : List ℕ) → Bytes b → Bytes (drop n b)
@@ -34,6 +36,20 @@ pub length-le : (w x : ℕ) → length (le w x) ≡ w
 unfolding le
 length-le zero x = refl
 length-le (suc w) x = ap suc (length-le w (x / 256))
+
+-- the library's bytes of a number, from byte i on
+le-rest : (w i x : ℕ) → bytes_low_first i w x ≡ le w (x / 256 ^ i)
+unfolding le
+le-rest zero i x = refl
+le-rest (suc w) zero x = rw (div-one x) (ap (λ (l : List ℕ). x % 256 ∷ l) (le-rest w 1 x))
+le-rest (suc w) (suc i) x =
+    let e : x / 256 ^ suc (suc i) ≡ x / 256 ^ suc i / 256 =
+    ap (λ (n : ℕ). x / n) (pow-suc 256 (suc i)) ∙ sym (div-div-eq-div-mul x (256 ^ suc i) 256) in
+    ap (λ (l : List ℕ). (x / 256 ^ suc i) % 256 ∷ l) (le-rest w (suc (suc i)) x ∙ ap (le w) e)
+
+-- all w of them
+pub le-bytes : (w x : ℕ) → bytes_low_first 0 w x ≡ le w x
+le-bytes w x = le-rest w 0 x ∙ ap (le w) (div-one x)
 
 pub number-le : (w x : ℕ) → x < 256 ^ w → number (le w x) ≡ x
 unfolding le number

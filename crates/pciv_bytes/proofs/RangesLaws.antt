@@ -5,6 +5,8 @@
 --   get_or-inside               inside a list the default does not matter
 --   get_or-map_inside                  an element of a list to which a function is applied
 --   map-cong                  functions that agree on the elements of a list
+--   part-cons                 a part of a list, and its first element by itself
+--   first_from-position       the first element of a part that passes, by the library's search through the part
 --   first_below-none, -at      its value, from what holds of each number
 --   first_below-le, -clear, -has, -all, -lt    what holds of each number, from its value
 --   first_below-more           below one number more
@@ -22,10 +24,14 @@ use native.Mathlib.Numerals.{add-one}
 use mathlib.Core.Bool.{Bool, true, false, cond, not, ◌&&◌}
 use mathlib.Core.List.{List, [], ◌∷◌, ◌++◌, map}
 use lib.ListN
-use lib.ListN.{length, get_or, length-map}
-use lib.Dec.{eqb}
-use borrow.Author.Tests.{eqb-true, eqb-false}
+use lib.ListN.{length, get_or, take, drop, length-map, length-drop}
+use lib.Seq.{drop-cons, length-take-le}
+use lib.Dec.{eqb, ltb}
+use borrow.Author.Tests.{eqb-true, eqb-false, ltb-false}
 use mir.Val.{bool_byte}
+use Rattle.std.proofs.Common.{Option, Some, None}
+use Rattle.std.specs.Option.{unwrap_or}
+use Rattle.std.specs.List.{position_or_len, position}
 use Rattle.pciv_bytes.specs.Ranges.{flag, first_from, first_below, table}
 
 pub true-false : true ≡ false → ⊥
@@ -67,7 +73,11 @@ map-cong f g [] same = refl
 map-cong f g (x ∷ xs) same =
     ap₂ (λ (y : ℕ) (l : List ℕ). y ∷ l) (same 0 (omega arith)) (map-cong f g xs (λ i h. same (suc i) (omega arith)))
 
--- ---- first_below
+-- a part of a list, and its first element by itself
+part-cons : (l : List ℕ) (at c : ℕ) → at < length l → take (suc c) (drop at l) ≡ get_or l at 0 ∷ take c (drop (suc at) l)
+part-cons l at c h = rw (drop-cons l at 0 h)
+
+-- ---- first_from and first_below
 
 module _ (p : ℕ → Bool) where
   -- where none of the c numbers from i on has p
@@ -171,6 +181,37 @@ module _ (p : ℕ → Bool) where
   first_below-lt k j h has =
       elim (dec_le k (first_below p k))
       [ yes d ↦ absurd (true-false (sym has ∙ first_below-all k j d h)) | no d ↦ omega arith ]
+
+-- the first element of a part that passes, by the library's search through the part
+first_from-position_or_len : (p : ℕ → Bool) (l : List ℕ) (c i : ℕ) → i + c ≤ length l
+    → first_from (λ (j : ℕ). p (get_or l j 0)) i c ≡ i + position_or_len p (take c (drop i l))
+unfolding first_from
+first_from-position_or_len p l zero i inside = omega arith
+first_from-position_or_len p l (suc c) i inside =
+    rw (part-cons l i c (omega arith)) (go (p (get_or l i 0)) (first_from-position_or_len p l c (suc i) (omega arith)))
+  where
+    go : (b : Bool) → first_from (λ (j : ℕ). p (get_or l j 0)) (suc i) c ≡ suc i + position_or_len p (take c (drop (suc i) l))
+        → cond b i (first_from (λ (j : ℕ). p (get_or l j 0)) (suc i) c)
+        ≡ i + cond (not b) (1 + position_or_len p (take c (drop (suc i) l))) 0
+    go true ih = omega arith
+    go false ih = omega arith
+
+pub first_from-position : (p : ℕ → Bool) (l : List ℕ) (from to : ℕ) (r : Option ℕ) → from ≤ to → to ≤ length l
+    → r ≡ position p (take (to - from) (drop from l))
+    → from + unwrap_or r (to - from) ≡ first_from (λ (j : ℕ). p (get_or l j 0)) from (to - from)
+first_from-position p l from to r order inside is =
+    let part : List ℕ = take (to - from) (drop from l) in
+    let size : length part ≡ to - from = length-take-le (to - from) (drop from l) (simp length-drop (omega arith)) in
+    let found = first_from-position_or_len p l (to - from) from (omega arith) in
+    let high = first_from-le (λ (j : ℕ). p (get_or l j 0)) (to - from) from in
+    let pick : unwrap_or (position p part) (to - from) ≡ position_or_len p part =
+    go (position_or_len p part) (length part) (to - from) size (omega (arith, found, high))
+    (ltb (position_or_len p part) (length part)) refl in
+    rw is (ap (λ (k : ℕ). from + k) pick ∙ sym found)
+  where
+    go : (k n d : ℕ) → n ≡ d → k ≤ d → (b : Bool) → ltb k n ≡ b → unwrap_or (cond b (Some k) None) d ≡ k
+    go k n d e h true t = refl
+    go k n d e h false t = omega (arith, ltb-false k n t)
 
 pub first_from-cong : (p q : ℕ → Bool) (c i : ℕ) → ((j : ℕ) → j < i + c → p j ≡ q j) → first_from p i c ≡ first_from q i c
 unfolding first_from

@@ -1,5 +1,6 @@
 -- Laws of `sum_from`. A sum from i up to `to` is written `sum_from f i (to - i)`.
---   sum_from-none, -more, -split    no term, the first term, and a range in two
+--   sum_from-none, -more, -next    no term, the first term by itself, and the last one
+--   sum_from-add, -split            a range in two
 --   sum_from-le, -flag-le, -byte_is-le, -byte_at-le    at most b for each term; of flags and of bytes
 --   sum_from-cong, -plus, -rest     of terms that agree, of two sums, and of flags and the others
 --   sum_from-zeros                  of terms that are 0
@@ -28,13 +29,19 @@ pub sum_from-more : (f : ℕ → ℕ) (i to : ℕ) → i < to → sum_from f i (
 unfolding sum_from
 sum_from-more f i to h = let e : to - i ≡ suc (to - (i + 1)) = omega arith in rw (e, add-one i)
 
-sum_from-add : (f : ℕ → ℕ) (m i n : ℕ) → sum_from f i (m + n) ≡ sum_from f i m + sum_from f (i + m) n
+-- m terms and n more
+pub sum_from-add : (f : ℕ → ℕ) (m i n : ℕ) → sum_from f i (m + n) ≡ sum_from f i m + sum_from f (i + m) n
 unfolding sum_from
 sum_from-add f zero i n = rw (zero-add n, add-zero i, zero-add (sum_from f i n))
 sum_from-add f (suc m) i n =
     let e : suc m + n ≡ suc (m + n) = omega arith in
     let g : i + suc m ≡ suc i + m = omega arith in
     rw (e, g) (omega (arith, sum_from-add f m (suc i) n))
+
+-- the last term by itself
+pub sum_from-next : (f : ℕ → ℕ) (c : ℕ) → sum_from f 0 (c + 1) ≡ sum_from f 0 c + f c
+unfolding sum_from
+sum_from-next f c = sum_from-add f c 0 1 ∙ rw (zero-add c, add-zero (f c))
 
 -- a range in two
 pub sum_from-split : (f : ℕ → ℕ) (i s to : ℕ) → i ≤ s → s ≤ to

@@ -3,6 +3,8 @@
 --   sets-append, sets-cons         a list in two parts; the first element and the rest
 --   take-sets, sets-front          what stands before; a list at the front
 --   sets-whole                     a list that is written over as a whole
+--   put_mid-sets, -same            a list whose part holds another one now, or the same element everywhere
+--   copy_within-sets               a list whose part holds a copy of another part now
 --   set-behind, sets_behind, sets_first    written behind a list, or over its front
 --   get_or-sets, sets-at             what is read where a list was written
 --   get_or-sets-below, -above        what is read beside it
@@ -16,7 +18,7 @@
 --   left-start, left-more, left-part, left_end    no element, one more, several at once, and all
 --   left-whole                     all, where the list has no others
 --   sets-copy-more, -end           a copy of a list
---   sets-same-more, -end           the same element, over and over
+--   sets-same-end                  the same element, over and over
 --   sets-le-start, -more, -end     a number, a byte a turn
 -- Axioms: none.
 use mathlib.Core.Path.{◌≡◌, refl, sym, ap, ap₂, ◌∙◌}
@@ -26,9 +28,11 @@ use native.Mathlib.Numerals.{add-one}
 use native.Mathlib.Omega.{arith}
 use native.Mathlib.Decide.{dec_le}
 use mathlib.Core.List.{List, [], ◌∷◌, ◌++◌, append_assoc, append-nil}
-use lib.ListN.{length, length-append, get_or, take, drop, set, replicate, drop_of_length-le, length-set, get_or-append}
+use lib.ListN.{length, length-append, get_or, take, drop, set, replicate, length-replicate, drop_of_length-le, length-set, length-drop, get_or-append}
 use lib.Seq.{sets, sets-eq, length-sets, length-take-le, take-set-le, drop-cons, drop_at, get_or-append-add, set-get_or}
-use lib.Seq.{set-set, set_comm, set-append_left, get_or-set_other}
+use lib.Seq.{set-set, set_comm, set-append_left, get_or-set_other, drop-drop}
+use borrow.Rule.Slice.PartMut.{put_mid}
+use Rattle.std.specs.List.{copy_within}
 use Rattle.pciv_bytes.specs.LittleEndian.{le}
 use Rattle.pciv_bytes.specs.Ranges.{table}
 use Rattle.pciv_bytes.proofs.RangesLaws.{length-table, get_or-table, table-rest, table_done, table-append}
@@ -58,6 +62,25 @@ module _ {A : Type 0} where
   -- what stands before, in, and behind the place where a list was written
   sets-split : (d l : List A) (p : ℕ) → p + length l ≤ length d → sets d p l ≡ take p d ++ (l ++ drop (p + length l) d)
   sets-split d l p space = sets-eq l d p space ∙ append_assoc (take p d) l (drop (p + length l) d)
+
+  -- a part that holds vs now
+  pub put_mid-sets : (a k : ℕ) (d vs : List A) → length vs ≡ k → a + k ≤ length d → put_mid a k d vs ≡ sets d a vs
+  put_mid-sets a k d vs same space =
+      sym (sets-split d vs a (omega arith) ∙ rw (drop-drop k a d, same))
+
+  -- a part that holds x everywhere now
+  pub put_mid-same : (a k : ℕ) (d : List A) (x : A) (vs : List A) → vs ≡ replicate (length (take k (drop a d))) x
+      → a + k ≤ length d → put_mid a k d vs ≡ sets d a (replicate k x)
+  put_mid-same a k d x vs is space =
+      let e : length (take k (drop a d)) ≡ k = length-take-le k (drop a d) (simp length-drop (omega arith)) in
+      rw (is, e) (put_mid-sets a k d (replicate k x) (length-replicate k x) space)
+
+  -- a part copied to another place
+  pub copy_within-sets : (d : List A) (i j at k : ℕ) → j - i ≡ k → i ≤ j → j ≤ length d → at + k ≤ length d
+      → copy_within d i j at ≡ sets d at (take k (drop i d))
+  copy_within-sets d i j at k size order inside space =
+      let e : length (take k (drop i d)) ≡ k = length-take-le k (drop i d) (simp length-drop (omega arith)) in
+      rw size (sym (sets-eq (take k (drop i d)) d at (rw e space) ∙ rw e))
 
   -- what is read where a list was written
   pub get_or-sets : (vs d : List A) (z : A) (i j : ℕ) → j < length vs → i + length vs ≤ length d
@@ -203,10 +226,6 @@ module _ {A : Type 0} where
   sets-copy-end s d j i h = ap (sets d j) (drop_of_length-le s h)
 
   -- ---- the same element x, up to `to`
-
-  pub sets-same-more : (x : A) (to i : ℕ) (d : List A) → i < to
-      → sets d i (replicate (to - i) x) ≡ sets (set d i x) (i + 1) (replicate (to - (i + 1)) x)
-  sets-same-more x to i d h = let e : to - i ≡ suc (to - (i + 1)) = omega arith in rw (e, add-one i)
 
   pub sets-same-end : (x : A) (to i : ℕ) (d : List A) → to ≤ i → sets d i (replicate (to - i) x) ≡ d
   sets-same-end x to i d h = let e : to - i ≡ 0 = omega arith in rw e

@@ -7,10 +7,8 @@ pub fn widen(a: &[u8], out: &mut [u32])
     requires { length a.now ≤ length out.old }
     ensures { out.new ≡ sets out.old 0 a.now }
 {
-    let mut i = 0;
-    while i < a.len() {
-        out[i] = a[i] as u32;
-        i += 1;
+    for (i, x) in a.iter().enumerate() {
+        out[i] = u32::from(*x);
     }
 }
 
@@ -19,11 +17,7 @@ pub fn copy_bytes(src: &[u8], out: &mut [u8], at: usize)
     requires { at + length src.now ≤ length out.old }
     ensures { out.new ≡ sets out.old at src.now }
 {
-    let mut i = 0;
-    while i < src.len() {
-        out[at + i] = src[i];
-        i += 1;
-    }
+    out[at..at + src.len()].copy_from_slice(src);
 }
 
 // Zeros, from `from` up to `to`.
@@ -31,9 +25,5 @@ pub fn fill_zero(out: &mut [u8], from: usize, to: usize)
     requires { (from ≤ to) × (to ≤ length out.old) }
     ensures { out.new ≡ sets out.old from (replicate (to - from) 0) }
 {
-    let mut i = from;
-    while i < to {
-        out[i] = 0;
-        i += 1;
-    }
+    out[from..to].fill(0);
 }

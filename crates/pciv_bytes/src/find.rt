@@ -9,10 +9,8 @@ pub fn any_byte(a: &[u8], from: usize, to: usize, x: u8) -> bool
     ensures { result ≡ any_from (λ (i : ℕ). eqb (get_or a.now i 0) x) from (to - from) }
 {
     let mut found = false;
-    let mut i = from;
-    while i < to {
-        found |= a[i] == x;
-        i += 1;
+    for y in &a[from..to] {
+        found |= *y == x;
     }
     found
 }
@@ -22,12 +20,8 @@ pub fn find_byte(a: &[u8], from: usize, to: usize, x: u8) -> usize
     requires { (from ≤ to) × (to ≤ length a.now) }
     ensures { result ≡ first_from (λ (i : ℕ). eqb (get_or a.now i 0) x) from (to - from) }
 {
-    let mut i = from;
-    while i < to {
-        if a[i] == x {
-            return i;
-        }
-        i += 1;
-    }
-    to
+    from + a[from..to]
+        .iter()
+        .position(|y| *y == x)
+        .unwrap_or(to - from)
 }

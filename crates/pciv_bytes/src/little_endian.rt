@@ -1,5 +1,5 @@
 // Little-endian numbers at a place of a slice (docs/FORMAT.md, "Conventions").
-// At a constant width the compiler turns each loop into a single load or store.
+// At a constant width the compiler turns each of them into a single load or store.
 ghost use Rattle.std.specs.Prelude.{◌≡◌, ◌+◌, ◌≤◌, length};
 ghost use Rattle.std.proofs.lemmas.List.Edits.{sets};
 ghost use Rattle.pciv_bytes.specs.LittleEndian.{le, get};
@@ -10,10 +10,8 @@ fn get_le(b: &[u8], at: usize, w: usize) -> usize
     ensures { result ≡ get w b.now at }
 {
     let mut x: usize = 0;
-    let mut i = 0;
-    while i < w {
-        x |= (b[at + i] as usize) << (8 * i);
-        i += 1;
+    for i in 0..w {
+        x |= usize::from(b[at + i]) << (8 * i);
     }
     x
 }
@@ -42,26 +40,12 @@ pub fn get16(b: &[u8], at: usize) -> usize
     get_le(b, at, 2)
 }
 
-// Writes x, or as much of it as fits, as w bytes from `at` on.
-fn put_le(out: &mut [u8], at: usize, w: usize, x: usize)
-    requires { at + w ≤ length out.old }
-    ensures { out.new ≡ sets out.old at (le w x) }
-{
-    let mut y = x;
-    let mut i = 0;
-    while i < w {
-        out[at + i] = (y % 256) as u8;
-        y /= 256;
-        i += 1;
-    }
-}
-
 // Writes x as eight bytes from `at` on.
 pub fn put64(out: &mut [u8], at: usize, x: usize)
     requires { at + 8 ≤ length out.old }
     ensures { out.new ≡ sets out.old at (le 8 x) }
 {
-    put_le(out, at, 8, x);
+    out[at..at + 8].copy_from_slice(&x.to_le_bytes());
 }
 
 // Writes x as four bytes from `at` on.
@@ -69,7 +53,7 @@ pub fn put32(out: &mut [u8], at: usize, x: u32)
     requires { at + 4 ≤ length out.old }
     ensures { out.new ≡ sets out.old at (le 4 x) }
 {
-    put_le(out, at, 4, x as usize);
+    out[at..at + 4].copy_from_slice(&x.to_le_bytes());
 }
 
 // Writes x, or as much of it as fits, as two bytes from `at` on.
@@ -77,5 +61,6 @@ pub fn put16(out: &mut [u8], at: usize, x: usize)
     requires { at + 2 ≤ length out.old }
     ensures { out.new ≡ sets out.old at (le 2 x) }
 {
-    put_le(out, at, 2, x);
+    let low = (x % 65536) as u16;
+    out[at..at + 2].copy_from_slice(&low.to_le_bytes());
 }

@@ -8,11 +8,7 @@ pub fn move_up(out: &mut [u8], from: usize, to: usize)
     ensures { out.new
         ≡ sets out.old (from + 12) (take (to - from) (drop from out.old)) }
 {
-    let mut i = to;
-    while from < i {
-        i -= 1;
-        out[i + 12] = out[i];
-    }
+    out.copy_within(from..to, from + 12);
 }
 
 // To the places from `from` up to `to`, the bytes that stand 12 places after them: the first one first.
@@ -21,9 +17,5 @@ pub fn move_down(out: &mut [u8], from: usize, to: usize)
     ensures { out.new
         ≡ sets out.old from (take (to - from) (drop (from + 12) out.old)) }
 {
-    let mut i = from;
-    while i < to {
-        out[i] = out[i + 12];
-        i += 1;
-    }
+    out.copy_within(from + 12..to + 12, from);
 }

@@ -6,7 +6,7 @@ ghost use Rattle.pciv_format.specs.declared.SlotOp.TheVariants.{Minimum, Maximum
 ghost use Rattle.pciv_c_cells.specs.Cells.{ToldNumber, ToldFile};
 
 use pciv_arith::{difference, maximum, minimum, shift, signed_difference, sum_maps};
-use pciv_c_cells::{tell_file, tell_number};
+use pciv_c_cells::{tell_file, tell_value};
 
 #[unsafe(no_mangle)]
 pub extern "C" fn pciv_minimum(
@@ -105,5 +105,5 @@ pub extern "C" fn pciv_signed_difference(
     ensures list { out.new
         ≡ signed_difference_list a.now b.now out.old }
 {
-    tell_number(signed_difference(a, b, out), count, refusal)
+    tell_value(signed_difference(a, b, out), count, refusal)
 }

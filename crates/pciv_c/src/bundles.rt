@@ -6,7 +6,7 @@ ghost use Rattle.pciv_c_cells.specs.Cells.{ToldNumber, ToldCounts};
 
 use pciv_bundle::write::write;
 use pciv_bundle::{nearest, read};
-use pciv_c_cells::{tell_counts, tell_number, tell_row};
+use pciv_c_cells::{tell_counts, tell_value};
 
 #[unsafe(no_mangle)]
 pub extern "C" fn pciv_bundle_read(
@@ -32,7 +32,7 @@ pub extern "C" fn pciv_bundle_row(
     ensures told { ToldNumber (row_outcome bundle.now slot)
         result row.old row.new refusal.new }
 {
-    tell_row(pciv_bundle::row(bundle, slot), row, refusal)
+    tell_value(pciv_bundle::row(bundle, slot), row, refusal)
 }
 
 #[unsafe(no_mangle)]
@@ -46,7 +46,7 @@ pub extern "C" fn pciv_bundle_nearest(
         result count.old count.new refusal.new }
     ensures buffer { distances.new ≡ nearest_buffer bundle.now distances.old }
 {
-    tell_number(nearest(bundle, distances), count, refusal)
+    tell_value(nearest(bundle, distances), count, refusal)
 }
 
 #[unsafe(no_mangle)]
@@ -63,5 +63,5 @@ pub extern "C" fn pciv_bundle_write(
     ensures buffer { out.new
         ≡ bundle_write_buffer (map (λ x. x.now) frames.now) count out.old }
 {
-    tell_number(write(frames, count, out), written, refusal)
+    tell_value(write(frames, count, out), written, refusal)
 }

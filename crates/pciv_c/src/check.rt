@@ -6,7 +6,7 @@ ghost use Rattle.pciv_c_cells.specs.Cells.{ToldFile, span_cells, span_length};
 
 use pciv_c_cells::tell_file;
 use pciv_check::{check, check_counts};
-use pciv_format::{CountsAnswer, HEADER_LEN};
+use pciv_format::HEADER_LEN;
 
 #[unsafe(no_mangle)]
 pub extern "C" fn pciv_check(
@@ -28,12 +28,12 @@ pub extern "C" fn pciv_primary_span(file: &[u8], span: &mut [usize; 2]) -> usize
 {
     let checked = check_counts(file, 1);
     match checked {
-        CountsAnswer::Counted(s) => {
+        Ok(s) => {
             let n = s.n;
             *span = [HEADER_LEN, n];
             n
         }
-        CountsAnswer::Refused(_) => {
+        Err(_) => {
             *span = [0, 0];
             0
         }

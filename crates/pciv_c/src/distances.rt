@@ -5,7 +5,7 @@ ghost use Rattle.pciv_format.specs.Read.{lookup_outcome, lookup_list_outcome, lo
 ghost use Rattle.pciv_format.specs.Read.{scan_outcome, scan_buffer};
 ghost use Rattle.pciv_c_cells.specs.Cells.{ToldNumber, ToldLocated};
 
-use pciv_c_cells::{header_k, tell_located, tell_number};
+use pciv_c_cells::{header_k, tell_located, tell_value};
 use pciv_read::{lookup, lookup_list, scan};
 
 #[unsafe(no_mangle)]
@@ -43,7 +43,7 @@ pub extern "C" fn pciv_lookup_list(
         ≡ lookup_list_entries file.now slots.now
         (length distances.old) entries.old }
 {
-    tell_number(lookup_list(file, slots, distances, entries), count, refusal)
+    tell_value(lookup_list(file, slots, distances, entries), count, refusal)
 }
 
 #[unsafe(no_mangle)]
@@ -57,5 +57,5 @@ pub extern "C" fn pciv_scan(
         result count.old count.new refusal.new }
     ensures buffer { distances.new ≡ scan_buffer file.now distances.old }
 {
-    tell_number(scan(file, distances), count, refusal)
+    tell_value(scan(file, distances), count, refusal)
 }

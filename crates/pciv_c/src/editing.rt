@@ -4,7 +4,7 @@ ghost use Rattle.pciv_format.specs.Edit.{edit_outcome, edit_moved, edit_buffer, 
 ghost use Rattle.pciv_format.specs.Edit.{edit_list_answers};
 ghost use Rattle.pciv_c_cells.specs.Cells.{ToldNumber, ToldFile};
 
-use pciv_c_cells::{tell_file, tell_number};
+use pciv_c_cells::{tell_file, tell_value};
 use pciv_edit::edit;
 use pciv_edit::run::edit_list;
 
@@ -51,5 +51,5 @@ pub extern "C" fn pciv_edit_list(
         ≡ edit_list_answers buffer.old slots.now
         distances.now answers.old }
 {
-    tell_number(edit_list(buffer, slots, distances, answers), count, refusal)
+    tell_value(edit_list(buffer, slots, distances, answers), count, refusal)
 }

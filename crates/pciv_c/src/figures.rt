@@ -2,7 +2,7 @@
 ghost use Rattle.pciv_format.specs.Figures.{bray_curtis_outcome, jaccard_outcome};
 ghost use Rattle.pciv_c_cells.specs.Cells.{ToldNumber};
 
-use pciv_c_cells::tell_figure;
+use pciv_c_cells::tell_value;
 use pciv_compare::{bray_curtis, jaccard};
 
 #[unsafe(no_mangle)]
@@ -15,7 +15,7 @@ pub extern "C" fn pciv_bray_curtis(
     ensures told { ToldNumber (bray_curtis_outcome a.now b.now)
         result figure.old figure.new refusal.new }
 {
-    tell_figure(bray_curtis(a, b), figure, refusal)
+    tell_value(bray_curtis(a, b), figure, refusal)
 }
 
 #[unsafe(no_mangle)]
@@ -29,5 +29,5 @@ pub extern "C" fn pciv_jaccard(
     ensures told { ToldNumber (jaccard_outcome t a.now b.now)
         result figure.old figure.new refusal.new }
 {
-    tell_figure(jaccard(a, b, t), figure, refusal)
+    tell_value(jaccard(a, b, t), figure, refusal)
 }

@@ -9,7 +9,7 @@ ghost use Rattle.pciv_format.specs.declared.Comparison.TheVariants.{Below, AtMos
 ghost use Rattle.pciv_format.specs.declared.MaskOp.TheVariants.{And, Or, Xor};
 ghost use Rattle.pciv_c_cells.specs.Cells.{ToldNumber, ToldFile};
 
-use pciv_c_cells::{tell_file, tell_number};
+use pciv_c_cells::{tell_file, tell_value};
 use pciv_format::Comparison;
 use pciv_mask_apply::{increment_masked, keep_masked, map_of_mask};
 use pciv_mask_logic::{and, complement, or, set_bits, xor};
@@ -29,7 +29,7 @@ pub extern "C" fn pciv_mask_below(
         result count.old count.new refusal.new }
     ensures words { out.new ≡ threshold_words Below file.now t out.old }
 {
-    tell_number(threshold(file, Comparison::Below, t, out), count, refusal)
+    tell_value(threshold(file, Comparison::Below, t, out), count, refusal)
 }
 
 #[unsafe(no_mangle)]
@@ -44,7 +44,7 @@ pub extern "C" fn pciv_mask_at_most(
         result count.old count.new refusal.new }
     ensures words { out.new ≡ threshold_words AtMost file.now t out.old }
 {
-    tell_number(threshold(file, Comparison::AtMost, t, out), count, refusal)
+    tell_value(threshold(file, Comparison::AtMost, t, out), count, refusal)
 }
 
 #[unsafe(no_mangle)]
@@ -59,7 +59,7 @@ pub extern "C" fn pciv_mask_above(
         result count.old count.new refusal.new }
     ensures words { out.new ≡ threshold_words Above file.now t out.old }
 {
-    tell_number(threshold(file, Comparison::Above, t, out), count, refusal)
+    tell_value(threshold(file, Comparison::Above, t, out), count, refusal)
 }
 
 #[unsafe(no_mangle)]
@@ -74,7 +74,7 @@ pub extern "C" fn pciv_mask_at_least(
         result count.old count.new refusal.new }
     ensures words { out.new ≡ threshold_words AtLeast file.now t out.old }
 {
-    tell_number(threshold(file, Comparison::AtLeast, t, out), count, refusal)
+    tell_value(threshold(file, Comparison::AtLeast, t, out), count, refusal)
 }
 
 #[unsafe(no_mangle)]
@@ -89,7 +89,7 @@ pub extern "C" fn pciv_near_mask(
         result count.old count.new refusal.new }
     ensures words { out.new ≡ near_mask_words file.now t out.old }
 {
-    tell_number(near_mask(file, t, out), count, refusal)
+    tell_value(near_mask(file, t, out), count, refusal)
 }
 
 // ---- masks of masks
@@ -109,7 +109,7 @@ pub extern "C" fn pciv_mask_and(
     ensures words { out.new
         ≡ combine_words And n a.now b.now out.old }
 {
-    tell_number(and(n, a, b, out), count, refusal)
+    tell_value(and(n, a, b, out), count, refusal)
 }
 
 #[unsafe(no_mangle)]
@@ -127,7 +127,7 @@ pub extern "C" fn pciv_mask_or(
     ensures words { out.new
         ≡ combine_words Or n a.now b.now out.old }
 {
-    tell_number(or(n, a, b, out), count, refusal)
+    tell_value(or(n, a, b, out), count, refusal)
 }
 
 #[unsafe(no_mangle)]
@@ -145,7 +145,7 @@ pub extern "C" fn pciv_mask_xor(
     ensures words { out.new
         ≡ combine_words Xor n a.now b.now out.old }
 {
-    tell_number(xor(n, a, b, out), count, refusal)
+    tell_value(xor(n, a, b, out), count, refusal)
 }
 
 #[unsafe(no_mangle)]
@@ -160,7 +160,7 @@ pub extern "C" fn pciv_mask_not(
         result count.old count.new refusal.new }
     ensures words { out.new ≡ complement_words n mask.now out.old }
 {
-    tell_number(complement(n, mask, out), count, refusal)
+    tell_value(complement(n, mask, out), count, refusal)
 }
 
 #[unsafe(no_mangle)]
@@ -173,7 +173,7 @@ pub extern "C" fn pciv_set_bits(
     ensures told { ToldNumber (set_bits_outcome n mask.now)
         result count.old count.new refusal.new }
 {
-    tell_number(set_bits(n, mask), count, refusal)
+    tell_value(set_bits(n, mask), count, refusal)
 }
 
 // ---- files from masks

@@ -3,7 +3,7 @@ ghost use Rattle.std.specs.Prelude.{◌≡◌, length};
 ghost use Rattle.pciv_format.specs.Report.{report_outcome, report_buffer};
 ghost use Rattle.pciv_c_cells.specs.Cells.{ToldNumber};
 
-use pciv_c_cells::tell_number;
+use pciv_c_cells::tell_value;
 use pciv_report::report;
 
 #[unsafe(no_mangle)]
@@ -17,5 +17,5 @@ pub extern "C" fn pciv_report(
         result count.old count.new refusal.new }
     ensures buffer { text.new ≡ report_buffer input.now text.old }
 {
-    tell_number(report(input, text), count, refusal)
+    tell_value(report(input, text), count, refusal)
 }

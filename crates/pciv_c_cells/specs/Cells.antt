@@ -14,87 +14,74 @@
 --   span_cells o, span_length o    where the primary part starts, and its length; 0 and 0 for a refused file
 --   ToldNumber, ToldFile, ToldLocated, ToldRepaired, ToldCounts, ToldTable
 --                         all of a call: its answer, the result's cells, the refusal's cells
---   file_outcome, number_outcome, located_outcome, repaired_outcome, figure_outcome, counts_outcome, told_row
---                         the outcome that an answer stands for
+--   told_table a           the outcome that a table's answer stands for
 -- Laws are in proofs/CellsLaws.antt. Axioms: none.
+use Rattle.std.specs.Prelude.{Ok, Err}
 use Rattle.std.specs.Prelude.{◌≡◌, ℕ, List, [], ◌∷◌, Float}
-use Rattle.pciv_format.specs.Refusals.{Outcome, done, refused}
+use Rattle.pciv_format.specs.Refusals.{Outcome, and_then, number_of}
 use Rattle.pciv_format.specs.Read.{origin_number}
 use Rattle.pciv_format.specs.declared.Counts.{Counts}
 use Rattle.pciv_format.specs.declared.Summary.{Summary}
 use Rattle.pciv_format.specs.declared.Refusal.{Refusal}
-use Rattle.pciv_format.specs.declared.Verdict.{Verdict}
-use Rattle.pciv_format.specs.declared.Verdict.TheVariants as InVerdict
-use Rattle.pciv_format.specs.declared.FileAnswer.{FileAnswer}
-use Rattle.pciv_format.specs.declared.FileAnswer.TheVariants as InFile
-use Rattle.pciv_format.specs.declared.NumberAnswer.{NumberAnswer}
-use Rattle.pciv_format.specs.declared.NumberAnswer.TheVariants as InNumber
 use Rattle.pciv_format.specs.declared.Located.{Located}
-use Rattle.pciv_format.specs.declared.LookupAnswer.{LookupAnswer}
-use Rattle.pciv_format.specs.declared.LookupAnswer.TheVariants as InLookup
-use Rattle.pciv_format.specs.declared.FigureAnswer.{FigureAnswer}
-use Rattle.pciv_format.specs.declared.FigureAnswer.TheVariants as InFigure
 use Rattle.pciv_repair.specs.declared.Repaired.{Repaired}
-use Rattle.pciv_repair.specs.declared.RepairAnswer.{RepairAnswer}
-use Rattle.pciv_repair.specs.declared.RepairAnswer.TheVariants as InRepair
 use Rattle.pciv_bundle_records.specs.declared.BundleCounts.{BundleCounts}
-use Rattle.pciv_bundle_records.specs.declared.BundleAnswer.{BundleAnswer}
-use Rattle.pciv_bundle_records.specs.declared.BundleAnswer.TheVariants as InBundle
+use Rattle.pciv_disparity.specs.declared.TableAnswer.{TableAnswer}
 
 abbrev pub no_cells : List ℕ
 no_cells = 0 ∷ 0 ∷ 0 ∷ []
 
 abbrev pub cells_of : Refusal → List ℕ
-cells_of r = r.number ∷ r.map ∷ r.place ∷ []
+cells_of r = number_of r.kind ∷ r.map ∷ r.place ∷ []
 
 module _ {A : Type 0} where
   abbrev pub code_of : Outcome A → ℕ
-  code_of (done a) = 0
-  code_of (refused r) = r.number
+  code_of (Ok a) = 0
+  code_of (Err r) = number_of r.kind
 
   abbrev pub refusal_cells : Outcome A → List ℕ
-  refusal_cells (done a) = no_cells
-  refusal_cells (refused r) = cells_of r
+  refusal_cells (Ok a) = no_cells
+  refusal_cells (Err r) = cells_of r
 
   abbrev pub cell_after : Outcome A → A → A
-  cell_after (done x) old = x
-  cell_after (refused r) old = old
+  cell_after (Ok x) old = x
+  cell_after (Err r) old = old
 
 abbrev pub summary_cells : Outcome Summary → List ℕ → List ℕ
-summary_cells (done s) old = s.n ∷ s.k ∷ s.m ∷ s.step ∷ s.len ∷ s.sum ∷ []
-summary_cells (refused r) old = old
+summary_cells (Ok s) old = s.n ∷ s.k ∷ s.m ∷ s.step ∷ s.len ∷ s.sum ∷ []
+summary_cells (Err r) old = old
 
 abbrev pub distance_cell : Outcome Located → ℕ → ℕ
-distance_cell (done a) old = a.distance
-distance_cell (refused r) old = old
+distance_cell (Ok a) old = a.distance
+distance_cell (Err r) old = old
 
 abbrev pub origin_cell : ℕ → Outcome Located → ℕ → ℕ
-origin_cell k (done a) old = origin_number k a.origin
-origin_cell k (refused r) old = old
+origin_cell k (Ok a) old = origin_number k a.origin
+origin_cell k (Err r) old = old
 
 abbrev pub repaired_cells : Outcome Repaired → List ℕ → List ℕ
-repaired_cells (done a) old = summary_cells (done a.summary) old
-repaired_cells (refused r) old = old
+repaired_cells (Ok a) old = summary_cells (Ok a.summary) old
+repaired_cells (Err r) old = old
 
 abbrev pub lines_cell : Outcome Repaired → ℕ → ℕ
-lines_cell (done a) old = a.lines
-lines_cell (refused r) old = old
+lines_cell (Ok a) old = a.lines
+lines_cell (Err r) old = old
 
 abbrev pub slots_cell : Outcome BundleCounts → ℕ → ℕ
-slots_cell (done c) old = c.slots
-slots_cell (refused r) old = old
+slots_cell (Ok c) old = c.slots
+slots_cell (Err r) old = old
 
 abbrev pub frames_cell : Outcome BundleCounts → ℕ → ℕ
-frames_cell (done c) old = c.frames
-frames_cell (refused r) old = old
+frames_cell (Ok c) old = c.frames
+frames_cell (Err r) old = old
 
 abbrev pub span_cells : Outcome Counts → List ℕ
-span_cells (done s) = 40 ∷ s.n ∷ []
-span_cells (refused r) = 0 ∷ 0 ∷ []
+span_cells (Ok s) = 40 ∷ s.n ∷ []
+span_cells (Err r) = 0 ∷ 0 ∷ []
 
 abbrev pub span_length : Outcome Counts → ℕ
-span_length (done s) = s.n
-span_length (refused r) = 0
+span_length (Ok s) = s.n
+span_length (Err r) = 0
 
 -- ---- what a call with outcome o answers and leaves: `old` stood in the result's cells, `new` stands there now
 
@@ -135,33 +122,8 @@ pub record ToldTable (o : Outcome (List ℕ)) (T : List ℕ) (code : ℕ) (new w
   pub table_is : new ≡ T
   pub why_is : why ≡ refusal_cells o
 
--- ---- answers
+-- ---- a table
 
-abbrev pub file_outcome : FileAnswer → Outcome Summary
-file_outcome (InFile.Done s) = done s
-file_outcome (InFile.Refused r) = refused r
-
-abbrev pub number_outcome : NumberAnswer → Outcome ℕ
-number_outcome (InNumber.Number x) = done x
-number_outcome (InNumber.Refused r) = refused r
-
-abbrev pub located_outcome : LookupAnswer → Outcome Located
-located_outcome (InLookup.Found a) = done a
-located_outcome (InLookup.Refused r) = refused r
-
-abbrev pub repaired_outcome : RepairAnswer → Outcome Repaired
-repaired_outcome (InRepair.Done a) = done a
-repaired_outcome (InRepair.Refused r) = refused r
-
-abbrev pub figure_outcome : FigureAnswer → Outcome Float
-figure_outcome (InFigure.Quotient x) = done x
-figure_outcome (InFigure.Refused r) = refused r
-
-abbrev pub counts_outcome : BundleAnswer → Outcome BundleCounts
-counts_outcome (InBundle.Counted c) = done c
-counts_outcome (InBundle.Refused r) = refused r
-
--- the distances, of a row or a table, beside a verdict
-abbrev pub told_row : Verdict → List ℕ → Outcome (List ℕ)
-told_row InVerdict.Accepted distances = done distances
-told_row (InVerdict.Refused r) distances = refused r
+-- the table beside a verdict
+abbrev pub told_table : TableAnswer → Outcome (List ℕ)
+told_table a = and_then a.verdict (λ v. Ok a.table)

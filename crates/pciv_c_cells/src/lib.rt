@@ -4,20 +4,17 @@
 #![tactic(auto)]
 
 ghost use Rattle.std.specs.Prelude.{◌≡◌, ◌≤◌, length};
-ghost use Rattle.pciv_c_cells.specs.Cells.{ToldNumber, ToldFile, ToldLocated, ToldRepaired, no_cells, cells_of};
-ghost use Rattle.pciv_c_cells.specs.Cells.{file_outcome, number_outcome, located_outcome, repaired_outcome};
-ghost use Rattle.pciv_c_cells.specs.Cells.{figure_outcome, ToldCounts, counts_outcome, told_row, ToldTable};
+ghost use Rattle.pciv_c_cells.specs.Cells.{ToldNumber, ToldFile, ToldLocated, ToldRepaired, ToldCounts, ToldTable};
+ghost use Rattle.pciv_c_cells.specs.Cells.{told_table, no_cells, cells_of};
+ghost use Rattle.pciv_format.specs.Refusals.{number_of};
 ghost use Rattle.pciv_format.specs.Check.{k_field};
 ghost use Rattle.pciv_format.specs.Read.{origin_number};
 
-use pciv_bundle::RowAnswer;
-use pciv_bundle_records::BundleAnswer;
+use pciv_bundle_records::BundleCounts;
 use pciv_bytes::little_endian::get64;
 use pciv_disparity::TableAnswer;
-use pciv_format::{
-    FigureAnswer, FileAnswer, HEADER_LEN, LookupAnswer, NumberAnswer, Origin, Refusal, Verdict,
-};
-use pciv_repair::RepairAnswer;
+use pciv_format::{HEADER_LEN, Located, Origin, Refusal, Summary};
+use pciv_repair::Repaired;
 
 // The call is done: no refusal is told, and 0 is its answer.
 fn tell_done(refusal: &mut [usize; 3]) -> usize
@@ -30,36 +27,41 @@ fn tell_done(refusal: &mut [usize; 3]) -> usize
 
 // The call is refused: its answer is the refusal's number.
 fn tell_refused(why: Refusal, refusal: &mut [usize; 3]) -> usize
-    ensures code { result ≡ why.number }
+    ensures code { result ≡ number_of why.kind }
     ensures cells { refusal.new ≡ cells_of why }
 {
-    *refusal = [why.number, why.map, why.place];
-    why.number
+    let number = usize::from(why.kind);
+    *refusal = [number, why.map, why.place];
+    number
 }
 
-pub fn tell_file(a: FileAnswer, summary: &mut [usize; 6], refusal: &mut [usize; 3]) -> usize
-    ensures told { ToldFile (file_outcome a)
+pub fn tell_file(
+    a: Result<Summary, Refusal>,
+    summary: &mut [usize; 6],
+    refusal: &mut [usize; 3],
+) -> usize
+    ensures told { ToldFile a
         result summary.old summary.new refusal.new }
 {
     match a {
-        FileAnswer::Done(s) => {
+        Ok(s) => {
             *summary = [s.n, s.k, s.m, s.step, s.len, s.sum];
             tell_done(refusal)
         }
-        FileAnswer::Refused(r) => tell_refused(r, refusal),
+        Err(why) => tell_refused(why, refusal),
     }
 }
 
-pub fn tell_number(a: NumberAnswer, cell: &mut usize, refusal: &mut [usize; 3]) -> usize
-    ensures told { ToldNumber (number_outcome a)
-        result cell.old cell.new refusal.new }
+// A result that goes to C as it is: a number, a figure, a row of distances.
+pub fn tell_value<T: Copy>(a: Result<T, Refusal>, cell: &mut T, refusal: &mut [usize; 3]) -> usize
+    ensures told { ToldNumber a result cell.old cell.new refusal.new }
 {
     match a {
-        NumberAnswer::Number(x) => {
+        Ok(x) => {
             *cell = x;
             tell_done(refusal)
         }
-        NumberAnswer::Refused(r) => tell_refused(r, refusal),
+        Err(r) => tell_refused(r, refusal),
     }
 }
 
@@ -84,39 +86,39 @@ fn origin_number(origin: Origin, k: usize) -> usize
 }
 
 pub fn tell_located(
-    a: LookupAnswer,
+    a: Result<Located, Refusal>,
     k: usize,
     distance: &mut u32,
     entry: &mut usize,
     refusal: &mut [usize; 3],
 ) -> usize
-    ensures told { ToldLocated k (located_outcome a)
+    ensures told { ToldLocated k a
         result distance.old distance.new entry.old entry.new
         refusal.new }
 {
     match a {
-        LookupAnswer::Found(found) => {
+        Ok(found) => {
             let origin = found.origin;
             *distance = found.distance;
             *entry = origin_number(origin, k);
             tell_done(refusal)
         }
-        LookupAnswer::Refused(r) => tell_refused(r, refusal),
+        Err(r) => tell_refused(r, refusal),
     }
 }
 
 pub fn tell_repaired(
-    a: RepairAnswer,
+    a: Result<Repaired, Refusal>,
     summary: &mut [usize; 6],
     count: &mut usize,
     refusal: &mut [usize; 3],
 ) -> usize
-    ensures told { ToldRepaired (repaired_outcome a)
+    ensures told { ToldRepaired a
         result summary.old summary.new count.old count.new
         refusal.new }
 {
     match a {
-        RepairAnswer::Done(repaired) => {
+        Ok(repaired) => {
             let rebuilt = repaired.summary;
             *count = repaired.lines;
             *summary = [
@@ -129,68 +131,40 @@ pub fn tell_repaired(
             ];
             tell_done(refusal)
         }
-        RepairAnswer::Refused(r) => tell_refused(r, refusal),
-    }
-}
-
-pub fn tell_figure(a: FigureAnswer, cell: &mut f64, refusal: &mut [usize; 3]) -> usize
-    ensures told { ToldNumber (figure_outcome a)
-        result cell.old cell.new refusal.new }
-{
-    match a {
-        FigureAnswer::Quotient(x) => {
-            *cell = x;
-            tell_done(refusal)
-        }
-        FigureAnswer::Refused(r) => tell_refused(r, refusal),
+        Err(r) => tell_refused(r, refusal),
     }
 }
 
 pub fn tell_counts(
-    a: BundleAnswer,
+    a: Result<BundleCounts, Refusal>,
     slots: &mut usize,
     frames: &mut usize,
     refusal: &mut [usize; 3],
 ) -> usize
-    ensures told { ToldCounts (counts_outcome a)
+    ensures told { ToldCounts a
         result slots.old slots.new frames.old frames.new
         refusal.new }
 {
     match a {
-        BundleAnswer::Counted(c) => {
+        Ok(c) => {
             *slots = c.slots;
             *frames = c.frames;
             tell_done(refusal)
         }
-        BundleAnswer::Refused(r) => tell_refused(r, refusal),
-    }
-}
-
-pub fn tell_row(a: RowAnswer, row: &mut [u32; 8], refusal: &mut [usize; 3]) -> usize
-    ensures told { ToldNumber (told_row a.verdict a.distances)
-        result row.old row.new refusal.new }
-{
-    let verdict = a.verdict;
-    match verdict {
-        Verdict::Accepted => {
-            let distances = a.distances;
-            *row = distances;
-            tell_done(refusal)
-        }
-        Verdict::Refused(r) => tell_refused(r, refusal),
+        Err(r) => tell_refused(r, refusal),
     }
 }
 
 // The table is written after a refusal too.
 pub fn tell_table(a: TableAnswer, table: &mut [u32; 256], refusal: &mut [usize; 3]) -> usize
-    ensures told { ToldTable (told_row a.verdict a.table) a.table
+    ensures told { ToldTable (told_table a) a.table
         result table.new refusal.new }
 {
     let verdict = a.verdict;
     let distances = a.table;
     *table = distances;
     match verdict {
-        Verdict::Accepted => tell_done(refusal),
-        Verdict::Refused(r) => tell_refused(r, refusal),
+        Ok(_) => tell_done(refusal),
+        Err(r) => tell_refused(r, refusal),
     }
 }

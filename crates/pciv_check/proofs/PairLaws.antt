@@ -1,60 +1,40 @@
 -- Laws of the check of two files.
---   pair_counts-first, -second, -sizes, -both    its cases
 --   pair-checked                what it has shown of the two files
 --   file-pair_counts             on the files of two lists: refusal 10, or the counts of both
 --   pair_outcome-is              what follows the check of two files follows its counts; -ready and -refused
 --   pair_answer-ready, -refused  what an answer says of its outcome
 -- Axioms: none.
+use Rattle.std.proofs.Common.{Ok, Err}
+use Rattle.pciv_format.specs.declared.RefusalKind.TheVariants.{SizeMismatch}
 use mathlib.Core.Path.{◌≡◌, refl, ◌∙◌}
 use Prim.Native.Nat.{ℕ}
 use mathlib.Core.Bool.{Bool, true, false, not}
 use mathlib.Core.List.{List}
 use lib.Dec.{eqb}
 use Rattle.pciv_format.specs.Layout.{counts_of, file_of, list_counts, Limits}
-use Rattle.pciv_format.specs.Refusals.{Outcome, done, refused, refuse, refuse_if, and_then}
+use Rattle.pciv_format.specs.Refusals.{Outcome, refuse, refuse_if, and_then}
 use Rattle.pciv_format.specs.Check.{counts_file}
 use Rattle.pciv_format.specs.Arith.{pair_outcome}
 use Rattle.pciv_format.specs.declared.Counts.{Counts}
 use Rattle.pciv_format.specs.declared.Refusal.{Refusal}
-use Rattle.pciv_format.proofs.PartsLaws.{not_eqb, eqb-not, neb-not}
+use Rattle.pciv_format.proofs.PartsLaws.{not_eqb}
 use Rattle.pciv_format.proofs.RefusalsLaws.{refuse_if-done, and_then-done}
 use Rattle.pciv_format.proofs.CheckLaws.{done-counts}
 use Rattle.pciv_format.proofs.Acceptance.{file-counted}
 use Rattle.pciv_format.proofs.ListLaws.{refuse_sizes}
-use Rattle.pciv_check.specs.Pair.{both_counts, pair_counts, pair_answer, CheckedPair}
+use Rattle.pciv_check.specs.Pair.{both_counts, pair_counts, CheckedPair}
 use Rattle.pciv_check.specs.declared.pair.PairCounts.{PairCounts}
-use Rattle.pciv_check.specs.declared.pair.PairAnswer.TheVariants.{Ready, Refused}
-
--- ---- the cases
-
-module _ (a b : List ℕ) where
-  pub pair_counts-first : (r : Refusal) → counts_file 1 a ≡ refused r → pair_counts a b ≡ refused r
-  unfolding pair_counts
-  pair_counts-first r e = rw e
-
-  module _ (s : Counts) (e : counts_file 1 a ≡ done s) where
-    pub pair_counts-second : (r : Refusal) → counts_file 2 b ≡ refused r → pair_counts a b ≡ refused r
-    unfolding pair_counts
-    pair_counts-second r f = rw (e, f)
-
-    pub pair_counts-sizes : (t : Counts) → counts_file 2 b ≡ done t → (s.n ≡ t.n → ⊥) → pair_counts a b ≡ refuse 10 0 0
-    unfolding pair_counts
-    pair_counts-sizes t f other = rw (e, f, neb-not s.n t.n other)
-
-    pub pair_counts-both : (t : Counts) → counts_file 2 b ≡ done t → s.n ≡ t.n → pair_counts a b ≡ done (both_counts s t)
-    unfolding pair_counts
-    pair_counts-both t f same = rw (e, f, eqb-not s.n t.n same)
 
 -- ---- what is checked
 
 module _ (a b : List ℕ) where
-  both-checked : (s t : Counts) (c : PairCounts) → counts_file 1 a ≡ done s → counts_file 2 b ≡ done t → s.n ≡ t.n
-      → done (both_counts s t) ≡ done c → CheckedPair a b c.n c.ka c.kb
+  both-checked : (s t : Counts) (c : PairCounts) → counts_file 1 a ≡ Ok s → counts_file 2 b ≡ Ok t → s.n ≡ t.n
+      → ◌≡◌ {A = Outcome PairCounts} (Ok (both_counts s t)) (Ok c) → CheckedPair a b c.n c.ka c.kb
   both-checked s t c e f same is =
       let counts : both_counts s t ≡ c = cc in
       rw (← counts) (record { first = (done-counts 1 a s e).0; second = rw same (done-counts 2 b t f).0 })
 
-  pub pair-checked : (c : PairCounts) → pair_counts a b ≡ done c → CheckedPair a b c.n c.ka c.kb
+  pub pair-checked : (c : PairCounts) → pair_counts a b ≡ Ok c → CheckedPair a b c.n c.ka c.kb
   unfolding pair_counts
   pair-checked c e =
       let first = and_then-done (counts_file 1 a) _ c e in
@@ -65,7 +45,7 @@ module _ (a b : List ℕ) where
 -- ---- of lists
 
 pub file-pair_counts : (xs ys : List ℕ) → Limits xs → Limits ys
-    → pair_counts (file_of xs) (file_of ys) ≡ refuse_sizes xs ys (done (both_counts (list_counts xs) (list_counts ys)))
+    → pair_counts (file_of xs) (file_of ys) ≡ refuse_sizes xs ys (Ok (both_counts (list_counts xs) (list_counts ys)))
 unfolding pair_counts counts_of
 file-pair_counts xs ys l m = rw (file-counted 1 xs l, file-counted 2 ys m)
 
@@ -77,32 +57,32 @@ module _ {A : Type 0} (a b : List ℕ) (next : ℕ → Outcome A) where
   pair_outcome-is = go (counts_file 1 a) (counts_file 2 b)
     where
       sizes : (s t : Counts) (other : Bool)
-          → refuse_if other (refuse 10 0 0) (next s.n)
-          ≡ and_then (refuse_if other (refuse 10 0 0) (done (both_counts s t))) (λ c. next c.n)
+          → refuse_if other (refuse SizeMismatch 0 0) (next s.n)
+          ≡ and_then (refuse_if other (refuse SizeMismatch 0 0) (Ok (both_counts s t))) (λ c. next c.n)
       sizes s t true = refl
       sizes s t false = refl
 
       go : (o p : Outcome Counts)
-          → and_then o (λ s. and_then p (λ t. refuse_if (not (eqb s.n t.n)) (refuse 10 0 0) (next s.n)))
+          → and_then o (λ s. and_then p (λ t. refuse_if (not (eqb s.n t.n)) (refuse SizeMismatch 0 0) (next s.n)))
           ≡ and_then
-          (and_then o (λ s. and_then p (λ t. refuse_if (not (eqb s.n t.n)) (refuse 10 0 0) (done (both_counts s t)))))
+          (and_then o (λ s. and_then p (λ t. refuse_if (not (eqb s.n t.n)) (refuse SizeMismatch 0 0) (Ok (both_counts s t)))))
           (λ c. next c.n)
-      go (done s) (done t) = sizes s t (not (eqb s.n t.n))
-      go (done s) (refused r) = refl
-      go (refused r) p = refl
+      go (Ok s) (Ok t) = sizes s t (not (eqb s.n t.n))
+      go (Ok s) (Err r) = refl
+      go (Err r) p = refl
 
-  pub pair_outcome-ready : (c : PairCounts) → pair_counts a b ≡ done c → pair_outcome a b next ≡ next c.n
+  pub pair_outcome-ready : (c : PairCounts) → pair_counts a b ≡ Ok c → pair_outcome a b next ≡ next c.n
   pair_outcome-ready c e = pair_outcome-is ∙ rw e
 
-  pub pair_outcome-refused : (r : Refusal) → pair_counts a b ≡ refused r → pair_outcome a b next ≡ refused r
+  pub pair_outcome-refused : (r : Refusal) → pair_counts a b ≡ Err r → pair_outcome a b next ≡ Err r
   pair_outcome-refused r e = pair_outcome-is ∙ rw e
 
 -- ---- answers
 
-pub pair_answer-ready : (o : Outcome PairCounts) (c : PairCounts) → Ready c ≡ pair_answer o → o ≡ done c
-pair_answer-ready (done x) c e = cc
-pair_answer-ready (refused r) c e = cc
+pub pair_answer-ready : (o : Outcome PairCounts) (c : PairCounts) → Ok c ≡ o → o ≡ Ok c
+pair_answer-ready (Ok x) c e = cc
+pair_answer-ready (Err r) c e = cc
 
-pub pair_answer-refused : (o : Outcome PairCounts) (r : Refusal) → Refused r ≡ pair_answer o → o ≡ refused r
-pair_answer-refused (done x) r e = cc
-pair_answer-refused (refused x) r e = cc
+pub pair_answer-refused : (o : Outcome PairCounts) (r : Refusal) → Err r ≡ o → o ≡ Err r
+pair_answer-refused (Ok x) r e = cc
+pair_answer-refused (Err x) r e = cc

@@ -1,15 +1,14 @@
 -- What the check of two files answers (docs/FORMAT.md, "Arithmetic").
 --   pair_counts a b            the counts of both; refusals 1 to 8 of a, then of b, then 10
---   pair_answer                the outcome as a value of the answer's type
 --   CheckedPair a b n ka kb   what inner routines know of the two
 -- Laws are in proofs/PairLaws.antt. Axioms: none.
+use Rattle.std.specs.Prelude.{Ok}
+use Rattle.pciv_format.specs.declared.RefusalKind.TheVariants.{SizeMismatch}
 use Rattle.std.specs.Prelude.{ℕ, not, List, eqb}
-use Rattle.pciv_format.specs.Refusals.{Outcome, done, refused, refuse, refuse_if, and_then}
+use Rattle.pciv_format.specs.Refusals.{Outcome, refuse, refuse_if, and_then}
 use Rattle.pciv_format.specs.Check.{counts_file, CheckedMap}
 use Rattle.pciv_format.specs.declared.Counts.{Counts}
 use Rattle.pciv_check.specs.declared.pair.PairCounts.{PairCounts}
-use Rattle.pciv_check.specs.declared.pair.PairAnswer.{PairAnswer}
-use Rattle.pciv_check.specs.declared.pair.PairAnswer.TheVariants.{Ready, Refused}
 
 abbrev pub both_counts : Counts → Counts → PairCounts
 both_counts s t = record { n = s.n; ka = s.k; kb = t.k }
@@ -17,11 +16,7 @@ both_counts s t = record { n = s.n; ka = s.k; kb = t.k }
 unfoldable pub pair_counts : List ℕ → List ℕ → Outcome PairCounts
 pair_counts a b =
     and_then (counts_file 1 a)
-    (λ s. and_then (counts_file 2 b) (λ t. refuse_if (not (eqb s.n t.n)) (refuse 10 0 0) (done (both_counts s t))))
-
-abbrev pub pair_answer : Outcome PairCounts → PairAnswer
-pair_answer (done s) = Ready s
-pair_answer (refused r) = Refused r
+    (λ s. and_then (counts_file 2 b) (λ t. refuse_if (not (eqb s.n t.n)) (refuse SizeMismatch 0 0) (Ok (both_counts s t))))
 
 pub record CheckedPair (a b : List ℕ) (n ka kb : ℕ) : Type 0 where
   pub first : CheckedMap a n ka

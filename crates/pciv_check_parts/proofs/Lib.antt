@@ -1,2 +1,1 @@
-pub mod PartsRefusalLaws
 pub mod PrimaryPartLaws

@@ -7,17 +7,14 @@
 ghost use Rattle.std.specs.Prelude.{◌≡◌};
 ghost use Rattle.pciv_bytes.specs.Ranges.{first_below};
 ghost use Rattle.pciv_format.specs.Layout.{index_len};
-ghost use Rattle.pciv_format.specs.Refusals.{counts_answer};
 ghost use Rattle.pciv_format.specs.Parts.{bad_entry, bad_slot, EntriesRight};
 ghost use Rattle.pciv_format.specs.Check.{file_parts, bad_index_entry, check_parts};
 ghost use Rattle.pciv_check_parts.specs.Inside.{PartsInside};
 
 use pciv_bytes::little_endian::{get32, get64};
-use pciv_format::{
-    BAD_INDEX_ENTRY, BAD_OVERFLOW_ENTRY, CountsAnswer, HEADER_LEN, MISSING_OVERFLOW_ENTRY, SENTINEL,
-};
+use pciv_format::{Counts, HEADER_LEN, Refusal, RefusalKind, SENTINEL};
 use pciv_layout::entries::wrong_entry;
-use pciv_layout::refusals::refuse_counts;
+use pciv_layout::refusals::refuse;
 use pciv_layout::{counts_of, index_len, index_step};
 use pciv_passes::counts::count_byte;
 
@@ -28,8 +25,7 @@ fn first_bad_entry(file: &[u8], n: usize, k: usize) -> usize
 {
     let end = HEADER_LEN + n;
     let mut lowest: usize = 0;
-    let mut j: usize = 0;
-    while j < k {
+    for j in 0..k {
         let at = end + 12 * j;
         let slot = get64(file, at);
         let distance = get32(file, at + 8);
@@ -37,7 +33,6 @@ fn first_bad_entry(file: &[u8], n: usize, k: usize) -> usize
             return j;
         }
         lowest = slot + 1;
-        j += 1;
     }
     k
 }
@@ -49,8 +44,7 @@ fn walk_slots(file: &[u8], n: usize, k: usize) -> usize
     ensures { result ≡ first_below (bad_slot (file_parts file.now n k)) n }
 {
     let mut j: usize = 0;
-    let mut i: usize = 0;
-    while i < n {
+    for i in 0..n {
         if file[HEADER_LEN + i] == SENTINEL {
             if k <= j {
                 return i;
@@ -60,7 +54,6 @@ fn walk_slots(file: &[u8], n: usize, k: usize) -> usize
             }
             j += 1;
         }
-        i += 1;
     }
     n
 }
@@ -85,8 +78,7 @@ fn first_bad_index_entry(file: &[u8], n: usize, k: usize) -> usize
 {
     let step = index_step(k);
     let m = index_len(k);
-    let mut i: usize = 0;
-    while i < m {
+    for i in 0..m {
         let j = i * step;
         let at = HEADER_LEN + n + 12 * k + 16 * i;
         if get64(file, at) != get64(file, HEADER_LEN + n + 12 * j) {
@@ -96,27 +88,27 @@ fn first_bad_index_entry(file: &[u8], n: usize, k: usize) -> usize
         if is_wrong {
             return i;
         }
-        i += 1;
     }
     m
 }
 
 // Refusals 6 to 8, else the counts.
-pub fn check_parts(file: &[u8], map: usize, n: usize, k: usize) -> CountsAnswer
+#[tactic(auto, unfolding(pciv_format::specs::Check::check_parts))]
+pub fn check_parts(file: &[u8], map: usize, n: usize, k: usize) -> Result<Counts, Refusal>
     requires { PartsInside file.now n k }
-    ensures { result ≡ counts_answer (check_parts map file.now n k) }
+    ensures { result ≡ check_parts map file.now n k }
 {
     let entry = first_bad_entry(file, n, k);
     if entry < k {
-        return refuse_counts(BAD_OVERFLOW_ENTRY, map, entry);
+        return refuse(RefusalKind::BadOverflowEntry, map, entry);
     }
     let slot = first_bad_slot(file, n, k);
     if slot < n {
-        return refuse_counts(MISSING_OVERFLOW_ENTRY, map, slot);
+        return refuse(RefusalKind::MissingOverflowEntry, map, slot);
     }
     let index = first_bad_index_entry(file, n, k);
     if index < index_len(k) {
-        return refuse_counts(BAD_INDEX_ENTRY, map, index);
+        return refuse(RefusalKind::BadIndexEntry, map, index);
     }
-    CountsAnswer::Counted(counts_of(n, k))
+    Ok(counts_of(n, k))
 }

@@ -3,6 +3,7 @@
 --   close-many, -entry, -slot    the refusals 3, 6 and 7
 --   close-sound                  else the file of sound parts
 -- Axioms: none.
+use Rattle.pciv_format.specs.declared.RefusalKind.TheVariants.{TooManySlots, BadOverflowEntry, MissingOverflowEntry}
 use mathlib.Core.Path.{◌≡◌, ap, ◌∙◌}
 use Prim.Native.Nat.{ℕ, ◌≤◌, ◌<◌}
 use mathlib.Core.List.{List}
@@ -33,31 +34,31 @@ module _ (bytes slots distances out : List ℕ) where
   unfolding close_buffer
   ends o e = (e, ap left e)
 
-  pub close-many : max_slots < length bytes → Ends (refuse 3 1 0) out
+  pub close-many : max_slots < length bytes → Ends (refuse TooManySlots 1 0) out
   unfolding close_outcome
-  close-many many = ends (refuse 3 1 0) (rw (lt-ltb max_slots (length bytes) many))
+  close-many many = ends (refuse TooManySlots 1 0) (rw (lt-ltb max_slots (length bytes) many))
 
   module _ (few : length bytes ≤ max_slots) where
     pub close-entry : (place : ℕ) → place ≡ first_below (bad_entry parts) parts.k → place < parts.k
-        → Ends (refuse 6 1 place) out
+        → Ends (refuse BadOverflowEntry 1 place) out
     unfolding close_outcome
     close-entry place e h =
-        ends (refuse 6 1 place)
-        (rw (le-ltb max_slots (length bytes) few) (refuse_first-some 6 1 (bad_entry parts) parts.k place _ e h))
+        ends (refuse BadOverflowEntry 1 place)
+        (rw (le-ltb max_slots (length bytes) few) (refuse_first-some BadOverflowEntry 1 (bad_entry parts) parts.k place _ e h))
 
     pub close-slot : EntriesRight parts → (place : ℕ) → place ≡ first_below (bad_slot parts) (length bytes)
-        → place < length bytes → Ends (refuse 7 1 place) out
+        → place < length bytes → Ends (refuse MissingOverflowEntry 1 place) out
     unfolding close_outcome
     close-slot right place e h =
-        ends (refuse 7 1 place)
+        ends (refuse MissingOverflowEntry 1 place)
         (rw (le-ltb max_slots (length bytes) few)
-        (refuse_first-none 6 1 (bad_entry parts) parts.k _ right
-        ∙ refuse_first-some 7 1 (bad_slot parts) parts.n place _ e h))
+        (refuse_first-none BadOverflowEntry 1 (bad_entry parts) parts.k _ right
+        ∙ refuse_first-some MissingOverflowEntry 1 (bad_slot parts) parts.n place _ e h))
 
     pub close-sound : SoundParts parts → Ends (parts_outcome parts (length out)) (parts_buffer parts out)
     unfolding close_outcome
     close-sound sound =
         ends (parts_outcome parts (length out))
         (rw (le-ltb max_slots (length bytes) few)
-        (refuse_first-none 6 1 (bad_entry parts) parts.k _ sound.entries
-        ∙ refuse_first-none 7 1 (bad_slot parts) parts.n _ sound.slots))
+        (refuse_first-none BadOverflowEntry 1 (bad_entry parts) parts.k _ sound.entries
+        ∙ refuse_first-none MissingOverflowEntry 1 (bad_slot parts) parts.n _ sound.slots))

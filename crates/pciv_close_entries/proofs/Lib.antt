@@ -1,2 +1,1 @@
 pub mod PassesLaws
-pub mod StepLaws

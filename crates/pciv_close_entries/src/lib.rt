@@ -1,229 +1,116 @@
-// Close over a slice of entry structs (docs/FORMAT.md, "Writing"). A call goes over the entries in passes: it checks
-// them, searches between them if the bytes 255 are not as many, and writes them. `close_entries` hands one entry
-// after another to `step`, which is all that is done with a slice of structs; a `Job` is where the call stands
-// (specs/Passes.antt).
+// Close over a slice of entry structs (docs/FORMAT.md, "Writing"): as pciv_close, with the entries in one list.
+// One pass over the entries and a count of the bytes 255 decide refusals 6 and 7; only where the count is off
+// does a search between the entries look for the least slot without one. Then the file is written.
 #![tactic(auto)]
 
-ghost use Rattle.std.specs.Prelude.{◌≡◌, ◌<◌, length};
-ghost use Rattle.pciv_format.specs.Refusals.{file_answer};
+ghost use Rattle.std.specs.Prelude.{IfOk, ◌≡◌, ◌+◌, ◌*◌, ◌≤◌, length};
+ghost use Rattle.std.proofs.lemmas.List.Edits.{sets};
+ghost use Rattle.pciv_bytes.specs.Ranges.{first_below};
+ghost use Rattle.pciv_format.specs.Layout.{max_slots, at};
+ghost use Rattle.pciv_format.specs.Parts.{bad_slot, EntriesRight, SoundParts};
 ghost use Rattle.pciv_format.specs.Write.{close_outcome, close_buffer};
-ghost use Rattle.pciv_close_entries.specs.declared.Pass.TheVariants as InPass;
-ghost use Rattle.pciv_close_entries.specs.Passes.{slots_of, distances_of, ended_job, onward_job, Starts};
-ghost use Rattle.pciv_close_entries.specs.Passes.{Ready, Advances, Right, OpensRight, Sound};
-ghost use Rattle.pciv_close_entries.specs.Passes.{OpensSound};
+ghost use Rattle.pciv_close.specs.Close.{entries_from, parts_outcome, parts_buffer};
+ghost use Rattle.pciv_close_entries.specs.Passes.{slots_of, distances_of, parts_of, entries_verdict, slots_verdict};
+ghost use Rattle.pciv_close_entries.specs.Passes.{SmallDistances};
 
 use pciv_build::{begin, finish, put_entry};
 use pciv_bytes::copies::copy_bytes;
 use pciv_bytes::find::find_byte;
-use pciv_close::close;
-use pciv_format::{
-    BAD_OVERFLOW_ENTRY, BUFFER_TOO_SMALL, CountsAnswer, Entry, FileAnswer, HEADER_LEN, MAX_SLOTS,
-    MISSING_OVERFLOW_ENTRY, SENTINEL, TOO_MANY_SLOTS,
-};
-use pciv_layout::counts_of;
+use pciv_format::{Entry, HEADER_LEN, MAX_SLOTS, Refusal, RefusalKind, SENTINEL, Summary};
 use pciv_layout::entries::wrong_entry;
-use pciv_layout::refusals::refuse_file;
+use pciv_layout::refusals::refuse;
 use pciv_map::totals::summary_of;
 use pciv_passes::counts::count_byte;
 
-// What is done with the entries.
-#[derive(Clone, Copy)]
-enum Pass {
-    Check,
-    Search,
-    Write,
-}
+// ---- what is refused
 
-// Where a call stands: the next entry, or how many there are once the call has ended; the least slot that it may
-// have, while entries are checked or searched; and the call's answer, at the end.
-#[derive(Clone, Copy)]
-struct Job {
-    next: usize,
-    lowest: usize,
-    pass: Pass,
-    answer: FileAnswer,
-}
-
-// A call that has ended.
-fn ended(k: usize, answer: FileAnswer) -> Job
-    ensures { result ≡ ended_job k answer }
+// Refusal 6, at the least entry that is wrong. Where there is none, each distance was read, and so is below 2^32.
+fn check_entries(primary: &[u8], entries: &[Entry]) -> Result<(), Refusal>
+    ensures answer { result ≡ entries_verdict (parts_of primary.now entries.now) }
+    ensures small { IfOk result (λ _. SmallDistances entries.now) }
 {
-    Job {
-        next: k,
-        lowest: 0,
-        pass: Pass::Write,
-        answer,
-    }
-}
-
-// The same answer, made of its parts: copied whole it would go through memory at each step, with the bytes that its
-// enum leaves unused.
-fn same(answer: FileAnswer) -> FileAnswer
-    ensures { result ≡ answer }
-{
-    match answer {
-        FileAnswer::Done(s) => FileAnswer::Done(s),
-        FileAnswer::Refused(r) => FileAnswer::Refused(r),
-    }
-}
-
-// The same pass at the entry after the next one.
-fn onward(job: Job, k: usize, lowest: usize) -> Job
-    requires { job.next < k }
-    ensures { result ≡ onward_job job lowest }
-{
-    let pass = job.pass;
-    let told = job.answer;
-    let answer = same(told);
-    Job {
-        next: job.next + 1,
-        lowest,
-        pass,
-        answer,
-    }
-}
-
-// The parts are sound: header and primary array, and then the pass Write; or refusal 12.
-fn open(out: &mut [u8], primary: &[u8], k: usize) -> Job
-    requires { Sound primary.now k out.old }
-    ensures { OpensSound primary.now k out.old result out.new }
-{
-    let begun = begin(out, primary.len(), k);
-    match begun {
-        CountsAnswer::Refused(r) => ended(k, FileAnswer::Refused(r)),
-        CountsAnswer::Counted(_) => {
-            copy_bytes(primary, out, HEADER_LEN);
-            Job {
-                next: 0,
-                lowest: 0,
-                pass: Pass::Write,
-                answer: refuse_file(BUFFER_TOO_SMALL, 0, 0),
-            }
+    let mut lowest: usize = 0;
+    for (j, e) in entries.iter().enumerate() {
+        let slot = e.slot as usize;
+        if wrong_entry(primary, lowest, slot, e.distance) {
+            return refuse(RefusalKind::BadOverflowEntry, 1, j);
         }
+        lowest = slot + 1;
     }
+    Ok(())
 }
 
-// Every entry is right. Where the bytes 255 are as many, the parts are sound; else the pass Search is next.
-fn checked(out: &mut [u8], primary: &[u8], k: usize) -> Job
-    requires { Right primary.now k out.old }
-    ensures { OpensRight primary.now k out.old result out.new }
+// The least slot with byte 255 that no entry has, or n, by a search between the entries.
+fn search_slots(primary: &[u8], entries: &[Entry]) -> usize
+    requires { EntriesRight (parts_of primary.now entries.now) }
+    ensures { result ≡ first_below (bad_slot (parts_of primary.now entries.now)) (length primary.now) }
 {
-    if count_byte(primary, SENTINEL) == k {
-        return open(out, primary, k);
+    let mut from: usize = 0;
+    for e in entries {
+        let slot = e.slot as usize;
+        let full = find_byte(primary, from, slot, SENTINEL);
+        if full < slot {
+            return full;
+        }
+        from = slot + 1;
     }
-    Job {
-        next: 0,
-        lowest: 0,
-        pass: Pass::Search,
-        answer: refuse_file(MISSING_OVERFLOW_ENTRY, 1, 0),
-    }
+    find_byte(primary, from, primary.len(), SENTINEL)
 }
 
-// An entry in the pass Check.
-fn check_next(out: &mut [u8], primary: &[u8], k: usize, job: Job, e: Entry) -> Job
-    requires ready { Ready primary.now k job e out.old }
-    requires pass_value { job.pass ≡ InPass.Check }
-    ensures { Advances primary.now k job e out.old result out.new }
+// Refusal 7, at that slot; where the bytes 255 are as many as the entries, each has one.
+fn check_slots(primary: &[u8], entries: &[Entry]) -> Result<(), Refusal>
+    requires { EntriesRight (parts_of primary.now entries.now) }
+    ensures { result ≡ slots_verdict (parts_of primary.now entries.now) }
 {
-    let slot = e.slot as usize;
-    if wrong_entry(primary, job.lowest, slot, e.distance) {
-        return ended(k, refuse_file(BAD_OVERFLOW_ENTRY, 1, job.next));
+    if count_byte(primary, SENTINEL) == entries.len() {
+        return Ok(());
     }
-    let then = onward(job, k, slot + 1);
-    if then.next < k {
-        return then;
+    let slot = search_slots(primary, entries);
+    if slot < primary.len() {
+        return refuse(RefusalKind::MissingOverflowEntry, 1, slot);
     }
-    checked(out, primary, k)
+    Ok(())
 }
 
-// An entry in the pass Search.
-fn search_next(out: &mut [u8], primary: &[u8], k: usize, job: Job, e: Entry) -> Job
-    requires ready { Ready primary.now k job e out.old }
-    requires pass_value { job.pass ≡ InPass.Search }
-    ensures { Advances primary.now k job e out.old result out.new }
+// ---- what is written
+
+// The entries in their order, from `start` on.
+fn put_entries(out: &mut [u8], start: usize, entries: &[Entry])
+    requires { start + 12 * length entries.now ≤ length out.old }
+    ensures { out.new ≡ sets out.old start (entries_from (at (slots_of entries.now)) (at (distances_of entries.now)) 0 (length entries.now)) }
 {
-    let slot = e.slot as usize;
-    let full = find_byte(primary, job.lowest, slot, SENTINEL);
-    if full < slot {
-        return ended(k, refuse_file(MISSING_OVERFLOW_ENTRY, 1, full));
+    for (j, e) in entries.iter().enumerate() {
+        put_entry(out, start + 12 * j, e.slot as usize, e.distance);
     }
-    let then = onward(job, k, slot + 1);
-    if then.next < k {
-        return then;
-    }
-    let n = primary.len();
-    let last = find_byte(primary, slot + 1, n, SENTINEL);
-    if last < n {
-        return ended(k, refuse_file(MISSING_OVERFLOW_ENTRY, 1, last));
-    }
-    open(out, primary, k)
 }
 
-// An entry in the pass Write.
-fn write_next(out: &mut [u8], primary: &[u8], k: usize, job: Job, e: Entry) -> Job
-    requires ready { Ready primary.now k job e out.old }
-    requires pass_value { job.pass ≡ InPass.Write }
-    ensures { Advances primary.now k job e out.old result out.new }
+// The file of sound parts. Refusal: 12.
+fn put_file(out: &mut [u8], primary: &[u8], entries: &[Entry]) -> Result<Summary, Refusal>
+    requires primary_len_bound { length primary.now ≤ max_slots }
+    requires sound_parts { SoundParts (parts_of primary.now entries.now) }
+    requires small { SmallDistances entries.now }
+    ensures answer { result ≡ parts_outcome (parts_of primary.now entries.now) (length out.old) }
+    ensures buffer { out.new ≡ parts_buffer (parts_of primary.now entries.now) out.old }
 {
     let n = primary.len();
-    put_entry(
-        out,
-        HEADER_LEN + n + 12 * job.next,
-        e.slot as usize,
-        e.distance,
-    );
-    let then = onward(job, k, 0);
-    if then.next < k {
-        return then;
-    }
+    let k = entries.len();
+    let counts = begin(out, n, k)?;
+    copy_bytes(primary, out, HEADER_LEN);
+    put_entries(out, HEADER_LEN + n, entries);
     finish(out, n, k);
-    let counts = counts_of(n, k);
-    ended(k, FileAnswer::Done(summary_of(out, counts)))
-}
-
-// What the pass does with the next entry.
-fn step(out: &mut [u8], primary: &[u8], k: usize, job: Job, e: Entry) -> Job
-    requires { Ready primary.now k job e out.old }
-    ensures { Advances primary.now k job e out.old result out.new }
-{
-    let pass = job.pass;
-    match pass {
-        Pass::Check => check_next(out, primary, k, job, e),
-        Pass::Search => search_next(out, primary, k, job, e),
-        Pass::Write => write_next(out, primary, k, job, e),
-    }
-}
-
-// A call with k entries begins: the pass Check, or the end where nothing is to be read.
-fn start(out: &mut [u8], primary: &[u8], k: usize) -> Job
-    ensures { Starts primary.now k out.old result out.new }
-{
-    if MAX_SLOTS < primary.len() {
-        return ended(k, refuse_file(TOO_MANY_SLOTS, 1, 0));
-    }
-    if k == 0 {
-        let slots: [usize; 0] = [0; 0];
-        let distances: [u32; 0] = [0; 0];
-        return ended(k, close(primary, &slots, &distances, out));
-    }
-    Job {
-        next: 0,
-        lowest: 0,
-        pass: Pass::Check,
-        answer: refuse_file(BAD_OVERFLOW_ENTRY, 1, 0),
-    }
+    Ok(summary_of(out, counts))
 }
 
 // As `close`, with the entries as structs.
-pub fn close_entries(primary: &[u8], entries: &[Entry], out: &mut [u8]) -> FileAnswer
-    ensures answer { result ≡ file_answer (close_outcome primary.now (slots_of entries.now) (distances_of entries.now) (length out.old)) }
+#[tactic(auto, unfolding(pciv_format::specs::Write::close_outcome, pciv_format::specs::Write::close_buffer))]
+pub fn close_entries(primary: &[u8], entries: &[Entry], out: &mut [u8]) -> Result<Summary, Refusal>
+    ensures answer { result ≡ close_outcome primary.now (slots_of entries.now) (distances_of entries.now) (length out.old) }
     ensures buffer { out.new ≡ close_buffer primary.now (slots_of entries.now) (distances_of entries.now) out.old }
 {
-    let k = entries.len();
-    let mut job = start(out, primary, k);
-    while job.next < k {
-        let i = job.next;
-        job = step(out, primary, k, job, entries[i]);
+    if MAX_SLOTS < primary.len() {
+        return refuse(RefusalKind::TooManySlots, 1, 0);
     }
-    job.answer
+    check_entries(primary, entries)?;
+    check_slots(primary, entries)?;
+    put_file(out, primary, entries)
 }

@@ -6,6 +6,7 @@
 --   figure-exact     two maps with counts c: both parts are at most 2 ^ 53, so that both are floats without loss, and
 --                    the figure is the float that is nearest to their fraction
 -- Axioms: none.
+use Rattle.std.proofs.Common.{Ok, Err}
 use mathlib.Core.Path.{◌≡◌, refl, sym, ap, ap₂, ◌∙◌}
 use Prim.Native.Nat.{ℕ, ◌+◌, ◌-◌, ◌^◌, ◌≤◌, ◌<◌, min, max}
 use native.Mathlib.Omega.{arith}
@@ -21,7 +22,7 @@ use Rattle.pciv_bytes.specs.LittleEndian.{Bytes}
 use Rattle.pciv_passes.specs.declared.extremes.Extremes.{Extremes}
 use Rattle.pciv_bytes.proofs.SumLaws.{sum_from-cong, sum_from-plus, sum_from-flag-le}
 use Rattle.pciv_format.specs.Layout.{at}
-use Rattle.pciv_format.specs.Refusals.{Outcome, done, refused}
+use Rattle.pciv_format.specs.Refusals.{Outcome}
 use Rattle.pciv_format.specs.Parts.{value_of}
 use Rattle.pciv_format.specs.Check.{file_parts}
 use Rattle.pciv_format.specs.Read.{list_of, total}
@@ -165,7 +166,7 @@ module _ (a b : List ℕ) (n ka kb : ℕ) (pair : CheckedPair a b n ka kb) where
 
 -- what follows the check
 abbrev fraction : Weight → List ℕ → List ℕ → ℕ → Outcome Float
-fraction w a b n = done (quotient (numerator_of w (list_of a) (list_of b)) (denominator_of w (list_of a) (list_of b)))
+fraction w a b n = Ok (quotient (numerator_of w (list_of a) (list_of b)) (denominator_of w (list_of a) (list_of b)))
 
 figure-is : (w : Weight) (a b : List ℕ) → figure_outcome w a b ≡ pair_outcome a b (fraction w a b)
 unfolding bray_curtis_outcome jaccard_outcome
@@ -173,10 +174,10 @@ figure-is Distance a b = refl
 figure-is (From t) a b = refl
 
 module _ (w : Weight) (a b : List ℕ) where
-  pub figure-refused : (r : Refusal) → pair_counts a b ≡ refused r → figure_outcome w a b ≡ refused r
+  pub figure-refused : (r : Refusal) → pair_counts a b ≡ Err r → figure_outcome w a b ≡ Err r
   figure-refused r e = figure-is w a b ∙ pair_outcome-refused a b (fraction w a b) r e
 
-  module _ (c : PairCounts) (e : pair_counts a b ≡ done c) where
+  module _ (c : PairCounts) (e : pair_counts a b ≡ Ok c) where
     checked : CheckedPair a b c.n c.ka c.kb
     checked = pair-checked a b c e
 
@@ -185,15 +186,15 @@ module _ (w : Weight) (a b : List ℕ) where
 
     pub figure-ready : (r : Extremes)
         → Weighed (weight_of w) (value_of (file_parts a c.n c.ka)) (value_of (file_parts b c.n c.kb)) c.n r
-        → figure_outcome w a b ≡ done (quotient (r.most - r.least) (divisor_of w r.least r.most))
+        → figure_outcome w a b ≡ Ok (quotient (r.most - r.least) (divisor_of w r.least r.most))
     figure-ready r x =
         let are = parts_are a b c.n c.ka c.kb checked r w x in
-        figure-done ∙ ap done (ap₂ quotient are.0 are.1)
+        figure-done ∙ ap Ok (ap₂ quotient are.0 are.1)
 
     pub figure-exact : Bytes a → Bytes b
         → let p : ℕ = numerator_of w (list_of a) (list_of b) in
         let q : ℕ = denominator_of w (list_of a) (list_of b) in
-        (p ≤ 2 ^ 53) × (q ≤ 2 ^ 53) × (0 < q → figure_outcome w a b ≡ done (round binary64 false p q))
+        (p ≤ 2 ^ 53) × (q ≤ 2 ^ 53) × (0 < q → figure_outcome w a b ≡ Ok (round binary64 false p q))
     figure-exact bytes_a bytes_b =
         let u : ℕ → ℕ = value_of (file_parts a c.n c.ka) in
         let v : ℕ → ℕ = value_of (file_parts b c.n c.kb) in
@@ -204,4 +205,4 @@ module _ (w : Weight) (a b : List ℕ) where
         let fit = parts-fit a b c.n c.ka c.kb checked r bytes_a bytes_b w x in
         let p : numerator_of w (list_of a) (list_of b) ≤ 2 ^ 53 = omega (arith, are.0, fit.1) in
         let q : denominator_of w (list_of a) (list_of b) ≤ 2 ^ 53 = omega (arith, are.1, fit.2) in
-        (p, q, λ above. figure-done ∙ ap done (quotient-nearest _ _ p q above))
+        (p, q, λ above. figure-done ∙ ap Ok (quotient-nearest _ _ p q above))

@@ -4,7 +4,7 @@
 --   combined-shared        what a walk along the entries of the first map finds
 --   weighed-overflow       what the distances weigh more than their bytes, from the overflow entries
 --   weighed-bytes          what the primary bytes weigh, as parts of the files
---   weighed-distance, weighed-from, late-distance, late-from    what the distances weigh, from the two
+--   weighed-distance, weighed-from    what the distances weigh, from the two
 -- Axioms: none.
 use mathlib.Core.Path.{◌≡◌, refl, sym, ap, ap₂, ◌∙◌}
 use Prim.Native.Nat.{ℕ, ◌+◌, ◌-◌, ◌*◌, ◌^◌, ◌≤◌, ◌<◌, min, max}
@@ -201,13 +201,7 @@ module _ (A B : Parts) (n : A.n ≡ B.n) (sa : SoundParts A) (sb : SoundParts B)
       weighed-capped (term_of (Passing (AtLeast t))) (weight_of (From t)) (λ x. ap flag (leb-capped t x h)) r w
 
 -- distances weigh more than their bytes only above 255
-pub late-distance : Late Distance
-late-distance x low = omega arith
-
 -- a threshold above 255 is met by no byte
-pub late-from : (t : ℕ) → 255 < t → Late (From t)
-late-from t h x low = ap flag (lt-leb t x (omega arith))
-
 -- ---- the primary bytes as parts of the files
 
 module _ (a b : List ℕ) (n ka kb : ℕ) (ca : CheckedMap a n ka) (cb : CheckedMap b n kb) where

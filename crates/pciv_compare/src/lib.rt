@@ -6,13 +6,12 @@
 mod weigh;
 
 ghost use Rattle.std.specs.Prelude.{◌≡◌, ◌+◌, ◌^◌, ◌≤◌};
-ghost use Rattle.pciv_format.specs.Refusals.{figure_answer};
 ghost use Rattle.pciv_format.specs.Figures.{quotient, bray_curtis_outcome, jaccard_outcome};
 ghost use Rattle.pciv_compare.specs.Figure.{divisor_of, figure_outcome};
 
 use crate::weigh::{Weight, weigh};
-use pciv_check::pair::{PairAnswer, check_pair};
-use pciv_format::FigureAnswer;
+use pciv_check::pair::check_pair;
+use pciv_format::Refusal;
 
 // The first number over the second, or 0.0 where that is 0. Neither conversion loses anything.
 fn divide(p: usize, q: usize) -> f64
@@ -37,37 +36,29 @@ fn divisor(of: Weight, least: usize, most: usize) -> usize
 }
 
 // The figure of a weight. Refusals: 1 to 8 of the first map, 1 to 8 of the second, then 10.
-fn figure(of: Weight, a: &[u8], b: &[u8]) -> FigureAnswer
-    ensures { result ≡ figure_answer (figure_outcome of a.now b.now) }
+fn figure(of: Weight, a: &[u8], b: &[u8]) -> Result<f64, Refusal>
+    ensures { result ≡ figure_outcome of a.now b.now }
 {
-    let checked = check_pair(a, b);
-    match checked {
-        PairAnswer::Refused(r) => FigureAnswer::Refused(r),
-        PairAnswer::Ready(c) => {
-            let n = c.n;
-            let ka = c.ka;
-            let kb = c.kb;
-            let sums = weigh(of, a, b, n, ka, kb);
-            let least = sums.least;
-            let most = sums.most;
-            let q = divisor(of, least, most);
-            FigureAnswer::Quotient(divide(most - least, q))
-        }
-    }
+    let pair = check_pair(a, b)?;
+    let sums = weigh(of, a, b, pair.n, pair.ka, pair.kb);
+    let least = sums.least;
+    let most = sums.most;
+    let q = divisor(of, least, most);
+    Ok(divide(most - least, q))
 }
 
 // Bray-Curtis: the sum of all |a - b| over the sum of all a + b; 0.0 where that is 0.
 // Refusals: 1 to 8 of the first map, 1 to 8 of the second, then 10.
-pub fn bray_curtis(a: &[u8], b: &[u8]) -> FigureAnswer
-    ensures answer { result ≡ figure_answer (bray_curtis_outcome a.now b.now) }
+pub fn bray_curtis(a: &[u8], b: &[u8]) -> Result<f64, Refusal>
+    ensures answer { result ≡ bray_curtis_outcome a.now b.now }
 {
     figure(Weight::Distance, a, b)
 }
 
 // Jaccard at t: the slots at t or above in exactly one map over those in either; 0.0 where there are none.
 // Refusals: 1 to 8 of the first map, 1 to 8 of the second, then 10.
-pub fn jaccard(a: &[u8], b: &[u8], t: u32) -> FigureAnswer
-    ensures answer { result ≡ figure_answer (jaccard_outcome t a.now b.now) }
+pub fn jaccard(a: &[u8], b: &[u8], t: u32) -> Result<f64, Refusal>
+    ensures answer { result ≡ jaccard_outcome t a.now b.now }
 {
     figure(Weight::From(t), a, b)
 }

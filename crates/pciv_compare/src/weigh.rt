@@ -38,7 +38,7 @@ fn beyond(of: Weight, x: u32) -> usize
     ensures { result ≡ beyond_of of x }
 {
     match of {
-        Weight::Distance => if x <= 255 { 0 } else { (x - 255) as usize },
+        Weight::Distance => x.saturating_sub(255) as usize,
         Weight::From(t) => (t <= x) as usize,
     }
 }
@@ -49,10 +49,8 @@ fn weigh_entries(of: Weight, file: &[u8], n: usize, k: usize) -> usize
     ensures { result ≡ sum_from (λ (j : ℕ). beyond_of of ((file_parts file.now n k).distance j)) 0 k }
 {
     let mut sum: usize = 0;
-    let mut j = 0;
-    while j < k {
+    for j in 0..k {
         sum += beyond(of, entry_distance(file, n, j));
-        j += 1;
     }
     sum
 }
@@ -65,12 +63,10 @@ fn weigh_shared(of: Weight, a: &[u8], b: &[u8], n: usize, ka: usize, kb: usize) 
 {
     let mut sum: usize = 0;
     let mut t: usize = 0;
-    let mut j: usize = 0;
-    while j < ka {
+    for j in 0..ka {
         let found = combine_entry(SlotOp::Minimum, a, b, n, ka, kb, j, t);
         sum += beyond(of, found.distance);
         t = found.next;
-        j += 1;
     }
     sum
 }

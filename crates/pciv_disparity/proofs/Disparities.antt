@@ -9,6 +9,7 @@
 --   frame-filled        by a filled table, for the list of the disparities' distances
 --   frame-read          what is written is accepted with the answer, and read as that list
 -- DisparityCases.antt computes examples. Axioms: none.
+use Rattle.std.proofs.Common.{Ok}
 use mathlib.Core.Path.{◌≡◌, refl, sym, ap, ◌∙◌}
 use Prim.Native.Nat.{ℕ, zero, suc, ◌+◌, ◌*◌, ◌/◌, ◌≤◌, ◌<◌}
 use native.Mathlib.Nat.{zero-add, mul-le-mul_left, div-mul-le_self, div-le_self, div-eq_of_lt, lt-mul-div-succ, mul_comm}
@@ -22,7 +23,6 @@ use Rattle.pciv_bytes.specs.LittleEndian.{Bytes}
 use Rattle.pciv_bytes.specs.ByteAt.{byte_at}
 use Rattle.pciv_bytes.proofs.RangesLaws.{length-table, get_or-table, get_or-map_inside, map-cong}
 use Rattle.pciv_format.specs.Layout.{max_slots, max_distance, at}
-use Rattle.pciv_format.specs.Refusals.{done}
 use Rattle.pciv_format.specs.Write.{write_outcome, write_buffer}
 use Rattle.pciv_format.specs.declared.Summary.{Summary}
 use Rattle.pciv_format.proofs.LayoutLaws.{file-cong, summary-cong}
@@ -142,7 +142,7 @@ module _ (T bytes : List ℕ) where
       let s = summary-cong n (frame_distance T bytes) (at (map (at T) bytes)) list_at in
       rw (list_length, f, s) (refl, refl)
 
-  few : (out : List ℕ) (s : Summary) → frame_outcome T bytes (length out) ≡ done s → length bytes ≤ max_slots
+  few : (out : List ℕ) (s : Summary) → frame_outcome T bytes (length out) ≡ Ok s → length bytes ≤ max_slots
   few out s e =
       elim (dec_le (length bytes) max_slots) [
         | yes h ↦ h

@@ -3,6 +3,8 @@
 --   falls-case, reading-case, quotient-case, limit-case, write-case, read-case
 --              the theorems of Disparities.antt at these: what they ask for is there
 -- Axioms: none.
+use Rattle.std.proofs.Common.{Ok, Err}
+use Rattle.pciv_format.specs.declared.RefusalKind.TheVariants.{BufferTooSmall, ZeroConstant}
 use mathlib.Core.Path.{◌≡◌, refl}
 use Prim.Native.Nat.{ℕ, ◌+◌, ◌*◌, ◌≤◌, ◌<◌}
 use native.Mathlib.Omega.{arith}
@@ -12,10 +14,9 @@ use Rattle.pciv_bytes.specs.Ranges.{table, positions, joined, sum_from}
 use Rattle.pciv_bytes.specs.LittleEndian.{le}
 use Rattle.pciv_format.specs.Layout.{index_step, index_len, file_len, primary, overflow_slots, overflow_count, overflow_entry}
 use Rattle.pciv_format.specs.Layout.{overflow_part, index_entry, index_part, header, file, counts_of, summary, at, file_of}
-use Rattle.pciv_format.specs.Refusals.{done, refuse}
+use Rattle.pciv_format.specs.Refusals.{refuse}
 use Rattle.pciv_format.specs.Read.{list_of}
 use Rattle.pciv_format.specs.Write.{write_buffer}
-use Rattle.pciv_format.specs.declared.Verdict.TheVariants as InVerdict
 use Rattle.pciv_disparity.specs.Disparity.{disparity_distance, disparity_table, table_outcome, table_answer}
 use Rattle.pciv_disparity.specs.Disparity.{frame_outcome, frame_buffer}
 use Rattle.pciv_disparity.proofs.Disparities.{distance-quotient, disparity-falls, disparity-reading}
@@ -40,26 +41,26 @@ Tables =
     × (entries 4294967295 (0 ∷ 1 ∷ 2 ∷ 255 ∷ []) ≡ 0 ∷ 4294967295 ∷ 2147483647 ∷ 16843009 ∷ [])
     × (disparity_table 1 ≡ 0 ∷ replicate 255 1)
     × (disparity_table 0 ≡ replicate 256 0)
-    × (table_outcome 0 ≡ refuse 19 0 0)
+    × (table_outcome 0 ≡ refuse ZeroConstant 0 0)
     × (table_answer 0
     ≡ record {
-      verdict = InVerdict.Refused (record { number = 19; map = 0; place = 0 });
+      verdict = Err (record { kind = ZeroConstant; map = 0; place = 0 });
       table = replicate 256 0;
     })
-    × (table_outcome 255 ≡ done (disparity_table 255))
+    × (table_outcome 255 ≡ Ok (disparity_table 255))
 
 abbrev Frames : Type 0
 Frames =
     (frame_outcome (disparity_table 510) frame 69
-    ≡ done (record { n = 5; k = 2; m = 0; step = 0; len = 69; sum = 937 }))
-    × (frame_outcome (disparity_table 510) frame 68 ≡ refuse 12 0 0)
+    ≡ Ok (record { n = 5; k = 2; m = 0; step = 0; len = 69; sum = 937 }))
+    × (frame_outcome (disparity_table 510) frame 68 ≡ refuse BufferTooSmall 0 0)
     × (frame_buffer (disparity_table 510) frame (replicate 71 7) ≡ file_of distances ++ (7 ∷ 7 ∷ []))
     × (frame_buffer (disparity_table 510) frame (replicate 68 7) ≡ replicate 68 7)
     × (frame_buffer (replicate 256 0) frame (replicate 45 7) ≡ file_of (0 ∷ 0 ∷ 0 ∷ 0 ∷ 0 ∷ []))
     × (frame_outcome (replicate 256 0) frame 45
-    ≡ done (record { n = 5; k = 0; m = 0; step = 0; len = 45; sum = 0 }))
+    ≡ Ok (record { n = 5; k = 0; m = 0; step = 0; len = 45; sum = 0 }))
     × (frame_buffer (disparity_table 510) [] (replicate 40 7) ≡ file_of [])
-    × (frame_outcome (disparity_table 510) [] 39 ≡ refuse 12 0 0)
+    × (frame_outcome (disparity_table 510) [] 39 ≡ refuse BufferTooSmall 0 0)
 
 pub further : Tables × Frames
 unfolding
@@ -100,7 +101,7 @@ unfolding table disparity_distance disparity_table
 write-case = (frame-write (disparity_table 510) frame (replicate 71 7)).1
 
 done-case : frame_outcome (disparity_table 510) frame (length (replicate {A = ℕ} 71 7))
-    ≡ done (record { n = 5; k = 2; m = 0; step = 0; len = 69; sum = 937 })
+    ≡ Ok (record { n = 5; k = 2; m = 0; step = 0; len = 69; sum = 937 })
 unfolding
     table positions joined sum_from le index_step index_len file_len primary
     overflow_slots overflow_count overflow_entry overflow_part index_entry index_part header file counts_of summary

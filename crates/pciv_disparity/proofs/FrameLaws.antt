@@ -10,6 +10,7 @@
 --   front-opened, front-is     the beginning by these bytes is that by the table
 --   counts-k                   k, as it is counted
 -- Axioms: none.
+use Rattle.std.proofs.Common.{Ok, Err}
 use mathlib.Core.Path.{◌≡◌, refl, sym, ap, ◌∙◌}
 use Prim.Native.Nat.{ℕ, suc, ◌+◌, ◌*◌, ◌/◌, ◌%◌, ◌≤◌, ◌<◌}
 use native.Mathlib.Nat.{zero-add}
@@ -28,9 +29,8 @@ use Rattle.pciv_bytes.proofs.SumLaws.{sum_from-cong}
 use Rattle.pciv_bytes.proofs.WriteLaws.{sets-swap}
 use Rattle.pciv_format.specs.Layout.{max_slots, primary_byte, in_overflow, primary, overflow_count, file_len, header}
 use Rattle.pciv_format.specs.Layout.{counts_of, at}
-use Rattle.pciv_format.specs.Refusals.{done, refused, counts_answer}
+use Rattle.pciv_format.specs.Refusals.{Outcome}
 use Rattle.pciv_format.specs.declared.Counts.{Counts}
-use Rattle.pciv_format.specs.declared.CountsAnswer.{CountsAnswer}
 use Rattle.pciv_format.specs.declared.Refusal.{Refusal}
 use Rattle.pciv_format.proofs.RefusalsLaws.{refuse_if-done}
 use Rattle.pciv_format.proofs.PartsLaws.{primary_byte-min, primary_byte-full}
@@ -156,14 +156,14 @@ module _ (n k : ℕ) (v : ℕ → ℕ) (d : List ℕ) where
   begun-fits h = rw (le-ltb (length d) (file_len n k) h)
 
   -- as `begin` leaves it, and then the primary array
-  pub begun-refused : (r : Refusal) → begin_outcome n k (length d) ≡ refused r → begun_buffer n k v d ≡ begin_buffer n k d
+  pub begun-refused : (r : Refusal) → begin_outcome n k (length d) ≡ Err r → begun_buffer n k v d ≡ begin_buffer n k d
   begun-refused r e =
       elim (dec_le (file_len n k) (length d)) [
         | yes fits ↦ (let t = (begin-fits n k d fits).0 in let z : ◌≡◌ {A = ℕ} 0 1 = cc in absurd (omega arith))
         | no short ↦ begun-short (omega arith) ∙ sym (begin-short n k d (omega arith)).1
       ]
 
-  pub begun-done : (s : Counts) → begin_outcome n k (length d) ≡ done s
+  pub begun-done : (s : Counts) → begin_outcome n k (length d) ≡ Ok s
       → begun_buffer n k v d ≡ sets (begin_buffer n k d) 40 (primary n v)
   begun-done s e =
       let b = begun n k d s e in
@@ -184,8 +184,8 @@ module _ (n k : ℕ) (v : ℕ → ℕ) (d : List ℕ) where
 
 module _ (T frame : List ℕ) (small : Bytes frame) (few : length frame ≤ max_slots)
     (each : Fits (length frame) (frame_distance T frame)) (d : List ℕ) where
-  pub front-opened : (k : ℕ) (a : CountsAnswer) → k ≡ overflow_count (length frame) (frame_distance T frame)
-      → a ≡ counts_answer (front_outcome (bytes_of T) frame (length d))
+  pub front-opened : (k : ℕ) (a : Outcome Counts) → k ≡ overflow_count (length frame) (frame_distance T frame)
+      → a ≡ front_outcome (bytes_of T) frame (length d)
       → Opened (length frame) k (frame_distance T frame) (frame_outcome T frame (length d)) d a
       (begin_buffer (length frame) k d)
   front-opened k a count answer =
@@ -205,7 +205,7 @@ module _ (T frame : List ℕ) (small : Bytes frame) (few : length frame ≤ max_
       is ∙ rw (bytes_count T frame small (length frame), bytes-primary T frame small (length frame), count)
 
 -- k, as it is counted
-pub counts-k : (n k capacity : ℕ) (s : Counts) → begin_outcome n k capacity ≡ done s → s.k ≡ k
+pub counts-k : (n k capacity : ℕ) (s : Counts) → begin_outcome n k capacity ≡ Ok s → s.k ≡ k
 unfolding begin_outcome counts_of
 counts-k n k capacity s e =
-    let t = (refuse_if-done (ltb capacity (file_len n k)) _ (done (counts_of n k)) s e).1 in cc
+    let t = (refuse_if-done (ltb capacity (file_len n k)) _ (Ok (counts_of n k)) s e).1 in cc

@@ -8,11 +8,13 @@
 --   frame_outcome T bytes capacity, frame_buffer T bytes out
 --                              the map of a frame by a table: its summary; the buffer afterwards
 -- Laws are in proofs/DisparityLaws.antt, the theorems in proofs/Disparities.antt. Axioms: none.
+use Rattle.std.specs.Prelude.{Ok}
+use Rattle.pciv_format.specs.declared.RefusalKind.TheVariants.{TooManySlots, ZeroConstant}
 use Rattle.std.specs.Prelude.{ℕ, ◌/◌, max, cond, List, length, replicate, ltb, eqb}
 use Rattle.pciv_bytes.specs.Ranges.{table}
 use Rattle.pciv_bytes.specs.ByteAt.{byte_at}
 use Rattle.pciv_format.specs.Layout.{max_slots, at}
-use Rattle.pciv_format.specs.Refusals.{Outcome, done, refuse, refuse_if, verdict_of}
+use Rattle.pciv_format.specs.Refusals.{Outcome, refuse, refuse_if, verdict_of}
 use Rattle.pciv_format.specs.Write.{file_into, file_buffer}
 use Rattle.pciv_format.specs.declared.Summary.{Summary}
 use Rattle.pciv_disparity.specs.declared.TableAnswer.{TableAnswer}
@@ -27,7 +29,7 @@ unfoldable pub disparity_table : ℕ → List ℕ
 disparity_table F = cond (eqb F 0) (replicate 256 0) (table (disparity_distance F) 0 256)
 
 unfoldable pub table_outcome : ℕ → Outcome (List ℕ)
-table_outcome F = refuse_if (eqb F 0) (refuse 19 0 0) (done (disparity_table F))
+table_outcome F = refuse_if (eqb F 0) (refuse ZeroConstant 0 0) (Ok (disparity_table F))
 
 -- the table comes with a refusal too
 abbrev pub table_answer : ℕ → TableAnswer
@@ -40,7 +42,7 @@ frame_distance T bytes i = at T (byte_at bytes i)
 
 unfoldable pub frame_outcome : List ℕ → List ℕ → ℕ → Outcome Summary
 frame_outcome T bytes capacity =
-    refuse_if (ltb max_slots (length bytes)) (refuse 3 1 0) (file_into (length bytes) (frame_distance T bytes) capacity)
+    refuse_if (ltb max_slots (length bytes)) (refuse TooManySlots 1 0) (file_into (length bytes) (frame_distance T bytes) capacity)
 
 unfoldable pub frame_buffer : List ℕ → List ℕ → List ℕ → List ℕ
 frame_buffer T bytes out = file_buffer (frame_outcome T bytes (length out)) (length bytes) (frame_distance T bytes) out

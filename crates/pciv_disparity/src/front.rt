@@ -6,14 +6,13 @@ ghost use Rattle.pciv_bytes.specs.Ranges.{sum_from};
 ghost use Rattle.pciv_bytes.specs.LittleEndian.{Bytes};
 ghost use Rattle.pciv_bytes.specs.ByteAt.{byte_from};
 ghost use Rattle.pciv_format.specs.Layout.{max_slots, primary, overflow_count, at};
-ghost use Rattle.pciv_format.specs.Refusals.{counts_answer};
 ghost use Rattle.pciv_disparity.specs.Disparity.{frame_distance};
 ghost use Rattle.pciv_disparity.specs.Frames.{bytes_of, high_of, front_outcome, front_buffer};
 
 use pciv_build::begin;
 use pciv_bytes::find::find_byte;
 use pciv_bytes::little_endian::put16;
-use pciv_format::{CountsAnswer, HEADER_LEN, SENTINEL, UNINDEXED_MAX};
+use pciv_format::{Counts, HEADER_LEN, Refusal, SENTINEL, UNINDEXED_MAX};
 use pciv_layout::primary_byte;
 use pciv_passes::counts::{count_byte, count_from};
 
@@ -22,11 +21,9 @@ pub(crate) fn primary_bytes(table: &[u32; 256]) -> [u8; 256]
     ensures { result ≡ bytes_of table.now }
 {
     let mut bytes: [u8; 256] = [0; 256];
-    let mut d = 0;
-    while d < 256 {
+    for d in 0..256 {
         let x = table[d];
         bytes[d] = primary_byte(x);
-        d += 1;
     }
     bytes
 }
@@ -37,10 +34,8 @@ fn high_bytes(bytes: &[u8; 256]) -> [u16; 256]
     ensures { result ≡ high_of bytes.now }
 {
     let mut high: [u16; 256] = [0; 256];
-    let mut d = 0;
-    while d < 256 {
+    for d in 0..256 {
         high[d] = 256 * bytes[d] as u16;
-        d += 1;
     }
     high
 }
@@ -96,10 +91,8 @@ fn count_each(frame: &[u8], bytes: &[u8; 256]) -> usize
         (frame_distance bytes.now frame.now) }
 {
     let mut count: u32 = 0;
-    let mut i = 0;
-    while i < frame.len() {
-        count += (bytes[frame[i] as usize] == SENTINEL) as u32;
-        i += 1;
+    for d in frame {
+        count += (bytes[*d as usize] == SENTINEL) as u32;
     }
     count as usize
 }
@@ -123,31 +116,26 @@ fn count_full(frame: &[u8], bytes: &[u8; 256]) -> usize
 }
 
 // Header and primary array where the slots in overflow are counted first.
-fn put_counted(out: &mut [u8], frame: &[u8], bytes: &[u8; 256]) -> CountsAnswer
+fn put_counted(out: &mut [u8], frame: &[u8], bytes: &[u8; 256]) -> Result<Counts, Refusal>
     requires frame_len_bound { length frame.now ≤ max_slots }
     requires bytes { Bytes bytes.now }
     ensures answer { result
-        ≡ counts_answer (front_outcome bytes.now frame.now (length out.old)) }
+        ≡ front_outcome bytes.now frame.now (length out.old) }
     ensures buffer { out.new
         ≡ front_buffer bytes.now frame.now out.old }
 {
-    let begun = begin(out, frame.len(), count_full(frame, bytes));
-    match begun {
-        CountsAnswer::Refused(_) => begun,
-        CountsAnswer::Counted(_) => {
-            put_primary(out, frame, bytes);
-            begun
-        }
-    }
+    let counts = begin(out, frame.len(), count_full(frame, bytes))?;
+    put_primary(out, frame, bytes);
+    Ok(counts)
 }
 
 // The same in a buffer that holds any file of so many slots: the bytes are written first, and those that are 255 counted.
-fn put_unrefused(out: &mut [u8], frame: &[u8], bytes: &[u8; 256]) -> CountsAnswer
+fn put_unrefused(out: &mut [u8], frame: &[u8], bytes: &[u8; 256]) -> Result<Counts, Refusal>
     requires frame_len_bound { length frame.now ≤ max_slots }
     requires bytes { Bytes bytes.now }
     requires frame_in_bounds { 40 + 13 * length frame.now + 16 * 2048 ≤ length out.old }
     ensures answer { result
-        ≡ counts_answer (front_outcome bytes.now frame.now (length out.old)) }
+        ≡ front_outcome bytes.now frame.now (length out.old) }
     ensures buffer { out.new
         ≡ front_buffer bytes.now frame.now out.old }
 {
@@ -159,11 +147,11 @@ fn put_unrefused(out: &mut [u8], frame: &[u8], bytes: &[u8; 256]) -> CountsAnswe
 }
 
 // Writes header and primary array of a frame's map, and answers its counts; or refusal 12, with the buffer as it was.
-pub(crate) fn put_front(out: &mut [u8], frame: &[u8], bytes: &[u8; 256]) -> CountsAnswer
+pub(crate) fn put_front(out: &mut [u8], frame: &[u8], bytes: &[u8; 256]) -> Result<Counts, Refusal>
     requires frame_len_bound { length frame.now ≤ max_slots }
     requires bytes { Bytes bytes.now }
     ensures answer { result
-        ≡ counts_answer (front_outcome bytes.now frame.now (length out.old)) }
+        ≡ front_outcome bytes.now frame.now (length out.old) }
     ensures buffer { out.new
         ≡ front_buffer bytes.now frame.now out.old }
 {

@@ -7,7 +7,6 @@ pub mod front;
 ghost use Rattle.std.specs.Prelude.{◌≡◌, ◌+◌, ◌*◌, ◌≤◌, length};
 ghost use Rattle.std.proofs.lemmas.List.Edits.{sets};
 ghost use Rattle.pciv_format.specs.Layout.{max_slots, overflow_count, overflow_part};
-ghost use Rattle.pciv_format.specs.Refusals.{file_answer};
 ghost use Rattle.pciv_build.specs.Slots.{HoldsPrimary};
 ghost use Rattle.pciv_disparity.specs.Disparity.{disparity_distance, table_answer, frame_distance};
 ghost use Rattle.pciv_disparity.specs.Disparity.{frame_outcome, frame_buffer};
@@ -16,17 +15,14 @@ use crate::front::{primary_bytes, put_front};
 use pciv_build::slots::put_slots;
 use pciv_build::{finish, put_entry};
 use pciv_bytes::little_endian::get64;
-use pciv_format::{
-    CountsAnswer, FileAnswer, HEADER_LEN, MAX_SLOTS, Refusal, TOO_MANY_SLOTS, Verdict,
-    ZERO_CONSTANT,
-};
-use pciv_layout::refusals::refuse_file;
+use pciv_format::{HEADER_LEN, MAX_SLOTS, Refusal, RefusalKind, Summary};
+use pciv_layout::refusals::refuse;
 use pciv_map::totals::summary_of;
 
 // The answer of `fill_table`: the distance of each disparity, zeros after a refusal.
 #[derive(Clone, Copy)]
 pub struct TableAnswer {
-    pub verdict: Verdict,
+    pub verdict: Result<(), Refusal>,
     pub table: [u32; 256],
 }
 
@@ -37,11 +33,7 @@ fn distance_of(constant: u32, d: u32) -> u32
     if d == 0 {
         return 0;
     }
-    let quotient = constant / d;
-    if quotient == 0 {
-        return 1;
-    }
-    quotient
+    (constant / d).max(1)
 }
 
 // The disparity table of a device constant. Refusal 19 for the constant 0, with a table of zeros.
@@ -51,21 +43,15 @@ pub fn fill_table(constant: u32) -> TableAnswer
     let mut table: [u32; 256] = [0; 256];
     if constant == 0 {
         return TableAnswer {
-            verdict: Verdict::Refused(Refusal {
-                number: ZERO_CONSTANT,
-                map: 0,
-                place: 0,
-            }),
+            verdict: refuse(RefusalKind::ZeroConstant, 0, 0),
             table,
         };
     }
-    let mut d: u32 = 0;
-    while d < 256 {
-        table[d as usize] = distance_of(constant, d);
-        d += 1;
+    for d in 0..256 {
+        table[d] = distance_of(constant, d as u32);
     }
     TableAnswer {
-        verdict: Verdict::Accepted,
+        verdict: Ok(()),
         table,
     }
 }
@@ -83,8 +69,7 @@ fn put_entries(out: &mut [u8], frame: &[u8], table: &[u32; 256], k: usize)
     let n = frame.len();
     put_slots(out, n);
     let mut place = HEADER_LEN + n;
-    let end = place + 12 * k;
-    while place < end {
+    for _ in 0..k {
         let slot = get64(out, place);
         place = put_entry(out, place, slot, table[frame[slot] as usize]);
     }
@@ -92,23 +77,18 @@ fn put_entries(out: &mut [u8], frame: &[u8], table: &[u32; 256], k: usize)
 
 // Writes the map of a frame by a table of distances to the front of the caller's buffer. Refusals: 3 with map 1, then 12.
 // A refused call changes no byte, and bytes past the file stay as they were.
-pub fn map_of_frame(frame: &[u8], table: [u32; 256], out: &mut [u8]) -> FileAnswer
-    ensures answer { result ≡ file_answer (frame_outcome table frame.now (length out.old)) }
+pub fn map_of_frame(frame: &[u8], table: [u32; 256], out: &mut [u8]) -> Result<Summary, Refusal>
+    ensures answer { result ≡ frame_outcome table frame.now (length out.old) }
     ensures buffer { out.new ≡ frame_buffer table frame.now out.old }
 {
     let n = frame.len();
     if MAX_SLOTS < n {
-        return refuse_file(TOO_MANY_SLOTS, 1, 0);
+        return refuse(RefusalKind::TooManySlots, 1, 0);
     }
     let bytes = primary_bytes(&table);
-    let begun = put_front(out, frame, &bytes);
-    match begun {
-        CountsAnswer::Refused(r) => FileAnswer::Refused(r),
-        CountsAnswer::Counted(c) => {
-            let k = c.k;
-            put_entries(out, frame, &table, k);
-            finish(out, n, k);
-            FileAnswer::Done(summary_of(out, c))
-        }
-    }
+    let counts = put_front(out, frame, &bytes)?;
+    let k = counts.k;
+    put_entries(out, frame, &table, k);
+    finish(out, n, k);
+    Ok(summary_of(out, counts))
 }

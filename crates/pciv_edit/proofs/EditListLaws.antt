@@ -3,38 +3,56 @@
 --                        what is left of a run of es, begun with buffer b₀ and answers out₀: the edits `rest`, from b
 --                        and out on, the next answer going to place `to`
 --   run_cells b es        the answers of a run as numbers
+--   put_mid-sets, three    how one answer is written: a part of a list, and three numbers
 --   left-start, -more, _end    before, between and after its edits
 --   edit_at, edits_from    the edits of a list of slots and a list of distances;  edits-more, -end  those from i on
---   cells-refused, -done    the numbers of one answer
---   list-refused, list-fewer-slots, -distances, list-short, list_done    what the run answers
---   refused-run, made-run    what it leaves, refused or made
+--   is_map                 the file at the front is checked
+--   made-run               what a run answers and leaves that is made
 -- Axioms: none.
+use Rattle.std.proofs.Common.{Ok, Err}
 use mathlib.Core.Path.{◌≡◌, refl, sym, ap, ◌∙◌}
-use Prim.Native.Nat.{ℕ, ◌+◌, ◌-◌, ◌*◌, ◌≤◌, ◌<◌, min}
+use Prim.Native.Nat.{ℕ, ◌+◌, ◌-◌, ◌*◌, ◌≤◌, ◌<◌}
 use native.Mathlib.Nat.{sub-zero}
 use native.Mathlib.Omega.{arith}
-use mathlib.Core.List.{List, [], ◌∷◌}
-use lib.ListN.{length, length-append}
-use lib.Seq.{sets}
-use borrow.Author.Tests.{le-ltb, lt-ltb, ne_eqb}
+use mathlib.Core.List.{List, [], ◌∷◌, append_assoc}
+use lib.ListN.{length, length-append, get_or, take, drop}
+use lib.Seq.{sets, sets-eq, drop-drop}
+use borrow.Rule.Slice.PartMut.{put_mid}
+use borrow.Author.Tests.{le-ltb}
 use Rattle.pciv_bytes.specs.Ranges.{table}
 use Rattle.pciv_bytes.specs.LittleEndian.{Bytes}
 use Rattle.pciv_bytes.proofs.RangesLaws.{length-table, get_or-table, table-rest, table_done}
 use Rattle.pciv_bytes.proofs.WriteLaws.{sets-append, sets-front}
 use Rattle.pciv_format.specs.Layout.{max_distance, at}
-use Rattle.pciv_format.specs.Refusals.{Outcome, done, refused, refuse, number_answer}
+use Rattle.pciv_format.specs.Refusals.{Outcome}
 use Rattle.pciv_format.specs.Check.{counts_buffer}
+use Rattle.pciv_format.specs.Read.{check_buffer}
+use Rattle.pciv_format.proofs.SummaryLaws.{counts_in, buffer-refuse-alike}
 use Rattle.pciv_format.specs.Edit.{Edit, edit_outcome, edit_moved, edit_buffer, edit_run, edit_outcomes, edit_moves}
-use Rattle.pciv_format.specs.Edit.{answer_len, cells_of, no_refusal, no_summary, answer_cells, all_cells}
+use Rattle.pciv_format.specs.Edit.{answer_len, answer_cells, all_cells}
 use Rattle.pciv_format.specs.Edit.{edits_of, edit_list_outcome, edit_list_buffer, edit_list_answers}
-use Rattle.pciv_format.specs.declared.NumberAnswer.{NumberAnswer}
 use Rattle.pciv_format.specs.declared.Counts.{Counts}
 use Rattle.pciv_format.specs.declared.Summary.{Summary}
-use Rattle.pciv_format.specs.declared.Refusal.{Refusal}
 use Rattle.pciv_format.proofs.PartsLaws.{eqb-not}
 use Rattle.pciv_format.proofs.CheckLaws.{done-buffer}
 use Rattle.pciv_format.proofs.RunLaws.{Distances}
 use Rattle.pciv_format.proofs.EditCaseLaws.{checked-run, checked-moves}
+
+-- ---- one answer
+
+-- a list whose part holds vs now
+pub put_mid-sets : (a k : ℕ) (d vs : List ℕ) → length vs ≡ k → a + k ≤ length d → put_mid a k d vs ≡ sets d a vs
+put_mid-sets a k d vs same space =
+    let fits : a + length vs ≤ length d = rw same space in
+    sym (sets-eq vs d a fits ∙ append_assoc (take a d) vs (drop (a + length vs) d) ∙ rw (drop-drop k a d, same))
+
+-- a list of three numbers
+pub three : (xs : List ℕ) → length xs ≡ 3 → get_or xs 0 0 ∷ get_or xs 1 0 ∷ get_or xs 2 0 ∷ [] ≡ xs
+three [] e = absurd (omega arith)
+three (x ∷ []) e = absurd (omega arith)
+three (x ∷ y ∷ []) e = absurd (omega arith)
+three (x ∷ y ∷ z ∷ []) e = refl
+three (x ∷ y ∷ z ∷ w ∷ xs) e = absurd (omega arith)
 
 -- ---- what is left of a run
 
@@ -49,8 +67,8 @@ pub record Left (b₀ out₀ : List ℕ) (es : List Edit) (b out : List ℕ) (to
 
 length-cells : (o : Outcome Summary) (moved : ℕ) → length (answer_cells o moved) ≡ answer_len
 unfolding answer_cells
-length-cells (done s) moved = refl
-length-cells (refused r) moved = refl
+length-cells (Ok s) moved = refl
+length-cells (Err r) moved = refl
 
 module _ (b₀ out₀ : List ℕ) (es : List Edit) (b out : List ℕ) where
   pub left-more : (to : ℕ) (rest : List Edit) (e : Edit) (next : List Edit) → rest ≡ e ∷ next
@@ -110,18 +128,11 @@ module _ (slots distances : List ℕ) where
   unfolding edits_of
   left-start b out = rw sub-zero (record { buffer = refl; answers = refl })
 
--- ---- the numbers of one answer
-
-module _ (o : Outcome Summary) (m moved : ℕ) (same : m ≡ moved) where
-  pub cells-refused : (r : Refusal) → o ≡ refused r → cells_of r no_summary m ≡ answer_cells o moved
-  unfolding answer_cells
-  cells-refused r is = rw (is, same)
-
-  pub cells-done : (s : Summary) → o ≡ done s → cells_of no_refusal s m ≡ answer_cells o moved
-  unfolding answer_cells
-  cells-done s is = rw (is, same)
-
 -- ---- a run in one call
+
+-- the file at the front is a map
+pub is_map : (b : List ℕ) (s : Summary) → Ok s ≡ check_buffer 1 b → counts_buffer 1 b ≡ Ok (counts_in s)
+is_map b s is = (((buffer-refuse-alike 1 b).1 s).0 (sym is)).0
 
 length-run_cells : (b : List ℕ) (es : List Edit) → length (run_cells b es) ≡ answer_len * length es
 unfolding all_cells edit_outcomes edit_moves
@@ -135,55 +146,19 @@ length-run_cells b (e ∷ es) =
     )
 
 module _ (b slots distances : List ℕ) where
-  -- the run is refused: nothing changes
-  module _ (r : Refusal) where
-    pub list-refused : counts_buffer 1 b ≡ refused r → (capacity : ℕ)
-        → edit_list_outcome b slots distances capacity ≡ refused r
-    unfolding edit_list_outcome
-    list-refused is capacity = rw is
-
-    pub refused-run : (out : List ℕ) (a : NumberAnswer) → a ≡ number_answer (refused r)
-        → edit_list_outcome b slots distances (length out) ≡ refused r
-        → (a ≡ number_answer (edit_list_outcome b slots distances (length out)))
-        × ((b ≡ edit_list_buffer b slots distances (length out)) × (out ≡ edit_list_answers b slots distances out))
-    unfolding edit_list_buffer edit_list_answers
-    refused-run out a answer is = (answer ∙ ap number_answer (sym is), (rw is, rw is))
-
-  module _ (s : Counts) (is : counts_buffer 1 b ≡ done s) (capacity : ℕ) where
-    pub list-fewer-slots : length slots < length distances
-        → edit_list_outcome b slots distances capacity ≡ refuse 9 0 (length slots)
-    unfolding edit_list_outcome
-    list-fewer-slots h =
-        let m : min (length slots) (length distances) ≡ length slots = omega arith in
-        rw (is, ne_eqb (length slots) (length distances) (λ q. omega arith), m)
-
-    pub list-fewer-distances : length distances < length slots
-        → edit_list_outcome b slots distances capacity ≡ refuse 9 0 (length distances)
-    unfolding edit_list_outcome
-    list-fewer-distances h =
-        let m : min (length slots) (length distances) ≡ length distances = omega arith in
-        rw (is, ne_eqb (length slots) (length distances) (λ q. omega arith), m)
-
-    module _ (same : length slots ≡ length distances) where
-      pub list-short : capacity < answer_len * length slots
-          → edit_list_outcome b slots distances capacity ≡ refuse 12 0 0
-      unfolding edit_list_outcome
-      list-short h =
-          rw (is, eqb-not (length slots) (length distances) same, lt-ltb capacity (answer_len * length slots) h)
-
-      pub list_done : answer_len * length slots ≤ capacity
-          → edit_list_outcome b slots distances capacity ≡ done (length slots)
-      unfolding edit_list_outcome
-      list_done h =
-          rw (is, eqb-not (length slots) (length distances) same, le-ltb capacity (answer_len * length slots) h)
+  list_done : (s : Counts) → counts_buffer 1 b ≡ Ok s → (capacity : ℕ) → length slots ≡ length distances
+      → answer_len * length slots ≤ capacity → edit_list_outcome b slots distances capacity ≡ Ok (length slots)
+  unfolding edit_list_outcome
+  list_done s is capacity same h =
+      rw (is, eqb-not (length slots) (length distances) same, le-ltb capacity (answer_len * length slots) h)
 
   module _ (bytes : Bytes b) (small : (i : ℕ) → at distances i ≤ max_distance)
-      (s : Counts) (is : counts_buffer 1 b ≡ done s)
+      (s : Counts) (is : counts_buffer 1 b ≡ Ok s)
       (same : length slots ≡ length distances) (out : List ℕ) (fits : answer_len * length slots ≤ length out) where
     -- the run is made: the editor's run is the plain editor's
     pub made-run : (b' out' : List ℕ) → b' ≡ edit_run b (edits_of slots distances)
         → out' ≡ sets out 0 (run_cells b (edits_of slots distances))
-        → (number_answer (done (length slots)) ≡ number_answer (edit_list_outcome b slots distances (length out)))
+        → ((Ok (length slots)) ≡ (edit_list_outcome b slots distances (length out)))
         × ((b' ≡ edit_list_buffer b slots distances (length out)) × (out' ≡ edit_list_answers b slots distances out))
     unfolding edit_list_buffer edit_list_answers
     made-run b' out' buffer answers =

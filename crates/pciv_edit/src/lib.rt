@@ -8,7 +8,7 @@ ghost use Rattle.std.specs.Prelude.{◌≡◌};
 ghost use Rattle.pciv_format.specs.Edit.{edit_outcome, edit_moved, edit_answer, edit_buffer};
 
 use pciv_check::check_buffer;
-use pciv_format::{EditAnswer, FileAnswer};
+use pciv_format::EditAnswer;
 use pciv_slot::edit_checked;
 
 // Sets the slot to the distance, and answers the new file's summary, its sum included, and how many overflow entries of
@@ -17,22 +17,17 @@ use pciv_slot::edit_checked;
 // Refusals: 1 to 8, with map 1 and 5 only where the buffer is shorter than the file; then 9 and 12. Only the new file's
 // length is compared with the buffer. A refused call changes no byte and moves no entry.
 // Where the file gets shorter, what it leaves becomes 0; bytes past both files stay.
+#[tactic(auto, unfolding(pciv_format::specs::Edit::edit_outcome, pciv_format::specs::Edit::edit_moved, pciv_format::specs::Edit::edit_buffer))]
 pub fn edit(buffer: &mut [u8], slot: usize, distance: u32) -> EditAnswer
     ensures answer { result ≡ edit_answer (edit_outcome buffer.old (record { slot = slot; distance = distance }))
         (edit_moved buffer.old (record { slot = slot; distance = distance })) }
     ensures buffer { buffer.new ≡ edit_buffer buffer.old (record { slot = slot; distance = distance }) }
 {
-    let checked = check_buffer(buffer);
-    match checked {
-        FileAnswer::Refused(r) => EditAnswer {
-            outcome: FileAnswer::Refused(r),
+    match check_buffer(buffer) {
+        Err(r) => EditAnswer {
+            outcome: Err(r),
             moved: 0,
         },
-        FileAnswer::Done(s) => {
-            let n = s.n;
-            let k = s.k;
-            let sum = s.sum;
-            edit_checked(buffer, n, k, sum, slot, distance)
-        }
+        Ok(s) => edit_checked(buffer, s.n, s.k, s.sum, slot, distance),
     }
 }

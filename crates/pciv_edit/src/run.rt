@@ -2,17 +2,14 @@
 // buffer as the one before left it. What the run answers and leaves is defined in pciv_format, specs/Edit.antt.
 ghost use Rattle.std.specs.Prelude.{◌≡◌, ◌+◌, ◌*◌, ◌≤◌, length};
 ghost use Rattle.std.proofs.lemmas.List.Edits.{sets};
-ghost use Rattle.pciv_format.specs.Refusals.{number_answer};
 ghost use Rattle.pciv_format.specs.Edit.{edit_outcome, edit_moved, edit_buffer, edit_run, edit_outcomes, edit_moves};
 ghost use Rattle.pciv_format.specs.Edit.{answer_len, cells_of, answer_cells, all_cells, edits_of, edit_list_outcome};
 ghost use Rattle.pciv_format.specs.Edit.{edit_list_buffer, edit_list_answers};
 ghost use Rattle.pciv_slot.specs.Change.{SummedMap};
 
 use pciv_check::check_buffer;
-use pciv_format::{
-    ANSWER_LEN, BUFFER_TOO_SMALL, FileAnswer, NumberAnswer, Refusal, SLOT_OUT_OF_RANGE, Summary,
-};
-use pciv_layout::refusals::refuse_number;
+use pciv_format::{ANSWER_LEN, Refusal, RefusalKind, Summary};
+use pciv_layout::refusals::refuse;
 use pciv_slot::edit_checked;
 
 // What is known of the map between two edits: its overflow entries, and the sum of its distances.
@@ -22,22 +19,19 @@ struct Carried {
     sum: usize,
 }
 
-// Writes the numbers of one answer.
-fn put_cells(answers: &mut [usize], at: usize, r: Refusal, s: Summary, moved: usize)
+// Writes the numbers of one answer: a refusal's three, a summary, and the number of entries moved.
+fn put_cells(answers: &mut [usize], at: usize, why: [usize; 3], s: Summary, moved: usize)
     requires { at + answer_len ≤ length answers.old }
-    ensures { answers.new ≡ sets answers.old at (cells_of r s moved) }
+    ensures { answers.new ≡ sets answers.old at (cells_of why s moved) }
 {
     let cells = [
-        r.number, r.map, r.place, s.n, s.k, s.m, s.step, s.len, s.sum, moved,
+        why[0], why[1], why[2], s.n, s.k, s.m, s.step, s.len, s.sum, moved,
     ];
-    let mut j = 0;
-    while j < ANSWER_LEN {
-        answers[at + j] = cells[j];
-        j += 1;
-    }
+    answers[at..at + ANSWER_LEN].copy_from_slice(&cells);
 }
 
 // One edit of a checked map; its answer goes to the caller's list. Answers what the next edit has to know.
+#[tactic(auto, unfolding(pciv_format::specs::Edit::answer_cells, pciv_format::specs::Edit::edit_buffer))]
 fn edit_next(
     buffer: &mut [u8],
     answers: &mut [usize],
@@ -57,9 +51,9 @@ fn edit_next(
 {
     let edited = edit_checked(buffer, n, k, sum, slot, distance);
     let moved = edited.moved;
-    let told = edited.outcome;
-    match told {
-        FileAnswer::Refused(r) => {
+    match edited.outcome {
+        Err(r) => {
+            let why = [usize::from(r.kind), r.map, r.place];
             let no_summary = Summary {
                 n: 0,
                 k: 0,
@@ -68,16 +62,11 @@ fn edit_next(
                 len: 0,
                 sum: 0,
             };
-            put_cells(answers, at, r, no_summary, moved);
+            put_cells(answers, at, why, no_summary, moved);
             Carried { k, sum }
         }
-        FileAnswer::Done(s) => {
-            let no_refusal = Refusal {
-                number: 0,
-                map: 0,
-                place: 0,
-            };
-            put_cells(answers, at, no_refusal, s, moved);
+        Ok(s) => {
+            put_cells(answers, at, [0, 0, 0], s, moved);
             Carried { k: s.k, sum: s.sum }
         }
     }
@@ -100,9 +89,8 @@ fn edit_all(
     ensures answers { answers.new ≡ sets answers.old 0 (all_cells (edit_outcomes buffer.old (edits_of slots.now distances.now))
         (edit_moves buffer.old (edits_of slots.now distances.now))) }
 {
-    let mut i = 0;
     let mut held = Carried { k, sum };
-    while i < slots.len() {
+    for i in 0..slots.len() {
         held = edit_next(
             buffer,
             answers,
@@ -113,7 +101,6 @@ fn edit_all(
             slots[i],
             distances[i],
         );
-        i += 1;
     }
 }
 
@@ -124,34 +111,35 @@ fn edit_all(
 // Refusals of the run: 1 to 8, with map 1; then 9 where the lists differ in length, with the least position that has
 // no edit; then 12 where `answers` is too short. A refused run changes nothing. The 9 for lists of unequal length is
 // chosen here: the format's source has no such case.
+#[tactic(auto, using(crate::proofs::EditListLaws::is_map), unfolding(pciv_format::specs::Edit::edit_list_outcome, pciv_format::specs::Edit::edit_list_buffer, pciv_format::specs::Edit::edit_list_answers))]
 pub fn edit_list(
     buffer: &mut [u8],
     slots: &[usize],
     distances: &[u32],
     answers: &mut [usize],
-) -> NumberAnswer
-    ensures answer { result ≡ number_answer (edit_list_outcome buffer.old slots.now distances.now (length answers.old)) }
+) -> Result<usize, Refusal>
+    ensures answer { result ≡ edit_list_outcome buffer.old slots.now distances.now (length answers.old) }
     ensures buffer { buffer.new ≡ edit_list_buffer buffer.old slots.now distances.now (length answers.old) }
     ensures answers { answers.new ≡ edit_list_answers buffer.old slots.now distances.now answers.old }
 {
-    let checked = check_buffer(buffer);
-    match checked {
-        FileAnswer::Refused(r) => NumberAnswer::Refused(r),
-        FileAnswer::Done(s) => {
-            let n = s.n;
-            let k = s.k;
-            let sum = s.sum;
-            if slots.len() < distances.len() {
-                return refuse_number(SLOT_OUT_OF_RANGE, 0, slots.len());
-            }
-            if distances.len() < slots.len() {
-                return refuse_number(SLOT_OUT_OF_RANGE, 0, distances.len());
-            }
-            if answers.len() / ANSWER_LEN < slots.len() {
-                return refuse_number(BUFFER_TOO_SMALL, 0, 0);
-            }
-            edit_all(buffer, answers, n, k, sum, slots, distances);
-            NumberAnswer::Number(slots.len())
-        }
+    let summary = check_buffer(buffer)?;
+    if slots.len() < distances.len() {
+        return refuse(RefusalKind::SlotOutOfRange, 0, slots.len());
     }
+    if distances.len() < slots.len() {
+        return refuse(RefusalKind::SlotOutOfRange, 0, distances.len());
+    }
+    if answers.len() / ANSWER_LEN < slots.len() {
+        return refuse(RefusalKind::BufferTooSmall, 0, 0);
+    }
+    edit_all(
+        buffer,
+        answers,
+        summary.n,
+        summary.k,
+        summary.sum,
+        slots,
+        distances,
+    );
+    Ok(slots.len())
 }

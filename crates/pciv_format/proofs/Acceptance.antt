@@ -11,6 +11,7 @@
 --   accepted-iff      so a file is accepted exactly when it is the file of some list within the limits
 --   file_of-inj        two lists within the limits with one file are one list: it is read as no other
 -- Axioms: none.
+use Rattle.std.proofs.Common.{Ok}
 use mathlib.Core.Path.{◌≡◌, sym, ap, subst, ◌∙◌}
 use mathlib.Core.Logic.{◌↔◌}
 use Prim.Native.Nat.{ℕ, ◌≤◌, ◌<◌}
@@ -24,7 +25,6 @@ use Rattle.pciv_bytes.specs.LittleEndian.{Bytes}
 use Rattle.pciv_bytes.proofs.RangesLaws.{length-table, get_or-table}
 use Rattle.pciv_format.specs.Layout.{max_slots, max_distance, overflow_count, file, counts_of, summarize}
 use Rattle.pciv_format.specs.Layout.{summary, at, file_of, list_counts, summary_of, Limits}
-use Rattle.pciv_format.specs.Refusals.{done}
 use Rattle.pciv_format.specs.Check.{n_field, k_field, counts_file, CheckedMap}
 use Rattle.pciv_format.specs.Read.{value_at, list_of, total, check_file}
 use Rattle.pciv_format.specs.declared.Counts.{Counts}
@@ -36,7 +36,7 @@ use Rattle.pciv_format.proofs.FileLaws.{file-checked, file-value}
 use Rattle.pciv_format.proofs.CheckedFileLaws.{checked-value-le, checked-count, checked-file}
 use Rattle.pciv_format.proofs.ReadLaws.{length-list_of, at-list_of}
 
-pub file-counted : (mp : ℕ) (xs : List ℕ) → Limits xs → counts_file mp (file_of xs) ≡ done (list_counts xs)
+pub file-counted : (mp : ℕ) (xs : List ℕ) → Limits xs → counts_file mp (file_of xs) ≡ Ok (list_counts xs)
 file-counted mp xs l =
     let n : ℕ = length xs in
     counts_file-done mp (file_of xs) n (overflow_count n (at xs)) (file-checked n (at xs) l.count l.each)
@@ -53,7 +53,7 @@ file-read xs l =
     at-list_of b i (omega (arith, h.n_is))
     ∙ rw (h.n_is, h.k_is) (file-value n (at xs) l.count l.each i i<n)))
 
-pub file-accepted : (mp : ℕ) (xs : List ℕ) → Limits xs → check_file mp (file_of xs) ≡ done (summary_of xs)
+pub file-accepted : (mp : ℕ) (xs : List ℕ) → Limits xs → check_file mp (file_of xs) ≡ Ok (summary_of xs)
 unfolding summary total
 file-accepted mp xs l = rw (file-counted mp xs l, file-read xs l)
 
@@ -86,7 +86,7 @@ pub record IsFile (b : List ℕ) (s : Summary) : Type 0 where
   pub bytes : b ≡ file_of (list_of b)
   pub summary_is : s ≡ summary_of (list_of b)
 
-pub counted-is-file : (mp : ℕ) (b : List ℕ) (s : Counts) → Bytes b → counts_file mp b ≡ done s
+pub counted-is-file : (mp : ℕ) (b : List ℕ) (s : Counts) → Bytes b → counts_file mp b ≡ Ok s
     → IsFile b (summarize s (total (list_of b)))
 unfolding summary total
 counted-is-file mp b s bytes e =
@@ -113,15 +113,15 @@ counted-is-file mp b s bytes e =
           ∙ checked-count b n k bytes c))));
     }
 
-pub accepted-is-file : (mp : ℕ) (b : List ℕ) (s : Summary) → Bytes b → check_file mp b ≡ done s → IsFile b s
+pub accepted-is-file : (mp : ℕ) (b : List ℕ) (s : Summary) → Bytes b → check_file mp b ≡ Ok s → IsFile b s
 accepted-is-file mp b s bytes e =
     let c = and_then-done (counts_file mp b) _ s e in
-    let is : done (summarize c.0 (total (list_of b))) ≡ done s = c.2 in
+    let is : Ok (summarize c.0 (total (list_of b))) ≡ Ok s = c.2 in
     let same : summarize c.0 (total (list_of b)) ≡ s = cc in
     subst (IsFile b) same (counted-is-file mp b c.0 bytes c.1)
 
 pub accepted-iff : (mp : ℕ) (b : List ℕ) → Bytes b
-    → ((s : Summary) × (check_file mp b ≡ done s)) ↔ ((xs : List ℕ) × Limits xs × (b ≡ file_of xs))
+    → ((s : Summary) × (check_file mp b ≡ Ok s)) ↔ ((xs : List ℕ) × Limits xs × (b ≡ file_of xs))
 accepted-iff mp b bytes = (
   λ a. (let f = accepted-is-file mp b a.0 bytes a.1 in (list_of b, f.limits, f.bytes)),
   λ x. (summary_of x.0, ap (check_file mp) x.2 ∙ file-accepted mp x.0 x.1),

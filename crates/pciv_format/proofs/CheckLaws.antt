@@ -6,6 +6,8 @@
 --   done-counts, done-buffer            the same at those counts, of a file and of a buffer
 --   accepted-length                     a whole file has exactly its length
 -- Axioms: none.
+use Rattle.std.proofs.Common.{Ok}
+use Rattle.pciv_format.specs.declared.RefusalKind.TheVariants.{BadOverflowEntry, MissingOverflowEntry, BadIndexEntry}
 use mathlib.Core.Path.{◌≡◌, refl, sym, ap, ap₂, ◌∙◌}
 use Prim.Native.Nat.{ℕ, ◌+◌, ◌*◌, ◌≤◌}
 use native.Mathlib.Omega.{arith}
@@ -16,7 +18,6 @@ use lib.Dec.{ltb, eqb}
 use borrow.Author.Tests.{le-ltb, ltb-false}
 use Rattle.pciv_bytes.specs.LittleEndian.{get}
 use Rattle.pciv_format.specs.Layout.{max_slots, magic, index_step, index_len, file_len, counts_of}
-use Rattle.pciv_format.specs.Refusals.{done}
 use Rattle.pciv_format.specs.Parts.{bad_entry, bad_slot}
 use Rattle.pciv_format.specs.Check.{n_field, k_field, m_field, step_field, file_parts, bad_index_entry}
 use Rattle.pciv_format.specs.Check.{bad_counts, check_parts, check_header, check_with, other_length}
@@ -39,7 +40,7 @@ pub checked-length : (b : List ℕ) (n k : ℕ) → CheckedMap b n k → 40 + n 
 checked-length b n k c = omega (arith, c.fits, file_len-is n k)
 
 pub check_header-done : (mp : ℕ) (b : List ℕ) (n k : ℕ) → 40 ≤ length b → CheckedHeader b n k
-    → check_header mp b ≡ done (counts_of n k)
+    → check_header mp b ≡ Ok (counts_of n k)
 unfolding check_header
 check_header-done mp b n k long h =
     rw (
@@ -53,15 +54,15 @@ check_header-done mp b n k long h =
       bad_counts-good n k (index_len k) (index_step k) h.few refl refl,
     )
 
-check_parts-done : (mp : ℕ) (b : List ℕ) (n k : ℕ) → CheckedMap b n k → check_parts mp b n k ≡ done (counts_of n k)
+check_parts-done : (mp : ℕ) (b : List ℕ) (n k : ℕ) → CheckedMap b n k → check_parts mp b n k ≡ Ok (counts_of n k)
 unfolding check_parts
 check_parts-done mp b n k c =
-    refuse_first-none 6 mp (bad_entry (file_parts b n k)) k _ c.parts.entries
-    ∙ refuse_first-none 7 mp (bad_slot (file_parts b n k)) n _ c.parts.slots
-    ∙ refuse_first-none 8 mp (bad_index_entry b n k) (index_len k) _ c.index
+    refuse_first-none BadOverflowEntry mp (bad_entry (file_parts b n k)) k _ c.parts.entries
+    ∙ refuse_first-none MissingOverflowEntry mp (bad_slot (file_parts b n k)) n _ c.parts.slots
+    ∙ refuse_first-none BadIndexEntry mp (bad_index_entry b n k) (index_len k) _ c.index
 
 pub check_with-done : (wrong : ℕ → ℕ → Bool) (mp : ℕ) (b : List ℕ) (n k : ℕ) → CheckedMap b n k
-    → wrong (length b) (file_len n k) ≡ false → check_with wrong mp b ≡ done (counts_of n k)
+    → wrong (length b) (file_len n k) ≡ false → check_with wrong mp b ≡ Ok (counts_of n k)
 unfolding check_with counts_of
 check_with-done wrong mp b n k c right =
     rw (check_header-done mp b n k (omega (arith, checked-length b n k c)) c.header, right)
@@ -69,7 +70,7 @@ check_with-done wrong mp b n k c right =
 
 -- ---- what is checked, from done
 
-pub done-check_header : (mp : ℕ) (b : List ℕ) (s : Counts) → check_header mp b ≡ done s
+pub done-check_header : (mp : ℕ) (b : List ℕ) (s : Counts) → check_header mp b ≡ Ok s
     → CheckedHeader b (n_field b) (k_field b) × (s ≡ counts_of (n_field b) (k_field b))
 unfolding check_header bad_counts
 done-check_header mp b s e =
@@ -80,7 +81,7 @@ done-check_header mp b s e =
     let g₄ = refuse_if-done counts _ _ s g₃.1 in
     let o₂ = or-false _ _ g₄.0 in
     let o₁ = or-false _ _ o₂.0 in
-    let q : done (counts_of (n_field b) (k_field b)) ≡ done s = g₄.1 in (
+    let q : Ok (counts_of (n_field b) (k_field b)) ≡ Ok s = g₄.1 in (
       record {
         mark = not_eqb _ _ g₂.0;
         n_is = refl;
@@ -101,7 +102,7 @@ pub record Accepted (wrong : ℕ → ℕ → Bool) (b : List ℕ) (n k : ℕ) (s
 
 module _ (wrong : ℕ → ℕ → Bool) (fits : (len l : ℕ) → wrong len l ≡ false → l ≤ len)
     (mp : ℕ) (b : List ℕ) (s : Counts) where
-  done-check_with : check_with wrong mp b ≡ done s → Accepted wrong b (n_field b) (k_field b) s
+  done-check_with : check_with wrong mp b ≡ Ok s → Accepted wrong b (n_field b) (k_field b) s
   unfolding check_with check_parts counts_of
   done-check_with e =
       let n : ℕ = n_field b in
@@ -110,10 +111,10 @@ module _ (wrong : ℕ → ℕ → Bool) (fits : (len l : ℕ) → wrong len l �
       let d = done-check_header mp b h.0 h.1 in
       let rest = rw d.1 at h.2 in
       let g₅ = refuse_if-done (wrong (length b) (file_len n k)) _ _ s rest in
-      let g₆ = refuse_first-done 6 mp (bad_entry (file_parts b n k)) k _ s g₅.1 in
-      let g₇ = refuse_first-done 7 mp (bad_slot (file_parts b n k)) n _ s g₆.1 in
-      let g₈ = refuse_first-done 8 mp (bad_index_entry b n k) (index_len k) _ s g₇.1 in
-      let q : done (counts_of n k) ≡ done s = g₈.1 in
+      let g₆ = refuse_first-done BadOverflowEntry mp (bad_entry (file_parts b n k)) k _ s g₅.1 in
+      let g₇ = refuse_first-done MissingOverflowEntry mp (bad_slot (file_parts b n k)) n _ s g₆.1 in
+      let g₈ = refuse_first-done BadIndexEntry mp (bad_index_entry b n k) (index_len k) _ s g₇.1 in
+      let q : Ok (counts_of n k) ≡ Ok s = g₈.1 in
       record {
         checked =
             record {
@@ -129,10 +130,10 @@ module _ (wrong : ℕ → ℕ → Bool) (fits : (len l : ℕ) → wrong len l �
 -- ---- of a whole file, and of a buffer to be edited
 
 pub counts_file-done : (mp : ℕ) (b : List ℕ) (n k : ℕ) → CheckedMap b n k → length b ≡ file_len n k
-    → counts_file mp b ≡ done (counts_of n k)
+    → counts_file mp b ≡ Ok (counts_of n k)
 counts_file-done mp b n k c long = check_with-done other_length mp b n k c (eqb-not (length b) (file_len n k) long)
 
-pub done-counts_file : (mp : ℕ) (b : List ℕ) (s : Counts) → counts_file mp b ≡ done s
+pub done-counts_file : (mp : ℕ) (b : List ℕ) (s : Counts) → counts_file mp b ≡ Ok s
     → Accepted other_length b (n_field b) (k_field b) s
 done-counts_file mp b s e =
     done-check_with other_length (λ len l q. (let z : len ≡ l = not_eqb len l q in omega arith)) mp b s e
@@ -154,11 +155,11 @@ accepted-counts wrong b s a =
       counts = q ∙ ap₂ counts_of (sym n) (sym k);
     }
 
-pub done-counts : (mp : ℕ) (b : List ℕ) (s : Counts) → counts_file mp b ≡ done s
+pub done-counts : (mp : ℕ) (b : List ℕ) (s : Counts) → counts_file mp b ≡ Ok s
     → CheckedMap b s.n s.k × (length b ≡ file_len s.n s.k) × (s ≡ counts_of s.n s.k)
 done-counts mp b s e =
     let a = accepted-counts other_length b s (done-counts_file mp b s e) in
     (a.checked, accepted-length b s.n s.k s a, a.counts)
 
-pub done-buffer : (mp : ℕ) (b : List ℕ) (s : Counts) → counts_buffer mp b ≡ done s → CheckedMap b s.n s.k
+pub done-buffer : (mp : ℕ) (b : List ℕ) (s : Counts) → counts_buffer mp b ≡ Ok s → CheckedMap b s.n s.k
 done-buffer mp b s e = (accepted-counts ltb b s (done-check_with ltb (λ len l q. ltb-false len l q) mp b s e)).checked

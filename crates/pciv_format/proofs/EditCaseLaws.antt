@@ -8,6 +8,8 @@
 --   accepted-checked, accepted-sum    it leaves a checked map, with the counts and the sum of its answer
 --   checked-run, checked-moves    the theorems on runs (RunLaws.antt), of the file at the front of a checked map
 -- Axioms: none.
+use Rattle.std.proofs.Common.{Ok, Err}
+use Rattle.pciv_format.specs.declared.RefusalKind.TheVariants.{SlotOutOfRange}
 use mathlib.Core.Path.{◌≡◌, sym, ap, ◌∙◌}
 use Prim.Native.Nat.{ℕ, ◌+◌, ◌-◌, ◌≤◌, ◌<◌, max}
 use native.Mathlib.Nat.{add-zero}
@@ -21,7 +23,7 @@ use Rattle.pciv_bytes.specs.LittleEndian.{Bytes}
 use Rattle.pciv_bytes.proofs.WriteLaws.{sets-front, sets_behind}
 use Rattle.pciv_format.specs.Layout.{max_distance, file_len, overflow_count, counts_of, summary, at}
 use Rattle.pciv_format.specs.Layout.{file_of, summary_of, Limits}
-use Rattle.pciv_format.specs.Refusals.{done, refused, refuse}
+use Rattle.pciv_format.specs.Refusals.{refuse}
 use Rattle.pciv_format.specs.Check.{counts_buffer, CheckedMap}
 use Rattle.pciv_format.specs.Read.{list_of, total, check_buffer}
 use Rattle.pciv_format.specs.Edit.{Edit, edited, plain_outcome, edited_file, edit_outcome, replaced}
@@ -42,11 +44,11 @@ held b = list_of (edited_file b)
 -- ---- any buffer
 
 module _ (b : List ℕ) (e : Edit) where
-  pub edit-refused : (r : Refusal) → counts_buffer 1 b ≡ refused r → edit_outcome b e ≡ refused r
+  pub edit-refused : (r : Refusal) → counts_buffer 1 b ≡ Err r → edit_outcome b e ≡ Err r
   unfolding edit_outcome
   edit-refused r is = rw is
 
-  pub buffer-done : (s : Summary) → edit_outcome b e ≡ done s
+  pub buffer-done : (s : Summary) → edit_outcome b e ≡ Ok s
       → edit_buffer b e ≡ replaced b (held b) (edited (held b) e)
   unfolding edit_buffer
   buffer-done s is = rw is
@@ -79,20 +81,20 @@ module _ (b : List ℕ) (n k : ℕ) (bytes : Bytes b) (c : CheckedMap b n k) whe
   unfolding edit_outcome
   edit-checked e = rw (check_with-done ltb 1 b n k c (le-ltb (length b) (file_len n k) c.fits))
 
-  pub edit-outside : (e : Edit) → n ≤ e.slot → edit_outcome b e ≡ refuse 9 0 0
+  pub edit-outside : (e : Edit) → n ≤ e.slot → edit_outcome b e ≡ refuse SlotOutOfRange 0 0
   unfolding plain_outcome
   edit-outside e h = edit-checked e ∙ rw (le-leb (length (held b)) e.slot (omega (arith, there.slots)))
 
   -- ---- an accepted edit
 
-  module _ (e : Edit) (small : e.distance ≤ max_distance) (s : Summary) (is : edit_outcome b e ≡ done s) where
+  module _ (e : Edit) (small : e.distance ≤ max_distance) (s : Summary) (is : edit_outcome b e ≡ Ok s) where
     new-summary : s ≡ summary_of (edited (held b) e)
     unfolding plain_outcome
     new-summary =
         let y : List ℕ = edited (held b) e in
         let g₁ = refuse_if-done (leb (length (held b)) e.slot) _ _ s (sym (edit-checked e) ∙ is) in
         let g₂ = refuse_if-done (ltb (length b) (length (file_of y))) _ _ s g₁.1 in
-        let q : done (summary_of y) ≡ done s = g₂.1 in
+        let q : Ok (summary_of y) ≡ Ok s = g₂.1 in
         cc
 
     pub accepted-checked : CheckedMap (edit_buffer b e) n s.k
@@ -111,7 +113,7 @@ module _ (b : List ℕ) (n k : ℕ) (bytes : Bytes b) (c : CheckedMap b n k) whe
         leb-false _ _ (refuse_if-done (leb (length (held b)) e.slot) _ _ s (sym (edit-checked e) ∙ is)).0
 
     -- the sum is adjusted: that of the check of the buffer, less the old distance, plus the new one
-    pub edit-adjusts : (mp : ℕ) (t : Summary) → check_buffer mp b ≡ done t
+    pub edit-adjusts : (mp : ℕ) (t : Summary) → check_buffer mp b ≡ Ok t
         → s.sum + at (held b) e.slot ≡ t.sum + e.distance
     edit-adjusts mp t checked =
         let old = (buffer_held mp b t bytes checked).1 in
@@ -119,11 +121,11 @@ module _ (b : List ℕ) (n k : ℕ) (bytes : Bytes b) (c : CheckedMap b n k) whe
         omega (arith, sum-edited (held b) e slot-inside)
 
     -- the check of the buffer afterwards answers what the edit did
-    pub edit-check : (mp : ℕ) → check_buffer mp (edit_buffer b e) ≡ done s
+    pub edit-check : (mp : ℕ) → check_buffer mp (edit_buffer b e) ≡ Ok s
     unfolding edit_buffer replaced
     edit-check mp =
         let y : List ℕ = edited (held b) e in
-        rw is (front-check y _ (edited-limits (held b) e there.limits small) mp ∙ ap done (sym new-summary))
+        rw is (front-check y _ (edited-limits (held b) e there.limits small) mp ∙ ap Ok (sym new-summary))
 
     pub accepted-sum : s.sum ≡ total (held (edit_buffer b e))
     unfolding edit_buffer replaced

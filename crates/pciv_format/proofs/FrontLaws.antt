@@ -8,6 +8,7 @@
 --   Holds b n k x              b holds the file of the list x at its front
 --   checked-front              a checked buffer holds the list that it is read as
 -- Axioms: none.
+use Rattle.std.proofs.Common.{Ok}
 use mathlib.Core.Path.{◌≡◌, refl, sym, ap, ap₂, ◌∙◌}
 use Prim.Native.Nat.{ℕ, ◌+◌, ◌*◌, ◌≤◌, ◌<◌}
 use native.Mathlib.Omega.{arith}
@@ -22,7 +23,6 @@ use Rattle.pciv_bytes.proofs.SumLaws.{sum_from-cong}
 use Rattle.pciv_bytes.proofs.LittleEndianLaws.{bytes_take, get_in}
 use Rattle.pciv_format.specs.Layout.{max_slots, max_distance, index_step, index_len, file_len, overflow_count}
 use Rattle.pciv_format.specs.Layout.{file, counts_of, at, file_of, list_counts, Limits}
-use Rattle.pciv_format.specs.Refusals.{done}
 use Rattle.pciv_format.specs.Parts.{Parts, value_of}
 use Rattle.pciv_format.specs.Check.{file_parts, bad_index_entry, counts_buffer, CheckedMap}
 use Rattle.pciv_format.specs.Read.{list_of}
@@ -130,7 +130,7 @@ module _ (xs t : List ℕ) (l : Limits xs) where
   there : CheckedMap (file_of xs ++ t) (length xs) (overflow_count (length xs) (at xs))
   there = front-map (length xs) (at xs) l.count l.each t
 
-  pub front-counts : (mp : ℕ) → counts_buffer mp (file_of xs ++ t) ≡ done (list_counts xs)
+  pub front-counts : (mp : ℕ) → counts_buffer mp (file_of xs ++ t) ≡ Ok (list_counts xs)
   front-counts mp =
       let k : ℕ = overflow_count (length xs) (at xs) in
       let b : List ℕ = file_of xs ++ t in

@@ -12,6 +12,7 @@
 -- Of one that is accepted or refused:
 --   edit-step             all of these
 -- Axioms: none.
+use Rattle.std.proofs.Common.{Ok, Err}
 use mathlib.Core.Path.{◌≡◌, refl, sym, ap, ◌∙◌}
 use mathlib.Core.Logic.{◌⊎◌, inl, inr}
 use Prim.Native.Nat.{ℕ, ◌+◌, ◌-◌, ◌*◌, ◌≤◌, ◌<◌, max}
@@ -31,7 +32,7 @@ use Rattle.pciv_bytes.proofs.WriteLaws.{get_or-sets-below, get_or-sets-above, se
 use Rattle.pciv_format.specs.Layout.{magic, index_len, index_step, file_len, in_overflow, primary_byte}
 use Rattle.pciv_format.specs.Layout.{primary, overflow_slots, overflow_count, overflow_part, index_part}
 use Rattle.pciv_format.specs.Layout.{header, file, at, file_of, Limits}
-use Rattle.pciv_format.specs.Refusals.{Outcome, done, refused}
+use Rattle.pciv_format.specs.Refusals.{Outcome}
 use Rattle.pciv_format.specs.Edit.{Edit, edited, plain_outcome, edit_outcome, edit_buffer, replaced}
 use Rattle.pciv_format.specs.Edit.{entry_place, LimitsBy, MayChange, StepLimits}
 use Rattle.pciv_format.specs.declared.Summary.{Summary}
@@ -128,7 +129,7 @@ module _ (n : ℕ) (v w : ℕ → ℕ) (s : ℕ) (inside : s < n) (same : (i : �
 
 -- ---- a refused edit changes no byte
 
-pub buffer-refused : (b : List ℕ) (e : Edit) (r : Refusal) → edit_outcome b e ≡ refused r → edit_buffer b e ≡ b
+pub buffer-refused : (b : List ℕ) (e : Edit) (r : Refusal) → edit_outcome b e ≡ Err r → edit_buffer b e ≡ b
 unfolding edit_buffer
 buffer-refused b e r is = rw is
 
@@ -142,8 +143,8 @@ module _ (x t : List ℕ) (l : Limits x) (e : Edit) where
 -- ---- an accepted one
 
 module _ (x t : List ℕ) (l : Limits x) (e : Edit) (sm : Summary)
-    (accepted : edit_outcome (file_of x ++ t) e ≡ done sm) where
-  plain-accepted : plain_outcome x (length (file_of x ++ t)) e ≡ done sm
+    (accepted : edit_outcome (file_of x ++ t) e ≡ Ok sm) where
+  plain-accepted : plain_outcome x (length (file_of x ++ t)) e ≡ Ok sm
   plain-accepted = sym (edit-plain x t l e) ∙ accepted
 
   slot-inside : e.slot < length x
@@ -385,10 +386,10 @@ module _ (x t : List ℕ) (l : Limits x) (e : Edit) where
       }
     where
       -- what holds of an accepted edit and of an unchanged buffer
-      either : {P : Type 0} → ((s : Summary) → edit_outcome (file_of x ++ t) e ≡ done s → P)
+      either : {P : Type 0} → ((s : Summary) → edit_outcome (file_of x ++ t) e ≡ Ok s → P)
           → (edit_buffer (file_of x ++ t) e ≡ file_of x ++ t → P) → P
       either {P} accepted unchanged = go (edit_outcome (file_of x ++ t) e) refl
         where
           go : (o : Outcome Summary) → edit_outcome (file_of x ++ t) e ≡ o → P
-          go (done s) is = accepted s is
-          go (refused r) is = unchanged (buffer-refused (file_of x ++ t) e r is)
+          go (Ok s) is = accepted s is
+          go (Err r) is = unchanged (buffer-refused (file_of x ++ t) e r is)

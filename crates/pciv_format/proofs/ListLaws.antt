@@ -22,6 +22,8 @@
 -- Check is `file-accepted` (Acceptance.antt), and of a buffer `front-check` (SummaryLaws.antt). The routines on masks
 -- alone (and, or, xor, complement, set_bits, map_of_mask) are given no file: their definitions are on the words.
 -- Axioms: none.
+use Rattle.std.proofs.Common.{Ok}
+use Rattle.pciv_format.specs.declared.RefusalKind.TheVariants.{BadOverflowEntry, MissingOverflowEntry, SlotOutOfRange, SizeMismatch, DistanceOverflow, BufferTooSmall, BadMask}
 use mathlib.Core.Path.{◌≡◌, refl, sym, ap, ◌∙◌}
 use Prim.Native.Nat.{ℕ, ◌+◌, ◌*◌, ◌≤◌, ◌<◌, min}
 use native.Mathlib.Omega.{arith}
@@ -39,7 +41,7 @@ use Rattle.pciv_bytes.proofs.RangesLaws.{get_or-inside, get_or-map_inside, map-c
 use Rattle.pciv_format.specs.Layout.{max_slots, max_distance, primary, overflow_slots}
 use Rattle.pciv_format.specs.Layout.{overflow_count, header, file, counts_of, summary, at, file_of}
 use Rattle.pciv_format.specs.Layout.{summary_of, Limits}
-use Rattle.pciv_format.specs.Refusals.{Outcome, done, refuse, refuse_if, refuse_first, written}
+use Rattle.pciv_format.specs.Refusals.{Outcome, refuse, refuse_if, refuse_first, written}
 use Rattle.pciv_format.specs.Parts.{Parts, bad_entry, bad_slot, value_of, SoundParts}
 use Rattle.pciv_format.specs.Check.{file_parts}
 use Rattle.pciv_format.specs.Read.{list_of, primary_part, behind, primary_place, lookup_outcome}
@@ -97,7 +99,7 @@ primary-part n v =
 -- lookups in a list xs, into lists of c₁ and c₂ elements: refusals 9 and 12
 abbrev pub lookups_into : List ℕ → List ℕ → ℕ → ℕ → Outcome ℕ
 lookups_into xs slots c₁ c₂ =
-    refuse_first 9 0 (λ (i : ℕ). leb (length xs) (at slots i)) (length slots) (items_into (length slots) (min c₁ c₂))
+    refuse_first SlotOutOfRange 0 (λ (i : ℕ). leb (length xs) (at slots i)) (length slots) (items_into (length slots) (min c₁ c₂))
 
 module _ (xs : List ℕ) (l : Limits xs) where
   pub file-primary : primary_part (file_of xs) ≡ primary (length xs) (at xs)
@@ -112,8 +114,8 @@ module _ (xs : List ℕ) (l : Limits xs) where
 
   pub file-lookup : (slot : ℕ)
       → lookup_outcome (file_of xs) slot
-      ≡ refuse_if (leb (length xs) slot) (refuse 9 0 0)
-      (done (record { distance = at xs slot; origin = origin_in xs slot }))
+      ≡ refuse_if (leb (length xs) slot) (refuse SlotOutOfRange 0 0)
+      (Ok (record { distance = at xs slot; origin = origin_in xs slot }))
   unfolding lookup_outcome counts_of
   file-lookup slot =
       rw (
@@ -144,11 +146,11 @@ module _ (xs : List ℕ) (l : Limits xs) where
   unfolding scan_outcome scan_buffer counts_of
   file-scan out = rw (file-counted 1 xs l, file-read xs l) (refl, refl)
 
-  pub file-sum : sum_outcome (file_of xs) ≡ done (total xs)
+  pub file-sum : sum_outcome (file_of xs) ≡ Ok (total xs)
   unfolding sum_outcome
   file-sum = rw (file-counted 1 xs l, file-read xs l)
 
-  pub file-readings : readings_outcome (file_of xs) ≡ done (readings xs)
+  pub file-readings : readings_outcome (file_of xs) ≡ Ok (readings xs)
   unfolding readings_outcome
   file-readings = rw (file-counted 1 xs l, file-read xs l)
 
@@ -184,7 +186,7 @@ masked_at f ws xs i = f (mask_has ws i) (at xs i)
 
 -- the masked map into a buffer of c bytes: refusals 13, 11 and 12
 abbrev pub masked_into : (Bool → ℕ → ℕ) → List ℕ → List ℕ → ℕ → Outcome Summary
-masked_into f ws xs c = refuse_if (bad_mask (length xs) ws) (refuse 13 0 0) (map_into (length xs) (masked_at f ws xs) c)
+masked_into f ws xs c = refuse_if (bad_mask (length xs) ws) (refuse BadMask 0 0) (map_into (length xs) (masked_at f ws xs) c)
 
 module _ (xs : List ℕ) (l : Limits xs) where
   pub file-shift : (d : ℤ)
@@ -216,7 +218,7 @@ module _ (xs : List ℕ) (l : Limits xs) where
 -- refusal 10, then what follows
 module _ {A : Type 0} where
   abbrev pub refuse_sizes : List ℕ → List ℕ → Outcome A → Outcome A
-  refuse_sizes xs ys o = refuse_if (not (eqb (length xs) (length ys))) (refuse 10 0 0) o
+  refuse_sizes xs ys o = refuse_if (not (eqb (length xs) (length ys))) (refuse SizeMismatch 0 0) o
 
 module _ (xs ys : List ℕ) (l : Limits xs) (m : Limits ys) where
   pub file-pair : {A : Type 0} (next : ℕ → Outcome A)
@@ -239,12 +241,12 @@ module _ (xs ys : List ℕ) (l : Limits xs) (m : Limits ys) where
       rw (file-read xs l, file-read ys m, file-pair (λ n. items_into n (length out))) (refl, refl)
 
   pub file-bray_curtis : bray_curtis_outcome (file_of xs) (file_of ys)
-      ≡ refuse_sizes xs ys (done (quotient (distance_between xs ys) (total xs + total ys)))
+      ≡ refuse_sizes xs ys (Ok (quotient (distance_between xs ys) (total xs + total ys)))
   unfolding bray_curtis_outcome
   file-bray_curtis = rw (file-read xs l, file-read ys m) (file-pair _)
 
   pub file-jaccard : (t : ℕ) → jaccard_outcome t (file_of xs) (file_of ys)
-      ≡ refuse_sizes xs ys (done (quotient (count_at xor t xs ys) (count_at ◌||◌ t xs ys)))
+      ≡ refuse_sizes xs ys (Ok (quotient (count_at xor t xs ys) (count_at ◌||◌ t xs ys)))
   unfolding jaccard_outcome
   file-jaccard t = rw (file-read xs l, file-read ys m) (file-pair _)
 
@@ -252,7 +254,7 @@ module _ (xs ys : List ℕ) (l : Limits xs) (m : Limits ys) where
 
 -- the text of a list: of a file of more than 65,536 bytes it tells refusal 12
 abbrev pub report_of : List ℕ → List ℕ
-report_of xs = text_of (refuse_if (ltb 65536 (summary_of xs).len) (refuse 12 0 0) (done (summary_of xs))) xs
+report_of xs = text_of (refuse_if (ltb 65536 (summary_of xs).len) (refuse BufferTooSmall 0 0) (Ok (summary_of xs))) xs
 
 module _ (xs : List ℕ) (l : Limits xs) where
   pub file-report_text : report_text (file_of xs) ≡ report_of xs
@@ -269,8 +271,8 @@ module _ (xs : List ℕ) (l : Limits xs) where
 -- the answers of a run into a list of c numbers: refusals 9 and 12
 abbrev pub run_into : List ℕ → List ℕ → ℕ → Outcome ℕ
 run_into slots distances c =
-    refuse_if (not (eqb (length slots) (length distances))) (refuse 9 0 (min (length slots) (length distances)))
-    (refuse_if (ltb c (answer_len * length slots)) (refuse 12 0 0) (done (length slots)))
+    refuse_if (not (eqb (length slots) (length distances))) (refuse SlotOutOfRange 0 (min (length slots) (length distances)))
+    (refuse_if (ltb c (answer_len * length slots)) (refuse BufferTooSmall 0 0) (Ok (length slots)))
 
 module _ (xs t : List ℕ) (l : Limits xs) where
   pub front-edit : (e : Edit)
@@ -301,12 +303,12 @@ module _ (xs t : List ℕ) (l : Limits xs) where
 
 -- the file at the front of b, as long as s says, is accepted with the summary s and is read as zs
 pub record ReadAs (b : List ℕ) (s : Summary) (zs : List ℕ) : Type 0 where
-  pub accepted : (mp : ℕ) → check_file mp (take s.len b) ≡ done s
+  pub accepted : (mp : ℕ) → check_file mp (take s.len b) ≡ Ok s
   pub read : list_of (take s.len b) ≡ zs
 
 -- where the answer is done with s, that file stands in the buffer
 abbrev pub WritesMap : (ℕ → Outcome Summary) → (List ℕ → List ℕ) → List ℕ → Type 0
-WritesMap outcome after zs = (out : List ℕ) (s : Summary) → outcome (length out) ≡ done s → ReadAs (after out) s zs
+WritesMap outcome after zs = (out : List ℕ) (s : Summary) → outcome (length out) ≡ Ok s → ReadAs (after out) s zs
 
 pub front_read : (zs t : List ℕ) → Limits zs → ReadAs (file_of zs ++ t) (summary_of zs) zs
 unfolding summary counts_of
@@ -322,26 +324,26 @@ pub record Writable (n : ℕ) (v : ℕ → ℕ) (s : Summary) : Type 0 where
   pub summary_is : summary n v ≡ s
 
 module _ (n : ℕ) (v : ℕ → ℕ) where
-  file_into-done : n ≤ max_slots → ((i : ℕ) → i < n → v i ≤ max_distance) → (c : ℕ) (s : Summary) → file_into n v c ≡ done s
+  file_into-done : n ≤ max_slots → ((i : ℕ) → i < n → v i ≤ max_distance) → (c : ℕ) (s : Summary) → file_into n v c ≡ Ok s
       → Writable n v s
   file_into-done few each c s e =
-      let is : done (summary n v) ≡ done s = (refuse_if-done (ltb c (length (file n v))) _ _ s e).1 in
+      let is : Ok (summary n v) ≡ Ok s = (refuse_if-done (ltb c (length (file n v))) _ _ s e).1 in
       record { few = few; each = each; summary_is = cc }
 
-  map_into-done : n ≤ max_slots → (c : ℕ) (s : Summary) → map_into n v c ≡ done s → Writable n v s
+  map_into-done : n ≤ max_slots → (c : ℕ) (s : Summary) → map_into n v c ≡ Ok s → Writable n v s
   map_into-done few c s e =
-      let g = refuse_first-done 11 0 (λ (i : ℕ). ltb max_distance (v i)) n (file_into n v c) s e in
+      let g = refuse_first-done DistanceOverflow 0 (λ (i : ℕ). ltb max_distance (v i)) n (file_into n v c) s e in
       file_into-done few (λ i h. ltb-false max_distance (v i) (g.0 i h)) c s g.1
 
-  pub written-summary : n ≤ max_slots → ((i : ℕ) → i < n → v i ≤ max_distance) → (c : ℕ) (s : Summary) → file_into n v c ≡ done s
-      → (mp : ℕ) → check_file mp (file n v) ≡ done s
+  pub written-summary : n ≤ max_slots → ((i : ℕ) → i < n → v i ≤ max_distance) → (c : ℕ) (s : Summary) → file_into n v c ≡ Ok s
+      → (mp : ℕ) → check_file mp (file n v) ≡ Ok s
   written-summary few each c s e mp =
       rw (← (file_into-done few each c s e).summary_is, file-table n v, summary-table n v)
       (file-accepted mp (table v 0 n) (table-limits n v few each))
 
   -- after a routine whose answer o and buffer `after` are those of o', the arithmetic on lists
   pub map_read : {o o' : Outcome Summary} {after : List ℕ} (out : List ℕ) (s : Summary)
-      → (o ≡ o') × (after ≡ written o' (file n v) out) → (o' ≡ done s → Writable n v s) → o ≡ done s
+      → (o ≡ o') × (after ≡ written o' (file n v) out) → (o' ≡ Ok s → Writable n v s) → o ≡ Ok s
       → ReadAs after s (table v 0 n)
   map_read out s law last e =
       let is = sym law.0 ∙ e in
@@ -414,8 +416,8 @@ close-read bytes slots distances small each out s =
     map_read P.n (value_of P) out s (refl, refl)
     (λ e.
     (let g = refuse_if-done (ltb max_slots P.n) _ _ s e in
-    let h₆ = refuse_first-done 6 1 (bad_entry P) P.k _ s g.1 in
-    let h₇ = refuse_first-done 7 1 (bad_slot P) P.n _ s h₆.1 in
+    let h₆ = refuse_first-done BadOverflowEntry 1 (bad_entry P) P.k _ s g.1 in
+    let h₇ = refuse_first-done MissingOverflowEntry 1 (bad_slot P) P.n _ s h₆.1 in
     let sound : SoundParts P = record { entries = h₆.0; slots = h₇.0 } in
     file_into-done P.n (value_of P) (ltb-false max_slots P.n g.0)
     (value_of-le P sound small (λ j h. each j)) (length out) s h₇.1))
@@ -478,8 +480,8 @@ module _ (n : ℕ) (v : ℕ → ℕ) (few : n ≤ max_slots) (each : (i : ℕ) �
   map-close out =
       rw (
         le-ltb max_slots (length (primary n v)) (omega (arith, few, length-primary n v)),
-        refuse_first-none 6 1 (bad_entry parts) parts.k _ sound.entries,
-        refuse_first-none 7 1 (bad_slot parts) parts.n _ sound.slots,
+        refuse_first-none BadOverflowEntry 1 (bad_entry parts) parts.k _ sound.entries,
+        refuse_first-none MissingOverflowEntry 1 (bad_slot parts) parts.n _ sound.slots,
         parts-file,
         parts-summary,
       ) (refl, refl)

@@ -8,6 +8,7 @@
 --   moved-renumbered, edit-renumbered
 --                              the number is how many entries of other slots have another number in the new file
 -- Axioms: none.
+use Rattle.std.proofs.Common.{Ok, Err}
 use mathlib.Core.Path.{◌≡◌, refl, sym, ap, ap₂, ◌∙◌}
 use Prim.Native.Nat.{ℕ, suc, ◌+◌, ◌-◌, ◌≤◌, ◌<◌}
 use native.Mathlib.Omega.{arith}
@@ -21,7 +22,7 @@ use Rattle.pciv_bytes.specs.Ranges.{positions}
 use Rattle.pciv_bytes.specs.LittleEndian.{Bytes}
 use Rattle.pciv_bytes.proofs.PositionsLaws.{positions-cong, positions-none, positions-around}
 use Rattle.pciv_format.specs.Layout.{max_distance, in_overflow, overflow_count, at, file_of, Limits}
-use Rattle.pciv_format.specs.Refusals.{Outcome, done, refused}
+use Rattle.pciv_format.specs.Refusals.{Outcome}
 use Rattle.pciv_format.specs.Check.{n_field, k_field, counts_buffer, CheckedMap}
 use Rattle.pciv_format.specs.Read.{entry_number}
 use Rattle.pciv_format.specs.Edit.{Edit, edited, plain_outcome, edited_file, edit_outcome, replaced, if_accepted}
@@ -94,7 +95,7 @@ module _ (x : List ℕ) (e : Edit) where
       go false = omega arith
 
   module _ (R : ℕ) where
-    pub plain-refused : (r : Refusal) → plain_outcome x R e ≡ refused r → plain_moved x R e ≡ 0
+    pub plain-refused : (r : Refusal) → plain_outcome x R e ≡ Err r → plain_moved x R e ≡ 0
     unfolding plain_moved
     plain-refused r is = rw is
 
@@ -104,24 +105,24 @@ module _ (x : List ℕ) (e : Edit) where
     moved-le = go (plain_outcome x R e)
       where
         go : (o : Outcome Summary) → if_accepted o (moved_by x e) 0 ≤ overflow_count (length x) (at x)
-        go (done s) = moved_by-le
-        go (refused r) = omega arith
+        go (Ok s) = moved_by-le
+        go (Err r) = omega arith
 
 -- ---- the editor's number
 
 module _ (b : List ℕ) (e : Edit) where
-  pub moved-done : (s : Summary) → edit_outcome b e ≡ done s → edit_moved b e ≡ moved_by (held b) e
+  pub moved-done : (s : Summary) → edit_outcome b e ≡ Ok s → edit_moved b e ≡ moved_by (held b) e
   unfolding edit_moved
   moved-done s is = rw is
 
-  pub moved-refused : (r : Refusal) → edit_outcome b e ≡ refused r → edit_moved b e ≡ 0
+  pub moved-refused : (r : Refusal) → edit_outcome b e ≡ Err r → edit_moved b e ≡ 0
   unfolding edit_moved
   moved-refused r is = rw is
 
 -- an accepted edit of a buffer of bytes
-module _ (b : List ℕ) (bytes : Bytes b) (e : Edit) (s : Summary) (is : edit_outcome b e ≡ done s) where
+module _ (b : List ℕ) (bytes : Bytes b) (e : Edit) (s : Summary) (is : edit_outcome b e ≡ Ok s) where
   -- its counts, that it is a checked map with them, and the plain editor's outcome
-  accepted : (c : Counts) × CheckedMap b c.n c.k × (plain_outcome (held b) (length b) e ≡ done s)
+  accepted : (c : Counts) × CheckedMap b c.n c.k × (plain_outcome (held b) (length b) e ≡ Ok s)
   unfolding edit_outcome
   accepted =
       let c = and_then-done (counts_buffer 1 b) _ s is in
@@ -141,8 +142,8 @@ pub edit-moved-le : (b : List ℕ) → Bytes b → (e : Edit) → edit_moved b e
 edit-moved-le b bytes e = go (edit_outcome b e) refl
   where
     go : (o : Outcome Summary) → edit_outcome b e ≡ o → edit_moved b e ≤ k_field b
-    go (done s) is = done-moved-le b bytes e s is
-    go (refused r) is = omega (arith, moved-refused b e r is)
+    go (Ok s) is = done-moved-le b bytes e s is
+    go (Err r) is = omega (arith, moved-refused b e r is)
 
 -- ---- numbers of entries in two files
 
@@ -281,13 +282,13 @@ module _ (x : List ℕ) (e : Edit) (l : Limits x) (small : e.distance ≤ max_di
         ]
 
   -- both numbers are read from the bytes of the two files
-  pub moved-renumbered : (R : ℕ) (s : Summary) → plain_outcome x R e ≡ done s
+  pub moved-renumbered : (R : ℕ) (s : Summary) → plain_outcome x R e ≡ Ok s
       → plain_moved x R e
       ≡ length (positions (renumbered (file_of x) (file_of (edited x e)) e.slot) 0 (length x))
   unfolding plain_moved plain_outcome
   moved-renumbered R s is = rw is (sym (by-case (accepted-inside R s is)))
     where
-      accepted-inside : (R : ℕ) (s : Summary) → plain_outcome x R e ≡ done s → e.slot < length x
+      accepted-inside : (R : ℕ) (s : Summary) → plain_outcome x R e ≡ Ok s → e.slot < length x
       accepted-inside R s is = leb-false (length x) e.slot (refuse_if-done (leb (length x) e.slot) _ _ s is).0
 
 -- the files at the front of the buffer just before and just after; a refused edit leaves the one that was there
@@ -313,7 +314,7 @@ edit-renumbered b bytes e small = go (edit_outcome b e) refl
 
     go : (o : Outcome Summary) → edit_outcome b e ≡ o
         → edit_moved b e ≡ count (edited_file b) (edited_file (edit_buffer b e)) (n_field b)
-    go (done s) is =
+    go (Ok s) is =
         let x : List ℕ = held b in
         let h = there b bytes e s is in
         let c = accepted b bytes e s is in
@@ -326,7 +327,7 @@ edit-renumbered b bytes e small = go (edit_outcome b e) refl
         ∙ moved-renumbered x e h.limits small (length b) s c.2
         ∙ ap₂ (λ (f g : List ℕ). count f g (length x)) (sym old) (sym new)
         ∙ ap (count (edited_file b) (edited_file (edit_buffer b e))) n
-    go (refused r) is =
+    go (Err r) is =
         moved-refused b e r is
         ∙ sym
         (ap (λ (g : List ℕ). count (edited_file b) (edited_file g) (n_field b)) (buffer-refused b e r is)

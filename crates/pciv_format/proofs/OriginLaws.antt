@@ -16,6 +16,8 @@
 --   origin-inline             the origin is inline exactly where the distance is below 255
 --   lookup-list-each          each element of both lists is what a lookup of its slot answers
 -- Axioms: none.
+use Rattle.std.proofs.Common.{Ok, Err}
+use Rattle.pciv_format.specs.declared.RefusalKind.TheVariants.{SlotOutOfRange, BufferTooSmall}
 use mathlib.Core.Path.{◌≡◌, refl, sym, ap, ap₂, ◌∙◌}
 use mathlib.Core.Logic.{◌↔◌}
 use Prim.Native.Nat.{ℕ, ◌+◌, ◌*◌, ◌≤◌, ◌<◌, min}
@@ -29,7 +31,7 @@ use borrow.Author.Tests.{lt-ltb, le-ltb, le-leb, lt-leb, leb-false, eqb-true}
 use Rattle.pciv_bytes.specs.LittleEndian.{get, Bytes}
 use Rattle.pciv_bytes.proofs.RangesLaws.{get_or-map_inside, first_below-le, first_below-has}
 use Rattle.pciv_format.specs.Layout.{in_overflow, overflow_count, at, file_of, Limits}
-use Rattle.pciv_format.specs.Refusals.{Outcome, done, refused, refuse, refuse_if, refuse_first, and_then, written}
+use Rattle.pciv_format.specs.Refusals.{Outcome, refuse, refuse_if, refuse_first, and_then, written}
 use Rattle.pciv_format.specs.Parts.{Parts, entry_of, value_of, SoundParts}
 use Rattle.pciv_format.specs.Check.{n_field, k_field, file_parts, counts_file}
 use Rattle.pciv_format.specs.Read.{list_of, entry_number, origin_of, origin_number, located, lookup_outcome}
@@ -134,7 +136,7 @@ sound-parts : (b : List ℕ) (n k : ℕ) → n_field b ≡ n → k_field b ≡ k
     → SoundParts (parts_of b)
 sound-parts b n k n_is k_is sound = rw (n_is, k_is) sound
 
-pub lookup-found : (b : List ℕ) (slot : ℕ) (a : Located) → lookup_outcome b slot ≡ done a → Found b slot a
+pub lookup-found : (b : List ℕ) (slot : ℕ) (a : Located) → lookup_outcome b slot ≡ Ok a → Found b slot a
 unfolding lookup_outcome
 lookup-found b slot a e =
     let c = and_then-done (counts_file 1 b) _ a e in
@@ -149,43 +151,43 @@ lookup-found b slot a e =
           ∙ ap (λ (x : ℕ). located x (k_field b) (entry_number b slot)) (at-list_of b slot inside);
     }
   where
-    same-done : {x y : Located} → ◌≡◌ {A = Outcome Located} (done x) (done y) → x ≡ y
+    same-done : {x y : Located} → ◌≡◌ {A = Outcome Located} (Ok x) (Ok y) → x ≡ y
     same-done q = cc
 
 -- ---- the distance alone
 
 pub lookup-distance-stays : (b : List ℕ) (slot : ℕ)
-    → and_then (lookup_outcome b slot) (λ a. done a.distance)
-    ≡ and_then (counts_file 1 b) (λ s. refuse_if (leb s.n slot) (refuse 9 0 0) (done (at (list_of b) slot)))
+    → and_then (lookup_outcome b slot) (λ a. Ok a.distance)
+    ≡ and_then (counts_file 1 b) (λ s. refuse_if (leb s.n slot) (refuse SlotOutOfRange 0 0) (Ok (at (list_of b) slot)))
 unfolding lookup_outcome
 lookup-distance-stays b slot = file (counts_file 1 b)
   where
     a : Located
     a = located (at (list_of b) slot) (k_field b) (entry_number b slot)
 
-    inside : (t : Bool) → and_then (refuse_if t (refuse 9 0 0) (done a)) (λ a. done a.distance)
-        ≡ refuse_if t (refuse 9 0 0) (done a.distance)
+    inside : (t : Bool) → and_then (refuse_if t (refuse SlotOutOfRange 0 0) (Ok a)) (λ a. Ok a.distance)
+        ≡ refuse_if t (refuse SlotOutOfRange 0 0) (Ok a.distance)
     inside true = refl
     inside false = refl
 
     file : (o : Outcome Counts)
-        → and_then (and_then o (λ s. refuse_if (leb s.n slot) (refuse 9 0 0) (done a))) (λ a. done a.distance)
-        ≡ and_then o (λ s. refuse_if (leb s.n slot) (refuse 9 0 0) (done a.distance))
-    file (done s) = inside (leb s.n slot)
-    file (refused r) = refl
+        → and_then (and_then o (λ s. refuse_if (leb s.n slot) (refuse SlotOutOfRange 0 0) (Ok a))) (λ a. Ok a.distance)
+        ≡ and_then o (λ s. refuse_if (leb s.n slot) (refuse SlotOutOfRange 0 0) (Ok a.distance))
+    file (Ok s) = inside (leb s.n slot)
+    file (Err r) = refl
 
 module _ (b slots : List ℕ) where
   -- the outcome of a list of lookups that answer the distance alone, into a list of c elements
   abbrev pub distances_outcome : ℕ → Outcome ℕ
   distances_outcome c =
       and_then (counts_file 1 b)
-      (λ s. refuse_first 9 0 (λ (i : ℕ). leb s.n (at slots i)) (length slots) (items_into (length slots) c))
+      (λ s. refuse_first SlotOutOfRange 0 (λ (i : ℕ). leb s.n (at slots i)) (length slots) (items_into (length slots) c))
 
   outcome-stays : (c₁ c₂ : ℕ) → length slots ≤ c₂ → lookup_list_outcome b slots c₁ c₂ ≡ distances_outcome c₁
   unfolding lookup_list_outcome
   outcome-stays c₁ c₂ h =
       ap (λ (o : Outcome ℕ). and_then (counts_file 1 b)
-      (λ s. refuse_first 9 0 (λ (i : ℕ). leb s.n (at slots i)) (length slots) o))
+      (λ s. refuse_first SlotOutOfRange 0 (λ (i : ℕ). leb s.n (at slots i)) (length slots) o))
       (elim (dec_le (length slots) c₁) [
         | yes d ↦ items-fit (length slots) (min c₁ c₂) (omega arith) ∙ sym (items-fit (length slots) c₁ d)
         | no d ↦ items-short (length slots) (min c₁ c₂) (omega arith) ∙ sym (items-short (length slots) c₁ (omega arith))
@@ -199,14 +201,14 @@ module _ (b slots : List ℕ) where
       let e = outcome-stays (length out) c₂ h in
       (e, ap (λ (o : Outcome ℕ). written o (map (at (list_of b)) slots) out) e)
 
-  short-refused : (c₁ c₂ : ℕ) → min c₁ c₂ < length slots → (c : ℕ) → lookup_list_outcome b slots c₁ c₂ ≡ done c → ⊥
+  short-refused : (c₁ c₂ : ℕ) → min c₁ c₂ < length slots → (c : ℕ) → lookup_list_outcome b slots c₁ c₂ ≡ Ok c → ⊥
   unfolding lookup_list_outcome
   short-refused c₁ c₂ h c e =
       let s = and_then-done (counts_file 1 b) _ c e in
-      let items = (refuse_first-done 9 0 (λ (i : ℕ). leb s.0.n (at slots i)) (length slots) _ c s.2).1 in
+      let items = (refuse_first-done SlotOutOfRange 0 (λ (i : ℕ). leb s.0.n (at slots i)) (length slots) _ c s.2).1 in
       other (sym (items-short (length slots) (min c₁ c₂) h) ∙ items)
     where
-      other : refuse 12 0 0 ≡ done c → ⊥
+      other : refuse BufferTooSmall 0 0 ≡ Ok c → ⊥
       other q = let z : ◌≡◌ {A = ℕ} 0 1 = cc in omega arith
 
   pub lookup-list-short : (distances entries : List ℕ) → min (length distances) (length entries) < length slots
@@ -217,11 +219,11 @@ module _ (b slots : List ℕ) where
       go (lookup_list_outcome b slots (length distances) (length entries))
       (short-refused (length distances) (length entries) h)
     where
-      go : (o : Outcome ℕ) → ((c : ℕ) → o ≡ done c → ⊥)
+      go : (o : Outcome ℕ) → ((c : ℕ) → o ≡ Ok c → ⊥)
           → (written o (map (at (list_of b)) slots) distances ≡ distances)
           × (written o (map (entry_number b) slots) entries ≡ entries)
-      go (done c) never = absurd (never c refl)
-      go (refused r) never = (refl, refl)
+      go (Ok c) never = absurd (never c refl)
+      go (Err r) never = (refl, refl)
 
 -- ---- the entry that an origin names
 
@@ -231,7 +233,7 @@ pub record EntryHas (b : List ℕ) (slot x j : ℕ) : Type 0 where
   pub distance_is : get 4 b (40 + n_field b + 12 * j + 8) ≡ x
   pub only : (t : ℕ) → t < k_field b → get 8 b (40 + n_field b + 12 * t) ≡ slot → t ≡ j
 
-pub origin-entry : (b : List ℕ) (slot : ℕ) (a : Located) → lookup_outcome b slot ≡ done a → (j : ℕ)
+pub origin-entry : (b : List ℕ) (slot : ℕ) (a : Located) → lookup_outcome b slot ≡ Ok a → (j : ℕ)
     → a.origin ≡ Overflow j → EntryHas b slot a.distance j
 unfolding entry_of
 origin-entry b slot a e j o =
@@ -262,7 +264,7 @@ origin-entry b slot a e j o =
 
 -- ---- inline, by the distance
 
-pub origin-inline : (b : List ℕ) (slot : ℕ) (a : Located) → Bytes b → lookup_outcome b slot ≡ done a
+pub origin-inline : (b : List ℕ) (slot : ℕ) (a : Located) → Bytes b → lookup_outcome b slot ≡ Ok a
     → (a.origin ≡ Inline) ↔ (a.distance < 255)
 origin-inline b slot a bytes e =
     let f = lookup-found b slot a e in
@@ -291,25 +293,25 @@ origin-inline b slot a bytes e =
 -- ---- a list of lookups
 
 module _ (b slots distances entries : List ℕ) (c : ℕ)
-    (e : lookup_list_outcome b slots (length distances) (length entries) ≡ done c) where
+    (e : lookup_list_outcome b slots (length distances) (length entries) ≡ Ok c) where
   -- element i of what is written to the front of a list
   element : (f : ℕ → ℕ) (out : List ℕ) (i : ℕ) → i < length slots
-      → get_or (written (done c) (map f slots) out) i 0 ≡ f (at slots i)
+      → get_or (written (Ok c) (map f slots) out) i 0 ≡ f (at slots i)
   element f out i h =
       get_or-append (map f slots) (drop (length (map f slots)) out) 0 i (rw length-map h)
       ∙ get_or-map_inside f slots i 0 0 h
 
   found : (i : ℕ) → i < length slots
       → (let slot = at slots i in
-      lookup_outcome b slot ≡ done (located (at (list_of b) slot) (k_field b) (entry_number b slot)))
+      lookup_outcome b slot ≡ Ok (located (at (list_of b) slot) (k_field b) (entry_number b slot)))
   unfolding lookup_list_outcome lookup_outcome
   found i h =
       let s = and_then-done (counts_file 1 b) _ c e in
-      let inside = (refuse_first-done 9 0 (λ (i : ℕ). leb s.0.n (at slots i)) (length slots) _ c s.2).0 i h in
+      let inside = (refuse_first-done SlotOutOfRange 0 (λ (i : ℕ). leb s.0.n (at slots i)) (length slots) _ c s.2).0 i h in
       rw (s.1, inside)
 
   pub lookup-list-each : (i : ℕ) → i < length slots
-      → (a : Located) × (lookup_outcome b (at slots i) ≡ done a)
+      → (a : Located) × (lookup_outcome b (at slots i) ≡ Ok a)
       × (at (lookup_list_buffer b slots (length entries) distances) i ≡ a.distance)
       × (at (lookup_list_entries b slots (length distances) entries) i ≡ origin_number (k_field b) a.origin)
   unfolding lookup_list_buffer lookup_list_entries

@@ -10,6 +10,8 @@
 --   scan-short, scan-done, scan-buffer    all slots: refusal 12, or n, and what is written
 --   readings-done                      how many are not 0 (the sum: check-sum, SummaryLaws.antt)
 -- Axioms: none.
+use Rattle.std.proofs.Common.{Ok, Err}
+use Rattle.pciv_format.specs.declared.RefusalKind.TheVariants.{SlotOutOfRange, BufferTooSmall}
 use mathlib.Core.Path.{◌≡◌, ap, ap₂, ◌∙◌}
 use Prim.Native.Nat.{ℕ, ◌≤◌, ◌<◌, min}
 use native.Mathlib.Omega.{arith}
@@ -23,7 +25,7 @@ use Rattle.pciv_bytes.specs.Ranges.{first_below, table}
 use Rattle.pciv_bytes.proofs.RangesLaws.{map-cong, first_below-all, length-table}
 use Rattle.pciv_bytes.proofs.WriteLaws.{sets-front}
 use Rattle.pciv_format.specs.Layout.{at}
-use Rattle.pciv_format.specs.Refusals.{done, refused, refuse}
+use Rattle.pciv_format.specs.Refusals.{refuse}
 use Rattle.pciv_format.specs.Parts.{entry_of, value_of}
 use Rattle.pciv_format.specs.Check.{file_parts, counts_file, CheckedMap}
 use Rattle.pciv_format.specs.Read.{list_of, primary_part, behind, primary_place, entry_number, located}
@@ -38,7 +40,7 @@ use Rattle.pciv_format.proofs.ReadLaws.{list_of-is, at-list, items-fit, items-sh
 
 -- ---- the file is refused
 
-module _ (b : List ℕ) (r : Refusal) (e : counts_file 1 b ≡ refused r) where
+module _ (b : List ℕ) (r : Refusal) (e : counts_file 1 b ≡ Err r) where
   pub primary-refused : primary_part b ≡ []
   unfolding primary_part
   primary-refused = rw e
@@ -47,29 +49,29 @@ module _ (b : List ℕ) (r : Refusal) (e : counts_file 1 b ≡ refused r) where
   unfolding primary_place
   place-refused p = rw e
 
-  pub lookup-refused : (slot : ℕ) → lookup_outcome b slot ≡ refused r
+  pub lookup-refused : (slot : ℕ) → lookup_outcome b slot ≡ Err r
   unfolding lookup_outcome
   lookup-refused slot = rw e
 
-  pub list-refused : (slots : List ℕ) (c₁ c₂ : ℕ) → lookup_list_outcome b slots c₁ c₂ ≡ refused r
+  pub list-refused : (slots : List ℕ) (c₁ c₂ : ℕ) → lookup_list_outcome b slots c₁ c₂ ≡ Err r
   unfolding lookup_list_outcome
   list-refused slots c₁ c₂ = rw e
 
-  pub scan-refused : (capacity : ℕ) → scan_outcome b capacity ≡ refused r
+  pub scan-refused : (capacity : ℕ) → scan_outcome b capacity ≡ Err r
   unfolding scan_outcome
   scan-refused capacity = rw e
 
-  pub sum-refused : sum_outcome b ≡ refused r
+  pub sum-refused : sum_outcome b ≡ Err r
   unfolding sum_outcome
   sum-refused = rw e
 
-  pub readings-refused : readings_outcome b ≡ refused r
+  pub readings-refused : readings_outcome b ≡ Err r
   unfolding readings_outcome
   readings-refused = rw e
 
 -- ---- the file is a map
 
-module _ (b : List ℕ) (s : Counts) (e : counts_file 1 b ≡ done s) where
+module _ (b : List ℕ) (s : Counts) (e : counts_file 1 b ≡ Ok s) where
   pub checked : CheckedMap b s.n s.k
   checked = (done-counts 1 b s e).0
 
@@ -88,13 +90,13 @@ module _ (b : List ℕ) (s : Counts) (e : counts_file 1 b ≡ done s) where
   unfolding primary_place
   place-done p = rw e
 
-  pub lookup-outside : (slot : ℕ) → s.n ≤ slot → lookup_outcome b slot ≡ refuse 9 0 0
+  pub lookup-outside : (slot : ℕ) → s.n ≤ slot → lookup_outcome b slot ≡ refuse SlotOutOfRange 0 0
   unfolding lookup_outcome
   lookup-outside slot h = rw (e, le-leb s.n slot h)
 
   pub lookup-inside : (slot : ℕ) → slot < s.n
       → (let P = file_parts b s.n s.k in
-      lookup_outcome b slot ≡ done (located (value_of P slot) s.k (entry_of P slot)))
+      lookup_outcome b slot ≡ Ok (located (value_of P slot) s.k (entry_of P slot)))
   unfolding lookup_outcome
   lookup-inside slot h = rw (e, lt-leb s.n slot h, at_slot slot h, at_entry slot, checked.header.k_is)
 
@@ -102,10 +104,10 @@ module _ (b : List ℕ) (s : Counts) (e : counts_file 1 b ≡ done s) where
   module _ (slots : List ℕ) where
     pub list-outside : (c₁ c₂ place : ℕ)
         → place ≡ first_below (λ (i : ℕ). leb s.n (get_or slots i 0)) (length slots)
-        → place < length slots → lookup_list_outcome b slots c₁ c₂ ≡ refuse 9 0 place
+        → place < length slots → lookup_list_outcome b slots c₁ c₂ ≡ refuse SlotOutOfRange 0 place
     unfolding lookup_list_outcome
     list-outside c₁ c₂ place is h =
-        rw e (refuse_first-some 9 0 (λ (i : ℕ). leb s.n (get_or slots i 0)) (length slots) place _ is h)
+        rw e (refuse_first-some SlotOutOfRange 0 (λ (i : ℕ). leb s.n (get_or slots i 0)) (length slots) place _ is h)
 
     module _ (all : length slots ≤ first_below (λ (i : ℕ). leb s.n (get_or slots i 0)) (length slots)) where
       none : (i : ℕ) → i < length slots → leb s.n (get_or slots i 0) ≡ false
@@ -116,12 +118,12 @@ module _ (b : List ℕ) (s : Counts) (e : counts_file 1 b ≡ done s) where
 
       items : (c₁ c₂ : ℕ) → lookup_list_outcome b slots c₁ c₂ ≡ items_into (length slots) (min c₁ c₂)
       unfolding lookup_list_outcome
-      items c₁ c₂ = rw e (refuse_first-none 9 0 (λ (i : ℕ). leb s.n (get_or slots i 0)) (length slots) _ none)
+      items c₁ c₂ = rw e (refuse_first-none SlotOutOfRange 0 (λ (i : ℕ). leb s.n (get_or slots i 0)) (length slots) _ none)
 
-      pub list-short : (c₁ c₂ : ℕ) → min c₁ c₂ < length slots → lookup_list_outcome b slots c₁ c₂ ≡ refuse 12 0 0
+      pub list-short : (c₁ c₂ : ℕ) → min c₁ c₂ < length slots → lookup_list_outcome b slots c₁ c₂ ≡ refuse BufferTooSmall 0 0
       list-short c₁ c₂ h = items c₁ c₂ ∙ items-short (length slots) (min c₁ c₂) h
 
-      pub list_done : (c₁ c₂ : ℕ) → length slots ≤ min c₁ c₂ → lookup_list_outcome b slots c₁ c₂ ≡ done (length slots)
+      pub list_done : (c₁ c₂ : ℕ) → length slots ≤ min c₁ c₂ → lookup_list_outcome b slots c₁ c₂ ≡ Ok (length slots)
       list_done c₁ c₂ h = items c₁ c₂ ∙ items-fit (length slots) (min c₁ c₂) h
 
       -- f of each slot, which is g of it, at the front of a list
@@ -146,11 +148,11 @@ module _ (b : List ℕ) (s : Counts) (e : counts_file 1 b ≡ done s) where
           (front (entry_number b) (entry_of (file_parts b s.n s.k)) (λ i hi. at_entry i) out (omega arith))
 
   -- all slots
-  pub scan-short : (capacity : ℕ) → capacity < s.n → scan_outcome b capacity ≡ refuse 12 0 0
+  pub scan-short : (capacity : ℕ) → capacity < s.n → scan_outcome b capacity ≡ refuse BufferTooSmall 0 0
   unfolding scan_outcome
   scan-short capacity h = rw e (items-short s.n capacity h)
 
-  pub scan-done : (capacity : ℕ) → s.n ≤ capacity → scan_outcome b capacity ≡ done s.n
+  pub scan-done : (capacity : ℕ) → s.n ≤ capacity → scan_outcome b capacity ≡ Ok s.n
   unfolding scan_outcome
   scan-done capacity h = rw e (items-fit s.n capacity h)
 
@@ -163,6 +165,6 @@ module _ (b : List ℕ) (s : Counts) (e : counts_file 1 b ≡ done s) where
       (sets-front (table f 0 s.n) out (rw length-table h))
 
   -- how many are not 0
-  pub readings-done : readings_outcome b ≡ done (readings (list_of b))
+  pub readings-done : readings_outcome b ≡ Ok (readings (list_of b))
   unfolding readings_outcome
   readings-done = rw e

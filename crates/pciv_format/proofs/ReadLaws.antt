@@ -4,6 +4,8 @@
 --   total-is                    the sum of all distances
 --   items-fit, items-short      items into a list that holds them, or not
 -- Axioms: none.
+use Rattle.std.proofs.Common.{Ok}
+use Rattle.pciv_format.specs.declared.RefusalKind.TheVariants.{BufferTooSmall}
 use mathlib.Core.Path.{◌≡◌, ap, ap₂, ◌∙◌}
 use Prim.Native.Nat.{ℕ, ◌≤◌, ◌<◌}
 use native.Mathlib.Nat.{zero-add}
@@ -15,7 +17,7 @@ use Rattle.pciv_bytes.specs.Ranges.{table, sum_from}
 use Rattle.pciv_bytes.proofs.RangesLaws.{length-table, get_or-table}
 use Rattle.pciv_bytes.proofs.SumLaws.{sum_from-cong}
 use Rattle.pciv_format.specs.Layout.{at}
-use Rattle.pciv_format.specs.Refusals.{done, refuse}
+use Rattle.pciv_format.specs.Refusals.{refuse}
 use Rattle.pciv_format.specs.Parts.{value_of}
 use Rattle.pciv_format.specs.Check.{n_field, k_field, file_parts}
 use Rattle.pciv_format.specs.Read.{value_at, list_of, items_into, total}
@@ -45,8 +47,8 @@ module _ (b : List ℕ) (n k : ℕ) (n_is : n_field b ≡ n) (k_is : k_field b �
 
 -- ---- items that fit
 
-pub items-fit : (c capacity : ℕ) → c ≤ capacity → items_into c capacity ≡ done c
+pub items-fit : (c capacity : ℕ) → c ≤ capacity → items_into c capacity ≡ Ok c
 items-fit c capacity h = rw (le-ltb capacity c h)
 
-pub items-short : (c capacity : ℕ) → capacity < c → items_into c capacity ≡ refuse 12 0 0
+pub items-short : (c capacity : ℕ) → capacity < c → items_into c capacity ≡ refuse BufferTooSmall 0 0
 items-short c capacity h = rw (lt-ltb capacity c h)

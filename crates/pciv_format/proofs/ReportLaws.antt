@@ -9,6 +9,8 @@
 --   report_outcome-le                what was written fits the buffer
 --   report-written                  so a buffer of 160 bytes is never too short
 -- Axioms: none.
+use Rattle.std.proofs.Common.{Ok, Err}
+use Rattle.pciv_format.specs.declared.RefusalKind.TheVariants.{BufferTooSmall}
 use mathlib.Core.Path.{◌≡◌, refl, sym, ap, ◌∙◌}
 use Prim.Native.Nat.{ℕ, zero, suc, ◌+◌, ◌-◌, ◌*◌, ◌/◌, ◌%◌, ◌^◌, ◌≤◌, ◌<◌}
 use native.Mathlib.Nat.{pow-suc}
@@ -19,7 +21,7 @@ use mathlib.Core.List.{List, [], ◌∷◌, ◌++◌, append_assoc}
 use lib.ListN.{length, length-append}
 use lib.Dec.{ltb}
 use borrow.Author.Tests.{lt-ltb, le-ltb, ltb-false}
-use Rattle.pciv_format.specs.Refusals.{Outcome, done, refused, refuse, refuse_if}
+use Rattle.pciv_format.specs.Refusals.{Outcome, refuse, refuse_if, number_of}
 use Rattle.pciv_format.specs.Read.{list_of, check_file}
 use Rattle.pciv_format.specs.Report.{digits, decimal, field, line, refused_word, map_word, place_word}
 use Rattle.pciv_format.specs.Report.{slots_word, far_word, step_word, index_word, sum_word, readings_word}
@@ -113,11 +115,11 @@ line-append a b = append_assoc a b (10 ∷ [])
 -- each space before a word as the word's first letter
 pub refused_line-parts : (r : Refusal)
     → refused_line r
-    ≡ field refused_word r.number
+    ≡ field refused_word (number_of r.kind)
     ++ (field (32 ∷ map_word) r.map ++ line (field (32 ∷ place_word) r.place))
 unfolding refused_line field
 refused_line-parts r =
-    let first = field refused_word r.number in
+    let first = field refused_word (number_of r.kind) in
     let second = field (32 ∷ map_word) r.map in
     let third = field (32 ∷ place_word) r.place in
     line-append first (second ++ third) ∙ ap (λ (l : List ℕ). first ++ l) (line-append second third)
@@ -126,11 +128,11 @@ refused_line-parts r =
 
 module _ (b : List ℕ) where
   pub report_text-long : 65536 < length b
-      → report_text b ≡ refused_line (record { number = 12; map = 0; place = 0 })
+      → report_text b ≡ refused_line (record { kind = BufferTooSmall; map = 0; place = 0 })
   unfolding report_text
   report_text-long long = rw (lt-ltb 65536 (length b) long)
 
-  pub report_text-refused : (r : Refusal) → length b ≤ 65536 → check_file 1 b ≡ refused r
+  pub report_text-refused : (r : Refusal) → length b ≤ 65536 → check_file 1 b ≡ Err r
       → report_text b ≡ refused_line r
   unfolding report_text
   report_text-refused r short bad = rw (le-ltb 65536 (length b) short, bad)
@@ -165,32 +167,32 @@ refused-le r =
     (simp length-append
     (omega (
       arith,
-      field-le refused_word r.number,
+      field-le refused_word (number_of r.kind),
       field-le (32 ∷ map_word) r.map,
       line-le (32 ∷ place_word) r.place,
     )))
 
 pub report_text-le : (b : List ℕ) → length (report_text b) ≤ 160
 unfolding report_text
-report_text-le b = go (refuse_if (ltb 65536 (length b)) (refuse 12 0 0) (check_file 1 b))
+report_text-le b = go (refuse_if (ltb 65536 (length b)) (refuse BufferTooSmall 0 0) (check_file 1 b))
   where
     go : (o : Outcome Summary) → length (text_of o (list_of b)) ≤ 160
-    go (done s) = map-le s _ _
-    go (refused r) = refused-le r
+    go (Ok s) = map-le s _ _
+    go (Err r) = refused-le r
 
 -- ---- the buffer
 
 -- what was written fits the buffer
-pub report_outcome-le : (b : List ℕ) (capacity x : ℕ) → report_outcome b capacity ≡ done x → x ≤ capacity
+pub report_outcome-le : (b : List ℕ) (capacity x : ℕ) → report_outcome b capacity ≡ Ok x → x ≤ capacity
 unfolding report_outcome
 report_outcome-le b capacity x e =
     let c = length (report_text b) in
-    let fits = refuse_if-done (ltb capacity c) _ (done c) x e in
+    let fits = refuse_if-done (ltb capacity c) _ (Ok c) x e in
     let same : c ≡ x = cc fits.1 in
     omega (arith, ltb-false capacity c fits.0)
 
 -- a buffer of 160 bytes is never too short
 pub report-written : (b : List ℕ) (capacity : ℕ) → 160 ≤ capacity
-    → report_outcome b capacity ≡ done (length (report_text b))
+    → report_outcome b capacity ≡ Ok (length (report_text b))
 unfolding report_outcome
 report-written b capacity long = rw (le-ltb capacity (length (report_text b)) (omega (arith, report_text-le b)))

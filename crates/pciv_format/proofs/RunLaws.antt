@@ -11,6 +11,8 @@
 --   edit-run               the theorem
 --   moved-run              in such a run the editor's numbers of entries moved are the plain editor's too
 -- Axioms: none.
+use Rattle.std.proofs.Common.{Ok, Err}
+use Rattle.pciv_format.specs.declared.RefusalKind.TheVariants.{SlotOutOfRange, BufferTooSmall}
 use mathlib.Core.Path.{◌≡◌, refl, sym, ap, ap₂, ◌∙◌}
 use Prim.Native.Nat.{ℕ, suc, ◌+◌, ◌-◌, ◌≤◌, ◌<◌, max}
 use native.Mathlib.Nat.{le_refl, sub_self}
@@ -23,7 +25,7 @@ use lib.Seq.{drop_at, drop-drop}
 use lib.Dec.{ltb, leb}
 use borrow.Author.Tests.{ltb-false}
 use Rattle.pciv_format.specs.Layout.{max_distance, file_of, summary_of, Limits}
-use Rattle.pciv_format.specs.Refusals.{Outcome, done, refused, refuse, refuse_if}
+use Rattle.pciv_format.specs.Refusals.{Outcome, refuse, refuse_if}
 use Rattle.pciv_format.specs.Read.{list_of}
 use Rattle.pciv_format.specs.Edit.{Edit, edited, plain_outcome, edited_file, edit_outcome, replaced}
 use Rattle.pciv_format.specs.Edit.{if_accepted, edit_buffer, plain_moved, edit_moved, State, plain_start}
@@ -131,8 +133,8 @@ module _ (b₀ : List ℕ) (z : State) (at : Reached b₀ z) where
       go : (o : Outcome Summary)
           → if_accepted o (replaced (buffer_of z b₀) z.list (edited z.list e)) (buffer_of z b₀)
           ≡ buffer_of (if_accepted o (after z e) z) b₀
-      go (done s) = replaced-is (edited z.list e)
-      go (refused r) = refl
+      go (Ok s) = replaced-is (edited z.list e)
+      go (Err r) = refl
 
   pub next-reached : (e : Edit) → e.distance ≤ max_distance → Reached b₀ (plain_step (length b₀) z e)
   unfolding plain_step plain_outcome
@@ -140,7 +142,7 @@ module _ (b₀ : List ℕ) (z : State) (at : Reached b₀ z) where
       go (leb (length z.list) e.slot) (ltb (length b₀) (length (file_of (edited z.list e)))) refl
     where
       go : (p q : Bool) → ltb (length b₀) (length (file_of (edited z.list e))) ≡ q
-          → (let o = refuse_if p (refuse 9 0 0) (refuse_if q (refuse 12 0 0) (done (summary_of (edited z.list e)))) in
+          → (let o = refuse_if p (refuse SlotOutOfRange 0 0) (refuse_if q (refuse BufferTooSmall 0 0) (Ok (summary_of (edited z.list e)))) in
           Reached b₀ (if_accepted o (after z e) z))
       go true q h = at
       go false true h = at

@@ -12,6 +12,7 @@
 --   buffer_held          the check of a buffer of bytes: a checked map, and the sum of the list at its front
 --   buffer-is-file       so it is the summary of that list, whose file stands there
 -- Axioms: none.
+use Rattle.std.proofs.Common.{Ok, Err}
 use mathlib.Core.Path.{◌≡◌, refl, sym, ap, ap₂, ◌∙◌}
 use mathlib.Core.Logic.{◌↔◌}
 use Prim.Native.Nat.{ℕ, ◌+◌, ◌-◌, ◌≤◌, ◌<◌}
@@ -26,7 +27,7 @@ use Rattle.pciv_bytes.specs.LittleEndian.{Bytes}
 use Rattle.pciv_bytes.proofs.SumLaws.{sum_from-more, sum_from-split, sum_from-cong}
 use Rattle.pciv_format.specs.Layout.{file_len, overflow_count, counts_of, summarize, summary, at}
 use Rattle.pciv_format.specs.Layout.{file_of, list_counts, summary_of, Limits}
-use Rattle.pciv_format.specs.Refusals.{Outcome, done, refused}
+use Rattle.pciv_format.specs.Refusals.{Outcome}
 use Rattle.pciv_format.specs.Parts.{value_of}
 use Rattle.pciv_format.specs.Check.{file_parts, counts_file, counts_buffer, CheckedMap}
 use Rattle.pciv_format.specs.Read.{list_of, total, with_sum, check_file, check_buffer, sum_outcome}
@@ -47,20 +48,20 @@ counts_in s = record { n = s.n; k = s.k; m = s.m; step = s.step; len = s.len }
 -- o' has the same refusals as o, and where it is done, the same counts and that sum
 abbrev pub Alike : Outcome Summary → Outcome Counts → ℕ → Type 0
 Alike o' o sum =
-    ((r : Refusal) → (o' ≡ refused r) ↔ (o ≡ refused r))
-    × ((s : Summary) → (o' ≡ done s) ↔ ((o ≡ done (counts_in s)) × (s.sum ≡ sum)))
+    ((r : Refusal) → (o' ≡ Err r) ↔ (o ≡ Err r))
+    × ((s : Summary) → (o' ≡ Ok s) ↔ ((o ≡ Ok (counts_in s)) × (s.sum ≡ sum)))
 
 pub with_sum-iff : (o : Outcome Counts) (sum : ℕ) → Alike (with_sum o sum) o sum
-with_sum-iff (done c) sum = (
+with_sum-iff (Ok c) sum = (
   λ r. (λ e. cc, λ e. cc),
   λ s. (
     λ e. (cc, cc),
     λ e.
         (let q : c ≡ counts_in s = cc e.0 in
-        ap₂ (λ (c : Counts) (x : ℕ). done (summarize c x)) q (sym e.1)),
+        ap₂ (λ (c : Counts) (x : ℕ). Ok (summarize c x)) q (sym e.1)),
   ),
 )
-with_sum-iff (refused t) sum = (
+with_sum-iff (Err t) sum = (
   λ r. (λ e. cc, λ e. cc),
   λ s. (λ e. (cc, cc), λ e. cc e.0),
 )
@@ -77,7 +78,7 @@ pub summary-sum : (xs : List ℕ) → (summary_of xs).sum ≡ total xs
 unfolding summary total
 summary-sum xs = refl
 
-pub check-sum : (b : List ℕ) (s : Summary) → check_file 1 b ≡ done s → sum_outcome b ≡ done s.sum
+pub check-sum : (b : List ℕ) (s : Summary) → check_file 1 b ≡ Ok s → sum_outcome b ≡ Ok s.sum
 unfolding sum_outcome
 check-sum b s e =
     let a = ((counts-refuse-alike 1 b).1 s).0 e in
@@ -128,7 +129,7 @@ module _ (b : List ℕ) (n k : ℕ) (bytes : Bytes b) (c : CheckedMap b n k) whe
   total-buffer = total-is b n k c.header.n_is c.header.k_is ∙ sym total-front
 
 module _ (xs t : List ℕ) (l : Limits xs) where
-  pub front-check : (mp : ℕ) → check_buffer mp (file_of xs ++ t) ≡ done (summary_of xs)
+  pub front-check : (mp : ℕ) → check_buffer mp (file_of xs ++ t) ≡ Ok (summary_of xs)
   unfolding summary
   front-check mp =
       let n : ℕ = length xs in
@@ -138,14 +139,14 @@ module _ (xs t : List ℕ) (l : Limits xs) where
       ∙ front-sum n (at xs) l.count l.each t in
       rw (front-counts xs t l mp, sum)
 
-pub buffer_held : (mp : ℕ) (b : List ℕ) (s : Summary) → Bytes b → check_buffer mp b ≡ done s
+pub buffer_held : (mp : ℕ) (b : List ℕ) (s : Summary) → Bytes b → check_buffer mp b ≡ Ok s
     → CheckedMap b s.n s.k × (s.sum ≡ total (list_of (edited_file b)))
 buffer_held mp b s bytes e =
     let a = ((buffer-refuse-alike mp b).1 s).0 e in
     let c = done-buffer mp b (counts_in s) a.0 in
     (c, a.1 ∙ total-buffer b s.n s.k bytes c)
 
-pub buffer-is-file : (mp : ℕ) (b : List ℕ) (s : Summary) → Bytes b → check_buffer mp b ≡ done s
+pub buffer-is-file : (mp : ℕ) (b : List ℕ) (s : Summary) → Bytes b → check_buffer mp b ≡ Ok s
     → Holds b s.n s.k (list_of (edited_file b)) × (s ≡ summary_of (list_of (edited_file b)))
 unfolding summary total
 buffer-is-file mp b s bytes e =
@@ -154,7 +155,7 @@ buffer-is-file mp b s bytes e =
     let held = buffer_held mp b s bytes e in
     let c = held.0 in
     let h = checked-front b s.n s.k bytes c in
-    let is : done (counts_of s.n s.k) ≡ done (counts_in s) =
+    let is : Ok (counts_of s.n s.k) ≡ Ok (counts_in s) =
     sym (check_with-done ltb mp b s.n s.k c (le-ltb (length b) (file_len s.n s.k) c.fits)) ∙ a.0 in
     let counts : counts_in s ≡ counts_of s.n s.k = cc in
     let same : counts_of s.n s.k ≡ list_counts x =

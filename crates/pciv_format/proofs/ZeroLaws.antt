@@ -11,6 +11,8 @@
 --   near-mask-empty    at t = 0 all words are 0
 --   near-at-most       it is the mask for at most t without the zero distances
 -- Axioms: none.
+use Rattle.std.proofs.Common.{Ok, Err}
+use Rattle.pciv_format.specs.declared.RefusalKind.TheVariants.{DistanceOverflow, BufferTooSmall}
 use mathlib.Core.Path.{◌≡◌, refl, sym, ap, ◌∙◌, subst, fun_ext}
 use Prim.Native.Nat.{ℕ, suc, ◌+◌, ◌-◌, ◌*◌, ◌/◌, ◌%◌, ◌≤◌, ◌<◌, min, max}
 use native.Mathlib.Omega.{arith}
@@ -26,7 +28,7 @@ use Rattle.pciv_bytes.specs.Ranges.{flag, first_below, table}
 use Rattle.pciv_bytes.proofs.RangesLaws.{first_below-has, length-table}
 use Rattle.pciv_bytes.proofs.SumLaws.{sum_from-cong}
 use Rattle.pciv_format.specs.Layout.{max_distance, file, at, file_of, Limits}
-use Rattle.pciv_format.specs.Refusals.{Outcome, done, refused, refuse, refuse_if, written}
+use Rattle.pciv_format.specs.Refusals.{Outcome, refuse, refuse_if, written, number_of}
 use Rattle.pciv_format.specs.Read.{readings, items_into}
 use Rattle.pciv_format.specs.Write.{map_into}
 use Rattle.pciv_format.specs.Mask.{mask_len, bit_at, mask_has, mask_of, is_near, threshold_words}
@@ -88,7 +90,7 @@ shift-reading d x h = rw (ne_eqb x 0 (λ e. omega arith)) (at_least_one (pos x +
 
 -- ---- a list
 
-same-refusal : {r t : Refusal} → ◌≡◌ {A = Outcome Summary} (refused r) (refused t) → r ≡ t
+same-refusal : {r t : Refusal} → ◌≡◌ {A = Outcome Summary} (Err r) (Err t) → r ≡ t
 same-refusal e = cc
 
 module _ (d : ℤ) (xs : List ℕ) where
@@ -121,7 +123,7 @@ module _ (d : ℤ) (xs : List ℕ) where
       (fun_ext (λ i. sym (shifted_value i))) (rw (length-map xs (shifted_by d)) (file-shift xs l d out))
 
   -- the slot that refusal 11 names
-  pub shift-large : Limits xs → (c i : ℕ) → shift_outcome (file_of xs) d c ≡ refuse 11 0 i → (i < length xs) × (1 ≤ at xs i)
+  pub shift-large : Limits xs → (c i : ℕ) → shift_outcome (file_of xs) d c ≡ refuse DistanceOverflow 0 i → (i < length xs) × (1 ≤ at xs i)
   shift-large l c i e =
       elim (dec_le (length xs) first) [
         | yes none ↦ absurd (other (ltb c (length (file (length xs) (shifted_at d xs)))) _
@@ -142,15 +144,15 @@ module _ (d : ℤ) (xs : List ℕ) where
       first : ℕ
       first = first_below bad (length xs)
 
-      into : map_into (length xs) (shifted_at d xs) c ≡ refuse 11 0 i
+      into : map_into (length xs) (shifted_at d xs) c ≡ refuse DistanceOverflow 0 i
       into = sym (rw (length-replicate {A = ℕ} c 0) at (file-shift xs l d (replicate c 0)).0) ∙ e
 
       -- the other refusal has another number
-      other : (b : Bool) (s : Summary) → refuse_if b (refuse 12 0 0) (done s) ≡ refuse 11 0 i → ⊥
-      other true s q = omega (arith, ap (λ (r : Refusal). r.number) (same-refusal q))
+      other : (b : Bool) (s : Summary) → refuse_if b (refuse BufferTooSmall 0 0) (Ok s) ≡ refuse DistanceOverflow 0 i → ⊥
+      other true s q = omega (arith, ap (λ (r : Refusal). number_of r.kind) (same-refusal q))
       other false s q = let z : ◌≡◌ {A = ℕ} 0 1 = cc in omega arith
 
-      named : {j : ℕ} → ◌≡◌ {A = Outcome Summary} (refuse 11 0 j) (refuse 11 0 i) → j ≡ i
+      named : {j : ℕ} → ◌≡◌ {A = Outcome Summary} (refuse DistanceOverflow 0 j) (refuse DistanceOverflow 0 i) → j ≡ i
       named q = ap (λ (r : Refusal). r.place) (same-refusal q)
 
 -- ---- the near mask

@@ -8,6 +8,7 @@
 --   signed_differences xs ys       the exact y - x of each slot ("change")
 --   signed_difference_outcome, signed_difference_list    these of two maps, into a list
 -- Laws of the shift are in proofs/ZeroLaws.antt. Axioms: none.
+use Rattle.pciv_format.specs.declared.RefusalKind.TheVariants.{SizeMismatch}
 use Rattle.std.specs.Prelude.{ℕ, ◌+◌, ◌-◌, min, max, not, cond, List, length, eqb, ℤ, pos, negsuc, ◌+ℤ◌, ◌-ℤ◌}
 use Rattle.pciv_bytes.specs.Ranges.{table}
 use Rattle.pciv_format.specs.Layout.{at}
@@ -30,7 +31,7 @@ module _ {A : Type 0} where
   abbrev pub pair_outcome : List ℕ → List ℕ → (ℕ → Outcome A) → Outcome A
   pair_outcome a b next =
       and_then (counts_file 1 a)
-      (λ s. and_then (counts_file 2 b) (λ t. refuse_if (not (eqb s.n t.n)) (refuse 10 0 0) (next s.n)))
+      (λ s. and_then (counts_file 2 b) (λ t. refuse_if (not (eqb s.n t.n)) (refuse SizeMismatch 0 0) (next s.n)))
 
 -- the distance of the result at slot i
 abbrev pub combined_at : SlotOp → List ℕ → List ℕ → ℕ → ℕ

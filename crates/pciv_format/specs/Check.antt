@@ -11,10 +11,12 @@
 --   CheckedHeader, CheckedMap b n k    what inner routines know of b: a file of n slots and k overflow entries stands
 --                             at its front
 -- Laws are in proofs/CheckLaws.antt. Axioms: none.
+use Rattle.std.specs.Prelude.{Ok}
+use Rattle.pciv_format.specs.declared.RefusalKind.TheVariants.{TruncatedHeader, BadMagic, TooManySlots, BadCounts, BadLength, BadIndexEntry}
 use Rattle.std.specs.Prelude.{◌≡◌, ℕ, ◌+◌, ◌*◌, ◌≤◌, ◌<◌, Bool, false, not, ◌||◌, List, length, get_or, ltb, eqb}
 use Rattle.pciv_bytes.specs.LittleEndian.{get}
 use Rattle.pciv_format.specs.Layout.{max_slots, magic, index_step, index_len, file_len, counts_of}
-use Rattle.pciv_format.specs.Refusals.{Outcome, done, refuse, refuse_if, refuse_first, and_then}
+use Rattle.pciv_format.specs.Refusals.{Outcome, refuse, refuse_if, refuse_first, and_then}
 use Rattle.pciv_format.specs.Parts.{Parts, refuse_parts, SoundParts}
 use Rattle.pciv_format.specs.declared.Counts.{Counts}
 
@@ -52,22 +54,22 @@ bad_counts n k m step = ltb n k || not (eqb step (index_step k)) || not (eqb m (
 -- refusals 1 to 4, else the counts of the header
 unfoldable pub check_header : ℕ → List ℕ → Outcome Counts
 check_header mp b =
-    refuse_if (ltb (length b) 40) (refuse 1 mp 0)
-    (refuse_if (not (eqb (get 8 b 0) magic)) (refuse 2 mp 0)
-    (refuse_if (ltb max_slots (n_field b)) (refuse 3 mp 0)
-    (refuse_if (bad_counts (n_field b) (k_field b) (m_field b) (step_field b)) (refuse 4 mp 0)
-    (done (counts_of (n_field b) (k_field b))))))
+    refuse_if (ltb (length b) 40) (refuse TruncatedHeader mp 0)
+    (refuse_if (not (eqb (get 8 b 0) magic)) (refuse BadMagic mp 0)
+    (refuse_if (ltb max_slots (n_field b)) (refuse TooManySlots mp 0)
+    (refuse_if (bad_counts (n_field b) (k_field b) (m_field b) (step_field b)) (refuse BadCounts mp 0)
+    (Ok (counts_of (n_field b) (k_field b))))))
 
 -- refusals 6 to 8, else the counts
 unfoldable pub check_parts : ℕ → List ℕ → ℕ → ℕ → Outcome Counts
 check_parts mp b n k =
-    refuse_parts mp (file_parts b n k) (refuse_first 8 mp (bad_index_entry b n k) (index_len k) (done (counts_of n k)))
+    refuse_parts mp (file_parts b n k) (refuse_first BadIndexEntry mp (bad_index_entry b n k) (index_len k) (Ok (counts_of n k)))
 
 -- all of them; `wrong len l` tells if a buffer of len bytes has the wrong length for a file of l (refusal 5)
 unfoldable pub check_with : (ℕ → ℕ → Bool) → ℕ → List ℕ → Outcome Counts
 check_with wrong mp b =
     and_then (check_header mp b)
-    (λ s. refuse_if (wrong (length b) s.len) (refuse 5 mp 0) (check_parts mp b s.n s.k))
+    (λ s. refuse_if (wrong (length b) s.len) (refuse BadLength mp 0) (check_parts mp b s.n s.k))
 
 -- a whole file has exactly its length
 abbrev pub other_length : ℕ → ℕ → Bool

@@ -26,11 +26,13 @@
 --   edit_list_outcome, edit_list_buffer, edit_list_answers
 --                             the answer of a run of edits in one call, the buffer and the list of answers afterwards
 -- The plain editor is given the starting list, R and the edits, and nothing else. Axioms: none.
+use Rattle.std.specs.Prelude.{Ok, Err}
+use Rattle.pciv_format.specs.declared.RefusalKind.TheVariants.{SlotOutOfRange, BufferTooSmall}
 use Rattle.std.specs.Prelude.{◌≡◌, ℕ, suc, ◌+◌, ◌-◌, ◌*◌, ◌≤◌, ◌<◌, max, min, Bool, true, false, not, cond, List, [], ◌∷◌, ◌++◌, ◌⊎◌, length, get_or, take, drop, set, replicate, ltb, leb, eqb}
 use Rattle.std.specs.Bool.{xor}
 use Rattle.pciv_bytes.specs.Ranges.{table, positions}
 use Rattle.pciv_format.specs.Layout.{file_len, in_overflow, overflow_count, at, file_of, summary_of}
-use Rattle.pciv_format.specs.Refusals.{Outcome, done, refused, refuse, refuse_if, and_then, written, file_answer}
+use Rattle.pciv_format.specs.Refusals.{Outcome, refuse, refuse_if, and_then, written, number_of}
 use Rattle.pciv_format.specs.Check.{n_field, k_field, counts_buffer}
 use Rattle.pciv_format.specs.Read.{list_of}
 use Rattle.pciv_format.specs.declared.Summary.{Summary}
@@ -49,8 +51,8 @@ edited x e = set x e.slot e.distance
 
 unfoldable pub plain_outcome : List ℕ → ℕ → Edit → Outcome Summary
 plain_outcome x R e =
-    refuse_if (leb (length x) e.slot) (refuse 9 0 0)
-    (refuse_if (ltb R (length (file_of (edited x e)))) (refuse 12 0 0) (done (summary_of (edited x e))))
+    refuse_if (leb (length x) e.slot) (refuse SlotOutOfRange 0 0)
+    (refuse_if (ltb R (length (file_of (edited x e)))) (refuse BufferTooSmall 0 0) (Ok (summary_of (edited x e))))
 
 unfoldable pub edited_file : List ℕ → List ℕ
 edited_file b = take (file_len (n_field b) (k_field b)) b
@@ -67,8 +69,8 @@ replaced b x y =
 module _ {A B : Type 0} where
   -- the new state where an edit is accepted, the old one where it is refused; a run in one call likewise
   abbrev pub if_accepted : Outcome A → B → B → B
-  if_accepted (done a) new old = new
-  if_accepted (refused r) new old = old
+  if_accepted (Ok a) new old = new
+  if_accepted (Err r) new old = old
 
 unfoldable pub edit_buffer : List ℕ → Edit → List ℕ
 edit_buffer b e =
@@ -109,7 +111,7 @@ edit_moved b e = if_accepted (edit_outcome b e) (moved_by (list_of (edited_file 
 
 -- the editor's answer as its type
 abbrev pub edit_answer : Outcome Summary → ℕ → EditAnswer
-edit_answer o moved = record { outcome = file_answer o; moved = moved }
+edit_answer o moved = record { outcome = o; moved = moved }
 
 -- ---- a run of edits: each edit gets the buffer as the one before left it
 
@@ -166,14 +168,14 @@ pub record StepLimits (R : ℕ) (x b : List ℕ) (e : Edit) : Type 0 where
   -- the buffer holds a file at its front, and it is x's
   pub holds_file : take (length (file_of x)) b ≡ file_of x
   -- an accepted edit sets the slot to the distance: the file at the front is then that of the edited list
-  pub sets_slot : (s : Summary) → plain_outcome x R e ≡ done s
+  pub sets_slot : (s : Summary) → plain_outcome x R e ≡ Ok s
       → take (length (file_of (edited x e))) (edit_buffer b e) ≡ file_of (edited x e)
   -- a refused edit changes no byte
-  pub on_refusal : (r : Refusal) → plain_outcome x R e ≡ refused r → edit_buffer b e ≡ b
+  pub on_refusal : (r : Refusal) → plain_outcome x R e ≡ Err r → edit_buffer b e ≡ b
   -- a byte that changes is one that may change
   pub changed : (i : ℕ) → (get_or (edit_buffer b e) i 0 ≡ get_or b i 0 → ⊥) → MayChange x e i
   -- where the file becomes shorter, bytes from its new length up to the old one become 0
-  pub freed : (s : Summary) → plain_outcome x R e ≡ done s
+  pub freed : (s : Summary) → plain_outcome x R e ≡ Ok s
       → (i : ℕ) → length (file_of (edited x e)) ≤ i → i < length (file_of x) → get_or (edit_buffer b e) i 0 ≡ 0
   -- bytes past both lengths stay
   pub past : (i : ℕ) → length (file_of x) ≤ i → length (file_of (edited x e)) ≤ i
@@ -194,19 +196,22 @@ RunLimits R z b (e ∷ es) = StepLimits R z.list b e × RunLimits R (plain_step 
 abbrev pub answer_len : ℕ
 answer_len = 10
 
--- a refusal and a summary, one of which is all 0, and the number of entries moved
-abbrev pub cells_of : Refusal → Summary → ℕ → List ℕ
-cells_of r s moved = r.number ∷ r.map ∷ r.place ∷ s.n ∷ s.k ∷ s.m ∷ s.step ∷ s.len ∷ s.sum ∷ moved ∷ []
+-- a refusal's number, map and place and a summary, one of which is all 0, and the number of entries moved
+abbrev pub cells_of : List ℕ → Summary → ℕ → List ℕ
+cells_of why s moved = why ++ (s.n ∷ s.k ∷ s.m ∷ s.step ∷ s.len ∷ s.sum ∷ moved ∷ [])
 
-abbrev pub no_refusal : Refusal
-no_refusal = record { number = 0; map = 0; place = 0 }
+abbrev pub no_refusal : List ℕ
+no_refusal = 0 ∷ 0 ∷ 0 ∷ []
+
+abbrev pub refusal_cells : Refusal → List ℕ
+refusal_cells r = number_of r.kind ∷ r.map ∷ r.place ∷ []
 
 abbrev pub no_summary : Summary
 no_summary = record { n = 0; k = 0; m = 0; step = 0; len = 0; sum = 0 }
 
 unfoldable pub answer_cells : Outcome Summary → ℕ → List ℕ
-answer_cells (done s) moved = cells_of no_refusal s moved
-answer_cells (refused r) moved = cells_of r no_summary moved
+answer_cells (Ok s) moved = cells_of no_refusal s moved
+answer_cells (Err r) moved = cells_of (refusal_cells r) no_summary moved
 
 -- the answers one after another, from the outcomes and as many numbers of entries moved
 unfoldable pub all_cells : List (Outcome Summary) → List ℕ → List ℕ
@@ -224,8 +229,8 @@ unfoldable pub edit_list_outcome : List ℕ → List ℕ → List ℕ → ℕ �
 edit_list_outcome b slots distances capacity =
     and_then (counts_buffer 1 b)
     (λ s.
-    refuse_if (not (eqb (length slots) (length distances))) (refuse 9 0 (min (length slots) (length distances)))
-    (refuse_if (ltb capacity (answer_len * length slots)) (refuse 12 0 0) (done (length slots))))
+    refuse_if (not (eqb (length slots) (length distances))) (refuse SlotOutOfRange 0 (min (length slots) (length distances)))
+    (refuse_if (ltb capacity (answer_len * length slots)) (refuse BufferTooSmall 0 0) (Ok (length slots))))
 
 -- the plain editor's start on the file at the front of a buffer
 abbrev pub start_of : List ℕ → State

@@ -13,11 +13,13 @@
 --   map_of_mask_outcome, keep_masked_outcome ("cut"), increment_masked_outcome ("tally")   files from masks
 -- Those that write have a -Words or -Buffer beside them: what the caller's list or buffer holds afterwards.
 -- Laws are in proofs/BitLaws.antt and MaskLaws.antt, those of the near mask in ZeroLaws.antt. Axioms: none.
+use Rattle.std.specs.Prelude.{Ok}
+use Rattle.pciv_format.specs.declared.RefusalKind.TheVariants.{TooManySlots, BadMask}
 use Rattle.std.specs.Prelude.{ℕ, zero, suc, ◌+◌, ◌-◌, ◌*◌, ◌/◌, ◌%◌, ◌^◌, min, Bool, not, cond, ◌&&◌, ◌||◌, List, length, get_or, ltb, leb, eqb}
 use Rattle.std.specs.Bool.{xor}
 use Rattle.pciv_bytes.specs.Ranges.{flag, ceil_div, first_from, table, sum_from}
 use Rattle.pciv_format.specs.Layout.{max_slots, at}
-use Rattle.pciv_format.specs.Refusals.{Outcome, done, refuse, refuse_if, and_then, written}
+use Rattle.pciv_format.specs.Refusals.{Outcome, refuse, refuse_if, and_then, written}
 use Rattle.pciv_format.specs.Check.{counts_file}
 use Rattle.pciv_format.specs.Read.{list_of, items_into}
 use Rattle.pciv_format.specs.Write.{map_into, file_buffer}
@@ -95,7 +97,7 @@ combined Xor x y = xor x y
 -- n too large, then a mask at fault, then what follows
 module _ {A : Type 0} where
   abbrev pub refuse_masks : ℕ → Bool → Outcome A → Outcome A
-  refuse_masks n bad o = refuse_if (ltb max_slots n) (refuse 3 1 0) (refuse_if bad (refuse 13 0 0) o)
+  refuse_masks n bad o = refuse_if (ltb max_slots n) (refuse TooManySlots 1 0) (refuse_if bad (refuse BadMask 0 0) o)
 
 unfoldable pub combine_outcome : MaskOp → ℕ → List ℕ → List ℕ → ℕ → Outcome ℕ
 combine_outcome op n xs ys capacity = refuse_masks n (bad_mask n xs || bad_mask n ys) (items_into (mask_len n) capacity)
@@ -114,7 +116,7 @@ unfoldable pub set_bits : ℕ → List ℕ → ℕ
 set_bits n ws = sum_from (λ (i : ℕ). flag (mask_has ws i)) 0 n
 
 unfoldable pub set_bits_outcome : ℕ → List ℕ → Outcome ℕ
-set_bits_outcome n ws = refuse_masks n (bad_mask n ws) (done (set_bits n ws))
+set_bits_outcome n ws = refuse_masks n (bad_mask n ws) (Ok (set_bits n ws))
 
 -- ---- files from masks
 
@@ -136,7 +138,7 @@ map_of_mask_buffer n ws out = file_buffer (map_of_mask_outcome n ws (length out)
 abbrev pub masked_outcome : (Bool → ℕ → ℕ) → List ℕ → List ℕ → ℕ → Outcome Summary
 masked_outcome f b ws capacity =
     and_then (counts_file 1 b)
-    (λ s. refuse_if (bad_mask s.n ws) (refuse 13 0 0) (map_into s.n (λ i. f (mask_has ws i) (at (list_of b) i)) capacity))
+    (λ s. refuse_if (bad_mask s.n ws) (refuse BadMask 0 0) (map_into s.n (λ i. f (mask_has ws i) (at (list_of b) i)) capacity))
 
 abbrev pub masked_buffer : (Bool → ℕ → ℕ) → List ℕ → List ℕ → List ℕ → List ℕ
 masked_buffer f b ws out =

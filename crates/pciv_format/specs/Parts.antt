@@ -11,6 +11,7 @@
 --   EntriesRight P     every entry of P is right
 --   SoundParts P       neither refusal concerns P
 -- Laws are in proofs/PartsLaws.antt, BadEntryLaws.antt and BadSlotLaws.antt. Axioms: none.
+use Rattle.pciv_format.specs.declared.RefusalKind.TheVariants.{BadOverflowEntry, MissingOverflowEntry}
 use Rattle.std.specs.Prelude.{◌≡◌, ℕ, zero, suc, ◌+◌, ◌<◌, Bool, false, not, cond, ◌&&◌, ◌||◌, ltb, leb, eqb}
 use Rattle.pciv_bytes.specs.Ranges.{first_below}
 use Rattle.pciv_format.specs.Refusals.{Outcome, refuse_first}
@@ -46,7 +47,7 @@ value_of P i = cond (ltb (P.byte i) 255) (P.byte i) (P.distance (entry_of P i))
 
 module _ {A : Type 0} where
   abbrev pub refuse_parts : ℕ → Parts → Outcome A → Outcome A
-  refuse_parts mp P o = refuse_first 6 mp (bad_entry P) P.k (refuse_first 7 mp (bad_slot P) P.n o)
+  refuse_parts mp P o = refuse_first BadOverflowEntry mp (bad_entry P) P.k (refuse_first MissingOverflowEntry mp (bad_slot P) P.n o)
 
 abbrev pub EntriesRight : Parts → Type 0
 EntriesRight P = (j : ℕ) → j < P.k → bad_entry P j ≡ false

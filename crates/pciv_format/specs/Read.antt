@@ -19,10 +19,12 @@
 --   sum_outcome, readings_outcome    these of a file
 -- Laws are in proofs/ReadLaws.antt, of the check in proofs/Acceptance.antt and SummaryLaws.antt, of readings in
 -- ReadingsLaws.antt, of origins in OriginLaws.antt, of the outcomes case by case in ReadCaseLaws.antt. Axioms: none.
+use Rattle.std.specs.Prelude.{Ok, Err}
+use Rattle.pciv_format.specs.declared.RefusalKind.TheVariants.{SlotOutOfRange, BufferTooSmall}
 use Rattle.std.specs.Prelude.{ℕ, ◌+◌, min, not, cond, List, [], map, length, take, drop, ltb, leb, eqb}
 use Rattle.pciv_bytes.specs.Ranges.{flag, table, sum_from}
 use Rattle.pciv_format.specs.Layout.{summarize, at}
-use Rattle.pciv_format.specs.Refusals.{Outcome, done, refused, refuse, refuse_if, refuse_first, and_then, written}
+use Rattle.pciv_format.specs.Refusals.{Outcome, refuse, refuse_if, refuse_first, and_then, written}
 use Rattle.pciv_format.specs.Parts.{entry_of, value_of}
 use Rattle.pciv_format.specs.Check.{n_field, k_field, file_parts, counts_file, counts_buffer}
 use Rattle.pciv_format.specs.declared.Counts.{Counts}
@@ -51,7 +53,7 @@ readings xs = sum_from (λ (i : ℕ). flag (not (eqb (at xs i) 0))) 0 (length xs
 
 -- the counts, with the sum as the sixth number
 abbrev pub with_sum : Outcome Counts → ℕ → Outcome Summary
-with_sum o sum = and_then o (λ c. done (summarize c sum))
+with_sum o sum = and_then o (λ c. Ok (summarize c sum))
 
 abbrev pub check_file : ℕ → List ℕ → Outcome Summary
 check_file mp b = with_sum (counts_file mp b) (total (list_of b))
@@ -63,8 +65,8 @@ check_buffer mp b = with_sum (counts_buffer mp b) (total (list_of b))
 -- ---- the primary part
 
 abbrev pub only_done : Outcome Counts → List ℕ → List ℕ
-only_done (done s) l = l
-only_done (refused r) l = []
+only_done (Ok s) l = l
+only_done (Err r) l = []
 
 unfoldable pub primary_part : List ℕ → List ℕ
 primary_part b = only_done (counts_file 1 b) (take (n_field b) (drop 40 b))
@@ -75,8 +77,8 @@ behind i p = (p.0, i + p.1)
 
 -- how many bytes of a file stand before its primary part; 0 for a refused one, whose part has length 0, is chosen here
 abbrev pub bytes_before : Outcome Counts → ℕ
-bytes_before (done s) = 40
-bytes_before (refused r) = 0
+bytes_before (Ok s) = 40
+bytes_before (Err r) = 0
 
 unfoldable pub primary_place : List ℕ → ℕ × ℕ → ℕ × ℕ
 primary_place b p = behind (bytes_before (counts_file 1 b)) p
@@ -102,17 +104,17 @@ located x k j = record { distance = x; origin = origin_of k j }
 unfoldable pub lookup_outcome : List ℕ → ℕ → Outcome Located
 lookup_outcome b slot =
     and_then (counts_file 1 b)
-    (λ s. refuse_if (leb s.n slot) (refuse 9 0 0) (done (located (at (list_of b) slot) (k_field b) (entry_number b slot))))
+    (λ s. refuse_if (leb s.n slot) (refuse SlotOutOfRange 0 0) (Ok (located (at (list_of b) slot) (k_field b) (entry_number b slot))))
 
 -- c items into a list that holds `capacity` of them; the answer is how many were written
 abbrev pub items_into : ℕ → ℕ → Outcome ℕ
-items_into c capacity = refuse_if (ltb capacity c) (refuse 12 0 0) (done c)
+items_into c capacity = refuse_if (ltb capacity c) (refuse BufferTooSmall 0 0) (Ok c)
 
 -- both lists get an item for each slot, so the shorter one has to hold them
 unfoldable pub lookup_list_outcome : List ℕ → List ℕ → ℕ → ℕ → Outcome ℕ
 lookup_list_outcome b slots c₁ c₂ =
     and_then (counts_file 1 b)
-    (λ s. refuse_first 9 0 (λ (i : ℕ). leb s.n (at slots i)) (length slots) (items_into (length slots) (min c₁ c₂)))
+    (λ s. refuse_first SlotOutOfRange 0 (λ (i : ℕ). leb s.n (at slots i)) (length slots) (items_into (length slots) (min c₁ c₂)))
 
 -- the first list afterwards, where the second has c₂ elements
 unfoldable pub lookup_list_buffer : List ℕ → List ℕ → ℕ → List ℕ → List ℕ
@@ -133,7 +135,7 @@ scan_buffer b out = written (scan_outcome b (length out)) (list_of b) out
 -- ---- totals of a file
 
 unfoldable pub sum_outcome : List ℕ → Outcome ℕ
-sum_outcome b = and_then (counts_file 1 b) (λ s. done (total (list_of b)))
+sum_outcome b = and_then (counts_file 1 b) (λ s. Ok (total (list_of b)))
 
 unfoldable pub readings_outcome : List ℕ → Outcome ℕ
-readings_outcome b = and_then (counts_file 1 b) (λ s. done (readings (list_of b)))
+readings_outcome b = and_then (counts_file 1 b) (λ s. Ok (readings (list_of b)))

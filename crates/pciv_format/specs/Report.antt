@@ -8,8 +8,10 @@
 --   report_text b    what is printed for the input b
 --   report_outcome, report_buffer    that text into a caller's buffer
 -- Laws are in proofs/ReportLaws.antt. Axioms: none.
+use Rattle.std.specs.Prelude.{Ok, Err}
+use Rattle.pciv_format.specs.declared.RefusalKind.TheVariants.{BufferTooSmall}
 use Rattle.std.specs.Prelude.{ℕ, zero, suc, ◌+◌, ◌/◌, ◌%◌, cond, List, [], ◌∷◌, ◌++◌, length, ltb}
-use Rattle.pciv_format.specs.Refusals.{Outcome, done, refused, refuse, refuse_if, written}
+use Rattle.pciv_format.specs.Refusals.{Outcome, refuse, refuse_if, written, number_of}
 use Rattle.pciv_format.specs.Read.{list_of, total, readings, check_file, items_into}
 use Rattle.pciv_format.specs.declared.Summary.{Summary}
 use Rattle.pciv_format.specs.declared.Refusal.{Refusal}
@@ -70,16 +72,16 @@ map_lines s sum count =
 -- `refused 6 map 1 place 3`
 unfoldable pub refused_line : Refusal → List ℕ
 refused_line r =
-    line (field refused_word r.number ++ (32 ∷ (field map_word r.map ++ (32 ∷ field place_word r.place))))
+    line (field refused_word (number_of r.kind) ++ (32 ∷ (field map_word r.map ++ (32 ∷ field place_word r.place))))
 
 -- what is printed after the check of a file whose list is xs
 abbrev pub text_of : Outcome Summary → List ℕ → List ℕ
-text_of (done s) xs = map_lines s (total xs) (readings xs)
-text_of (refused r) xs = refused_line r
+text_of (Ok s) xs = map_lines s (total xs) (readings xs)
+text_of (Err r) xs = refused_line r
 
 -- input of more than 65,536 bytes is refused before any other test
 unfoldable pub report_text : List ℕ → List ℕ
-report_text b = text_of (refuse_if (ltb 65536 (length b)) (refuse 12 0 0) (check_file 1 b)) (list_of b)
+report_text b = text_of (refuse_if (ltb 65536 (length b)) (refuse BufferTooSmall 0 0) (check_file 1 b)) (list_of b)
 
 unfoldable pub report_outcome : List ℕ → ℕ → Outcome ℕ
 report_outcome b capacity = items_into (length (report_text b)) capacity

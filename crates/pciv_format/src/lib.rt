@@ -1,6 +1,9 @@
-// The PCIV format: its numbers and the types of all answers. What they mean is defined in specs/, in the order
+// The PCIV format: its numbers, its refusals and the types of what routines answer. What they mean is defined in specs/, in the order
 // of docs/FORMAT.md; the laws of the definitions are in proofs/.
 #![tactic(auto)]
+
+ghost use Rattle.std.specs.Prelude.{◌≡◌};
+ghost use Rattle.pciv_format.specs.Refusals.{number_of};
 
 // The most slots that a map may have.
 pub const MAX_SLOTS: usize = 1048576;
@@ -18,37 +21,6 @@ pub const MAX_DISTANCE: u32 = 4294967295;
 pub const UNINDEXED_MAX: usize = 2048;
 // How many numbers an answer of a run of edits is.
 pub const ANSWER_LEN: usize = 10;
-
-// The refusals' numbers.
-pub const TRUNCATED_HEADER: usize = 1;
-
-pub const BAD_MAGIC: usize = 2;
-
-pub const TOO_MANY_SLOTS: usize = 3;
-
-pub const BAD_COUNTS: usize = 4;
-
-pub const BAD_LENGTH: usize = 5;
-
-pub const BAD_OVERFLOW_ENTRY: usize = 6;
-
-pub const MISSING_OVERFLOW_ENTRY: usize = 7;
-
-pub const BAD_INDEX_ENTRY: usize = 8;
-
-pub const SLOT_OUT_OF_RANGE: usize = 9;
-
-pub const SIZE_MISMATCH: usize = 10;
-
-pub const DISTANCE_OVERFLOW: usize = 11;
-
-pub const BUFFER_TOO_SMALL: usize = 12;
-
-pub const BAD_MASK: usize = 13;
-
-pub const BAD_BUNDLE: usize = 14;
-
-pub const ZERO_CONSTANT: usize = 19;
 
 // The counts of a file: slots, overflow entries, index entries, the index's step, and its length in bytes.
 #[derive(Clone, Copy)]
@@ -71,41 +43,41 @@ pub struct Summary {
     pub sum: usize,
 }
 
-// Why a call is refused: the refusal's number, the map at fault (1 or 2, or a bundle's frame from 1 to 8, else 0) and the
-// place.
-#[derive(Clone, Copy)]
+// What a call is refused for (docs/FORMAT.md, "Refusals"), with the refusal's number.
+#[derive(Clone, Copy, Debug, PartialEq, Eq)]
+pub enum RefusalKind {
+    TruncatedHeader = 1,
+    BadMagic = 2,
+    TooManySlots = 3,
+    BadCounts = 4,
+    BadLength = 5,
+    BadOverflowEntry = 6,
+    MissingOverflowEntry = 7,
+    BadIndexEntry = 8,
+    SlotOutOfRange = 9,
+    SizeMismatch = 10,
+    DistanceOverflow = 11,
+    BufferTooSmall = 12,
+    BadMask = 13,
+    BadBundle = 14,
+    ZeroConstant = 19,
+}
+
+// Why a call is refused: the kind of refusal, the map at fault (1 or 2, or a bundle's frame from 1 to 8, else 0) and the
+// place. It is the error of every routine.
+#[derive(Clone, Copy, Debug, PartialEq, Eq)]
 pub struct Refusal {
-    pub number: usize,
+    pub kind: RefusalKind,
     pub map: usize,
     pub place: usize,
 }
 
-// Whether a call is accepted. It stands beside the result where that is an array.
-#[derive(Clone, Copy)]
-pub enum Verdict {
-    Accepted,
-    Refused(Refusal),
-}
+impl From<RefusalKind> for usize {
+    ghost from_gives = { λ kind number. number ≡ number_of kind };
 
-// The answer of a check without the sum, and of the beginning of a file: the file's counts.
-#[derive(Clone, Copy)]
-pub enum CountsAnswer {
-    Counted(Counts),
-    Refused(Refusal),
-}
-
-// The answer of a check, and of every routine that writes a file: the file's summary.
-#[derive(Clone, Copy)]
-pub enum FileAnswer {
-    Done(Summary),
-    Refused(Refusal),
-}
-
-// The answer of a total, and of every routine that writes a list: the number of items written.
-#[derive(Clone, Copy)]
-pub enum NumberAnswer {
-    Number(usize),
-    Refused(Refusal),
+    fn from(kind: RefusalKind) -> usize {
+        kind as usize
+    }
 }
 
 // Where a distance is stored: `Inline` in the primary array, `Overflow` in the overflow entry with this number, from 0.
@@ -122,24 +94,11 @@ pub struct Located {
     pub origin: Origin,
 }
 
-// The answer of a lookup of one slot.
-#[derive(Clone, Copy)]
-pub enum LookupAnswer {
-    Found(Located),
-    Refused(Refusal),
-}
-
-// The answer of a comparison figure.
-#[derive(Clone, Copy)]
-pub enum FigureAnswer {
-    Quotient(f64),
-    Refused(Refusal),
-}
-
-// The answer of the editor: the new file's summary or a refusal, and how many overflow entries the edit moved.
+// The answer of the editor: the new file's summary or a refusal, and how many overflow entries the edit moved, 0 after a
+// refusal.
 #[derive(Clone, Copy)]
 pub struct EditAnswer {
-    pub outcome: FileAnswer,
+    pub outcome: Result<Summary, Refusal>,
     pub moved: usize,
 }
 

@@ -6,6 +6,7 @@ ghost use Rattle.pciv_format.specs.Parts.{wrong_entry};
 use pciv_format::SENTINEL;
 
 // An entry with this slot and distance is wrong; its slot may be `lowest` at the least.
+#[tactic(auto, unfolding(pciv_format::specs::Parts::wrong_entry))]
 pub fn wrong_entry(primary: &[u8], lowest: usize, slot: usize, distance: u32) -> bool
     ensures { result ≡ wrong_entry (length primary.now) (at primary.now) lowest slot distance }
 {

@@ -5,14 +5,14 @@
 pub mod entries;
 pub mod refusals;
 
-ghost use Rattle.std.specs.Prelude.{◌≡◌, ◌≤◌, ◌+◌, ◌^◌, ◌<◌};
+ghost use Rattle.std.specs.Prelude.{◌≡◌, ◌≤◌};
 ghost use Rattle.pciv_format.specs.Layout.{max_slots, counts_of, summarize, primary_byte, index_step, index_len, file_len};
-ghost use Rattle.pciv_bytes.specs.Ranges.{ceil_div};
 ghost use Rattle.pciv_format.specs.Mask.{mask_len};
 
 use pciv_format::{Counts, HEADER_LEN, SENTINEL, Summary, UNINDEXED_MAX};
 
 // The counts of a file with n slots and k overflow entries.
+#[tactic(auto, unfolding(pciv_format::specs::Layout::counts_of))]
 pub fn counts_of(n: usize, k: usize) -> Counts
     requires { (n ≤ max_slots) × (k ≤ n) }
     ensures { result ≡ counts_of n k }
@@ -51,15 +51,8 @@ pub fn primary_byte(x: u32) -> u8
     }
 }
 
-// a / b, rounded up.
-fn ceil_div(a: usize, b: usize) -> usize
-    requires { (0 < b) × (a + b < 2 ^ 64) }
-    ensures { result ≡ ceil_div a b }
-{
-    (a + (b - 1)) / b
-}
-
 // The step of the sparse index; 0 for no index.
+#[tactic(auto, unfolding(pciv_format::specs::Layout::index_step))]
 pub fn index_step(k: usize) -> usize
     requires { k ≤ max_slots }
     ensures { result ≡ index_step k }
@@ -67,10 +60,11 @@ pub fn index_step(k: usize) -> usize
     if k <= UNINDEXED_MAX {
         return 0;
     }
-    ceil_div(k, UNINDEXED_MAX)
+    k.div_ceil(UNINDEXED_MAX)
 }
 
 // How many entries the sparse index has.
+#[tactic(auto, using(crate::proofs::CeilLaws::ceil_div_is), unfolding(pciv_format::specs::Layout::index_len))]
 pub fn index_len(k: usize) -> usize
     requires { k ≤ max_slots }
     ensures { result ≡ index_len k }
@@ -79,7 +73,7 @@ pub fn index_len(k: usize) -> usize
     if step == 0 {
         return 0;
     }
-    ceil_div(k, step)
+    k.div_ceil(step)
 }
 
 // The length of the file in bytes.
@@ -95,5 +89,5 @@ pub fn mask_len(n: usize) -> usize
     requires { n ≤ max_slots }
     ensures { result ≡ mask_len n }
 {
-    ceil_div(n, 64)
+    n.div_ceil(64)
 }

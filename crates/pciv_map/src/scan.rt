@@ -18,10 +18,8 @@ pub fn scan_into(file: &[u8], n: usize, k: usize, out: &mut [u32])
 {
     let end = HEADER_LEN + n;
     widen(&file[HEADER_LEN..end], out);
-    let mut j = 0;
-    while j < k {
+    for j in 0..k {
         let slot = entry_slot(file, n, j);
         out[slot] = entry_distance(file, n, j);
-        j += 1;
     }
 }

@@ -19,10 +19,8 @@ fn excess_of(file: &[u8], n: usize, k: usize) -> usize
     ensures { result ≡ sum_from (λ (j : ℕ). (file_parts file.now n k).distance j - 255) 0 k }
 {
     let mut sum: usize = 0;
-    let mut j = 0;
-    while j < k {
+    for j in 0..k {
         sum += (entry_distance(file, n, j) - SENTINEL as u32) as usize;
-        j += 1;
     }
     sum
 }

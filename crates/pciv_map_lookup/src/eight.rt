@@ -36,12 +36,10 @@ fn halve8(
         first.new (len - len / 2) }
 {
     let half = len / 2;
-    let mut q = 0;
-    while q < 8 {
+    for q in 0..8 {
         let slot = slots[places[q]];
         let found = entry_slot(file, n, first[q] + half);
         first[q] += half * is_at_most(found, slot);
-        q += 1;
     }
 }
 
@@ -100,11 +98,9 @@ pub(crate) fn locate8(
         (take 8 places.now) entries.old }
 {
     let found = entries8(file, n, k, slots, places);
-    let mut q = 0;
-    while q < 8 {
+    for q in 0..8 {
         let place = places[q];
         put_entry(distances, entries, place, file, n, found[q]);
-        q += 1;
     }
 }
 
@@ -130,11 +126,9 @@ pub(crate) fn locate_few(
         ≡ sets_at (at_place (entry_of (file_parts file.now n k)) slots.now)
         (take count places.now) entries.old }
 {
-    let mut q = 0;
-    while q < count {
+    for q in 0..count {
         let place = places[q];
         let j = entry_of(file, n, k, slots[place]);
         put_entry(distances, entries, place, file, n, j);
-        q += 1;
     }
 }

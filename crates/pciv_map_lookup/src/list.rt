@@ -30,14 +30,12 @@ pub fn locate_into(
 {
     let mut places = [0usize; 8];
     let mut waiting = 0;
-    let mut i = 0;
-    while i < slots.len() {
-        let byte = file[HEADER_LEN + slots[i]];
+    for (i, slot) in slots.iter().enumerate() {
+        let byte = file[HEADER_LEN + *slot];
         distances[i] = byte as u32;
         entries[i] = k;
         places[waiting] = i;
         waiting += (byte == SENTINEL) as usize;
-        i += 1;
         if waiting == 8 {
             locate8(distances, entries, file, n, k, slots, &places);
             waiting = 0;

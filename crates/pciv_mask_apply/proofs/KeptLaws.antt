@@ -13,6 +13,7 @@ use mathlib.Core.Bool.{Bool, true, false}
 use mathlib.Core.List.{List, ◌++◌}
 use lib.Seq.{sets}
 use lib.Dec.{ltb}
+use Rattle.std.proofs.lemmas.Bool.Decides.{nat_tests}
 use borrow.Author.Tests.{le-ltb}
 use Rattle.pciv_bytes.specs.Ranges.{flag, first_below}
 use Rattle.pciv_bytes.specs.LittleEndian.{Bytes, le}
@@ -29,16 +30,13 @@ use Rattle.pciv_mask_primary.specs.Masked.{masked_distance}
 use Rattle.pciv_mask_primary.specs.declared.MaskedOp.TheVariants.{Keep}
 
 pub kept-le : (b : Bool) (x : ℕ) → kept_if b x ≤ x
-kept-le true x = omega arith
-kept-le false x = omega arith
+kept-le b x = grind (arith, nat_tests)
 
 kept_set : (b : Bool) (x : ℕ) → 0 < flag b → kept_if b x ≡ x
-kept_set true x h = refl
-kept_set false x h = absurd (omega arith)
+kept_set b x h = grind (arith, nat_tests)
 
 kept-clear : (b : Bool) (x : ℕ) → flag b ≤ 0 → kept_if b x ≡ 0
-kept-clear true x h = absurd (omega arith)
-kept-clear false x h = refl
+kept-clear b x h = grind (arith, nat_tests)
 
 module _ (P : Parts) (s : SoundParts P) (bytes : (i : ℕ) → P.byte i < 256) (ws : List ℕ) where
   abbrev v : ℕ → ℕ

@@ -1,19 +1,18 @@
--- What the routines of this crate answer and leave, case by case.
---   map-many, map-bad, map-good     `map_of_mask`: too many slots, no mask, or a mask
---   map-refused, map-buffer         the buffer after a refusal, and after what is written
---   masked-refused, -bad, -written  what a mask makes of a map: a refused file, no mask, or what is written
---   masked-kept                     the buffer after a refusal
+-- What the routines of this crate answer and leave where they are not refused.
+--   map-good, map-buffer    `map_of_mask` of a mask: the answer, and the buffer after it
+--   masked-written          what a mask makes of a map: the answer, and the buffer after it
 -- Axioms: none.
+use Rattle.std.proofs.Common.{Ok}
 use mathlib.Core.Path.{◌≡◌, sym, ap, ◌∙◌}
 use Prim.Native.Nat.{ℕ, ◌≤◌, ◌<◌}
 use native.Mathlib.Omega.{arith}
-use mathlib.Core.Bool.{Bool, true, false}
+use mathlib.Core.Bool.{Bool, false}
 use mathlib.Core.List.{List}
 use lib.ListN.{length}
-use borrow.Author.Tests.{lt-ltb, le-ltb}
+use borrow.Author.Tests.{le-ltb}
 use Rattle.pciv_bytes.proofs.RangesLaws.{flag-le}
 use Rattle.pciv_format.specs.Layout.{max_slots, at}
-use Rattle.pciv_format.specs.Refusals.{Outcome, done, refused, refuse, file_answer}
+use Rattle.pciv_format.specs.Refusals.{Outcome}
 use Rattle.pciv_format.specs.Parts.{value_of}
 use Rattle.pciv_format.specs.Check.{file_parts, counts_file, CheckedMap}
 use Rattle.pciv_format.specs.Read.{list_of}
@@ -22,8 +21,6 @@ use Rattle.pciv_format.specs.Mask.{mask_has, bad_mask, mask_value, map_of_mask_o
 use Rattle.pciv_format.specs.Mask.{masked_outcome, masked_buffer}
 use Rattle.pciv_format.specs.declared.Counts.{Counts}
 use Rattle.pciv_format.specs.declared.Summary.{Summary}
-use Rattle.pciv_format.specs.declared.Refusal.{Refusal}
-use Rattle.pciv_format.specs.declared.FileAnswer.{FileAnswer}
 use Rattle.pciv_format.proofs.CheckLaws.{done-counts}
 use Rattle.pciv_format.proofs.ReadLaws.{length-list_of, at-list}
 use Rattle.pciv_build.proofs.IntoLaws.{map-fits, map-written}
@@ -31,26 +28,12 @@ use Rattle.pciv_build.proofs.IntoLaws.{map-fits, map-written}
 -- ---- a mask as a map
 
 module _ (n : ℕ) (ws : List ℕ) where
-  module _ (capacity : ℕ) where
-    pub map-many : max_slots < n → map_of_mask_outcome n ws capacity ≡ refuse 3 1 0
-    unfolding map_of_mask_outcome
-    map-many many = rw (lt-ltb max_slots n many)
-
-    pub map-bad : n ≤ max_slots → bad_mask n ws ≡ true → map_of_mask_outcome n ws capacity ≡ refuse 13 0 0
-    unfolding map_of_mask_outcome
-    map-bad few bad = rw (le-ltb max_slots n few, bad)
-
-    pub map-good : n ≤ max_slots → bad_mask n ws ≡ false
-        → map_of_mask_outcome n ws capacity ≡ file_into n (mask_value ws) capacity
-    unfolding map_of_mask_outcome
-    map-good few good =
-        rw (le-ltb max_slots n few, good)
-        (map-fits n (mask_value ws) capacity (λ i h. omega (arith, flag-le (mask_has ws i))))
-
-  pub map-refused : (out : List ℕ) (r : Refusal) → map_of_mask_outcome n ws (length out) ≡ refused r
-      → map_of_mask_buffer n ws out ≡ out
-  unfolding map_of_mask_buffer
-  map-refused out r e = rw e
+  pub map-good : (capacity : ℕ) → n ≤ max_slots → bad_mask n ws ≡ false
+      → map_of_mask_outcome n ws capacity ≡ file_into n (mask_value ws) capacity
+  unfolding map_of_mask_outcome
+  map-good capacity few good =
+      rw (le-ltb max_slots n few, good)
+      (map-fits n (mask_value ws) capacity (λ i h. omega (arith, flag-le (mask_has ws i))))
 
   pub map-buffer : (out : List ℕ) (o : Outcome Summary) → map_of_mask_outcome n ws (length out) ≡ o
       → file_buffer o n (mask_value ws) out ≡ map_of_mask_buffer n ws out
@@ -60,19 +43,7 @@ module _ (n : ℕ) (ws : List ℕ) where
 -- ---- what a mask makes of a map
 
 module _ (f : Bool → ℕ → ℕ) (b ws : List ℕ) where
-  pub masked-refused : (r : Refusal) → counts_file 1 b ≡ refused r → (capacity : ℕ)
-      → masked_outcome f b ws capacity ≡ refused r
-  masked-refused r e capacity = rw e
-
-  pub masked-kept : (out : List ℕ) (r : Refusal) → masked_outcome f b ws (length out) ≡ refused r
-      → masked_buffer f b ws out ≡ out
-  masked-kept out r e =
-      ap (λ (o : Outcome Summary). file_buffer o (length (list_of b)) (λ i. f (mask_has ws i) (at (list_of b) i)) out) e
-
-  module _ (s : Counts) (e : counts_file 1 b ≡ done s) where
-    pub masked-bad : bad_mask s.n ws ≡ true → (capacity : ℕ) → masked_outcome f b ws capacity ≡ refuse 13 0 0
-    masked-bad bad capacity = rw (e, bad)
-
+  module _ (s : Counts) (e : counts_file 1 b ≡ Ok s) where
     abbrev v : ℕ → ℕ
     v i = f (mask_has ws i) (value_of (file_parts b s.n s.k) i)
 
@@ -86,11 +57,11 @@ module _ (f : Bool → ℕ → ℕ) (b ws : List ℕ) where
     same i h =
         ap (f (mask_has ws i)) (sym (at-list b s.n s.k checked.header.n_is checked.header.k_is i h))
 
-    pub masked-written : bad_mask s.n ws ≡ false → (out d : List ℕ) (x : FileAnswer)
+    pub masked-written : bad_mask s.n ws ≡ false → (out d : List ℕ) (x : Outcome Summary)
         → (let v : ℕ → ℕ = λ i. f (mask_has ws i) (value_of (file_parts b s.n s.k) i) in
         let into = map_into s.n v (length out) in
-        x ≡ file_answer into → d ≡ file_buffer into s.n v out
-        → (x ≡ file_answer (masked_outcome f b ws (length out))) × (d ≡ masked_buffer f b ws out))
+        x ≡ into → d ≡ file_buffer into s.n v out
+        → (x ≡ (masked_outcome f b ws (length out))) × (d ≡ masked_buffer f b ws out))
     masked-written good out d x answer buffer =
         map-written s.n v w same (length (list_of b)) (length-list_of b ∙ checked.header.n_is) out d x
         (masked_outcome f b ws (length out)) (rw (e, good)) answer buffer

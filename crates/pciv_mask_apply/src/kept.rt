@@ -19,10 +19,8 @@ pub(crate) fn count_kept(file: &[u8], n: usize, k: usize, words: &[u64]) -> usiz
     ensures { result ≡ overflow_count n (masked_distance Keep (file_parts file.now n k) words.now) }
 {
     let mut count: usize = 0;
-    let mut j = 0;
-    while j < k {
+    for j in 0..k {
         count += bit_of(words, entry_slot(file, n, j)) as usize;
-        j += 1;
     }
     count
 }

@@ -3,7 +3,6 @@ ghost use Rattle.std.specs.Prelude.{◌≡◌, ℕ, ◌+◌, ◌*◌, ◌≤◌,
 ghost use Rattle.std.proofs.lemmas.List.Edits.{sets};
 ghost use Rattle.pciv_bytes.specs.Ranges.{first_below};
 ghost use Rattle.pciv_format.specs.Layout.{max_distance, overflow_count, overflow_part};
-ghost use Rattle.pciv_format.specs.Refusals.{file_answer};
 ghost use Rattle.pciv_format.specs.Check.{file_parts, CheckedMap};
 ghost use Rattle.pciv_format.specs.Write.{map_into, file_buffer};
 ghost use Rattle.pciv_format.specs.Words.{IsMask};
@@ -13,8 +12,8 @@ ghost use Rattle.pciv_mask_primary.specs.Masked.{masked_distance};
 
 use crate::kept::{count_kept, put_kept};
 use pciv_build::{begin, finish};
-use pciv_format::{CountsAnswer, DISTANCE_OVERFLOW, FileAnswer};
-use pciv_layout::refusals::refuse_file;
+use pciv_format::{Refusal, RefusalKind, Summary};
+use pciv_layout::refusals::refuse;
 use pciv_map::totals::summary_of;
 use pciv_mask_increment::{count_incremented, first_too_large, put_incremented};
 use pciv_mask_primary::{MaskedOp, put_primary};
@@ -75,25 +74,20 @@ pub(crate) fn masked_into(
     k: usize,
     words: &[u64],
     out: &mut [u8],
-) -> FileAnswer
+) -> Result<Summary, Refusal>
     requires checked_map { CheckedMap file.now n k }
     requires mask { IsMask n words.now }
-    ensures answer { result ≡ file_answer (map_into n (masked_distance op (file_parts file.now n k) words.now) (length out.old)) }
+    ensures answer { result ≡ map_into n (masked_distance op (file_parts file.now n k) words.now) (length out.old) }
     ensures buffer { out.new ≡ file_buffer (map_into n (masked_distance op (file_parts file.now n k) words.now) (length out.old)) n (masked_distance op (file_parts file.now n k) words.now) out.old }
 {
     let large = first_large(op, file, n, k, words);
     if large < n {
-        return refuse_file(DISTANCE_OVERFLOW, 0, large);
+        return refuse(RefusalKind::DistanceOverflow, 0, large);
     }
     let count = count_overflow(op, file, n, k, words);
-    let begun = begin(out, n, count);
-    match begun {
-        CountsAnswer::Refused(r) => FileAnswer::Refused(r),
-        CountsAnswer::Counted(c) => {
-            put_primary(out, op, file, n, k, words);
-            put_entries(out, op, file, n, k, words, count);
-            finish(out, n, count);
-            FileAnswer::Done(summary_of(out, c))
-        }
-    }
+    let counts = begin(out, n, count)?;
+    put_primary(out, op, file, n, k, words);
+    put_entries(out, op, file, n, k, words, count);
+    finish(out, n, count);
+    Ok(summary_of(out, counts))
 }

@@ -1,7 +1,7 @@
 -- Laws of a mask as bytes: eight bits at once through the table, 64 bits of a word, and the map of 0 and 1.
 --   bit_rows-at, bits_row-table    a row of the table, byte by byte
---   row-of-word          a row is eight bits of a word;  word-bit  a word as 64 bytes
---   no_bytes, last_bit   the word after the last whole one as 64 bytes, and its slots
+--   row-of-word          a row is eight bits of a word;  word-bit, word-slots  a word as 64 bytes, and as 64 slots
+--   no_bytes, last_bit, last-bits    the word after the last whole one as 64 bytes, and its slots
 --   primary-bits         bits are primary bytes
 --   count_none, part_none, index-none    a map below 255 has no overflow entry, and its file no index
 -- Axioms: none.
@@ -10,7 +10,7 @@ use Prim.Native.Nat.{ℕ, ◌+◌, ◌*◌, ◌/◌, ◌%◌, ◌^◌, ◌≤◌
 use native.Mathlib.Nat.{zero-add}
 use native.Mathlib.Omega.{arith}
 use mathlib.Core.List.{List, []}
-use lib.ListN.{length, get_or, replicate, get_or-eq_default}
+use lib.ListN.{length, get_or, take, replicate, get_or-eq_default}
 use lib.Seq.{sets}
 use Rattle.pciv_bytes.specs.Ranges.{table, joined}
 use Rattle.pciv_bytes.specs.ByteAt.{byte_at}
@@ -23,8 +23,9 @@ use Rattle.pciv_format.proofs.LayoutLaws.{index_step-few, index_len-zero}
 use Rattle.pciv_build.specs.Build.{index_from}
 use Rattle.pciv_build.proofs.EntriesLaws.{slots_from-start, slots_from-gap, slots_from-end}
 use Rattle.pciv_format.proofs.BitLaws.{bit_at-shr, bit_at-mod, bit_at-none}
-use Rattle.pciv_format.proofs.MaskLaws.{flag-mask_has}
+use Rattle.pciv_format.proofs.MaskLaws.{flag-mask_has, word-of-mask}
 use Rattle.pciv_mask_bytes.specs.Rows.{bit_rows}
+use Rattle.pciv_mask_bytes.proofs.SlotLaws.{part-table}
 
 -- ---- rows
 
@@ -60,6 +61,12 @@ word-bit d b x j space is h =
     ∙ get_or-table (bit_at x) 0 0 64 j h
     ∙ ap (bit_at x) (zero-add j)
 
+-- its bits are those of 64 slots
+pub word-slots : (ws : List ℕ) (w : ℕ) → table (bit_at (get_or ws w 0)) 0 64 ≡ table (mask_value ws) (64 * w) 64
+word-slots ws w =
+    let e : 64 * w / 64 ≡ w = omega arith in
+    rw e at (word-of-mask ws (64 * w) (omega arith))
+
 -- ---- the slots after the last whole word
 
 -- where there is no word
@@ -79,6 +86,13 @@ last_bit b ws n i is low high =
     ∙ ap (bit_at x) (zero-add (i % 64))
     ∙ sym (flag-mask_has ws (n / 64) (i % 64) (omega arith))
     ∙ ap (mask_value ws) e
+
+pub last-bits : (b ws : List ℕ) (n w : ℕ) → b ≡ table (bit_at (get_or ws (n / 64) 0)) 0 64 → w ≡ n / 64
+    → take (n % 64) b ≡ table (mask_value ws) (64 * w) (n % 64)
+last-bits b ws n w is last =
+    let l : length b ≡ 64 = ap length is ∙ length-table (bit_at (get_or ws (n / 64) 0)) 0 64 in
+    part-table b (mask_value ws) 0 (64 * w) (n % 64) (omega arith)
+    (λ j h. ap (byte_at b) (omega arith) ∙ last_bit b ws n (64 * w + j) is (omega arith) (omega arith))
 
 -- ---- a map of 0 and 1
 

@@ -1,47 +1,34 @@
--- Writing f at n slots where a file has its primary array, 64 slots or one a turn.
---   SlotsLeft f n d₀ i₀ d i    all that was left at slot i₀ of d₀ is what is left at slot i of d
---   slots-start, -word, -one, _end    nothing is written yet, 64 slots more, one more, and all
+-- A table written to a list part by part, and a table that stands in a list.
+--   written-more, written-one    i elements of the table f are written, then c more, or one
+--   part-table                   a part of a list that is a table
 -- Axioms: none.
-use mathlib.Core.Path.{◌≡◌, refl, sym, ap, ◌∙◌}
-use Prim.Native.Nat.{ℕ, ◌+◌, ◌-◌, ◌≤◌, ◌<◌}
-use native.Mathlib.Omega.{arith}
-use mathlib.Core.List.{List}
-use lib.ListN.{length, set, length-set}
-use lib.Seq.{sets, length-sets}
+use Rattle.std.proofs.Common.{◌≡◌, refl, sym, ap, ◌∙◌, ℕ, ◌+◌, ◌≤◌, ◌<◌, List, ◌∷◌, [], length, get_or, take, drop, arith}
+use Rattle.std.proofs.lemmas.Grind.{common_steps, same_number_lists}
+use lib.Seq.{sets}
+use lib.ListN.{set}
+use native.Mathlib.Nat.{zero-add}
 use Rattle.pciv_bytes.specs.Ranges.{table}
-use Rattle.pciv_bytes.proofs.WriteLaws.{sets-table-start, sets-table-more, sets-table-end, sets-table-part}
+use Rattle.pciv_bytes.proofs.RangesLaws.{length-table, get_or-table, table-append}
+use Rattle.pciv_bytes.proofs.WriteLaws.{sets-append}
 
-pub record SlotsLeft (f : ℕ → ℕ) (n : ℕ) (d₀ : List ℕ) (i₀ : ℕ) (d : List ℕ) (i : ℕ) : Type 0 where
-  pub inside : i ≤ n
-  pub same : length d ≡ length d₀
-  pub rest : sets d₀ (40 + i₀) (table f i₀ (n - i₀)) ≡ sets d (40 + i) (table f i (n - i))
+module _ (f : ℕ → ℕ) (at : ℕ) (d : List ℕ) (i : ℕ) {out : List ℕ} (here : out ≡ sets d at (table f 0 i)) where
+  pub written-more : (c j : ℕ) {next xs : List ℕ} → next ≡ sets out (at + i) xs → xs ≡ table f i c → j ≡ i + c
+      → next ≡ sets d at (table f 0 j)
+  written-more c j put is e =
+      rw (put, is, here, e)
+      (sym
+      (ap (sets d at) (table-append f i 0 c)
+      ∙ sets-append (table f 0 i) (table f (0 + i) c) d at
+      ∙ rw (length-table f 0 i, zero-add i)))
 
-module _ (f : ℕ → ℕ) (n : ℕ) where
-  pub slots-start : (d : List ℕ) (i : ℕ) → i ≤ n → SlotsLeft f n d i d i
-  slots-start d i inside = record { inside = inside; same = refl; rest = refl }
+  pub written-one : (x : ℕ) → x ≡ f i → set out (at + i) x ≡ sets d at (table f 0 (i + 1))
+  unfolding table
+  written-one x is = rw is (written-more 1 (i + 1) {xs = f i ∷ []} refl refl refl)
 
-  module _ {d₀ d : List ℕ} {i₀ i : ℕ} (l : SlotsLeft f n d₀ i₀ d i) where
-    pub slots-word : (d' xs : List ℕ) → 64 ≤ n - i → d' ≡ sets d (40 + i) xs → xs ≡ table f i 64
-        → SlotsLeft f n d₀ i₀ d' (i + 64)
-    slots-word d' xs more put is =
-        let whole : d' ≡ sets d (40 + i) (table f i 64) = put ∙ ap (sets d (40 + i)) is in
-        record {
-          inside = omega (arith, l.inside);
-          same = ap length put ∙ length-sets d (40 + i) xs ∙ l.same;
-          rest = l.rest
-              ∙ sets-table-part f 40 n i 64 d (omega (arith, l.inside))
-              ∙ ap (λ (e : List ℕ). sets e (40 + (i + 64)) (table f (i + 64) (n - (i + 64)))) (sym whole);
-        }
-
-    pub slots-one : (x : ℕ) → i < n → x ≡ f i → SlotsLeft f n d₀ i₀ (set d (40 + i) x) (i + 1)
-    slots-one x more is =
-        record {
-          inside = omega arith;
-          same = simp length-set l.same;
-          rest = l.rest ∙ sets-table-more f 40 n i d more ∙ rw is;
-        }
-
-  pub slots_end : {d₀ d₁ d : List ℕ} {i₁ i : ℕ} → SlotsLeft f n d₀ 0 d₁ i₁ → SlotsLeft f n d₁ i₁ d i → n ≤ i
-      → d ≡ sets d₀ 40 (table f 0 n)
-  slots_end {d₀ = d₀} {d = d} {i = i} words ones all =
-      sym (sets-table-start f 40 n d₀ ∙ words.rest ∙ ones.rest ∙ sets-table-end f 40 n i d all)
+pub part-table : (xs : List ℕ) (f : ℕ → ℕ) (s i c : ℕ) → s + c ≤ length xs
+    → ((j : ℕ) → j < c → get_or xs (s + j) 0 ≡ f (i + j)) → take c (drop s xs) ≡ table f i c
+part-table xs f s i c inside same =
+    same_number_lists (take c (drop s xs)) (table f i c) (grind (arith, common_steps, length-table f i c))
+    (λ j h.
+    let b : j < c = grind (arith, common_steps) in
+    grind (arith, common_steps, same j b, get_or-table f 0 i c j b))

@@ -6,6 +6,7 @@ ghost use Rattle.pciv_format.specs.Mask.{bit_at, mask_value};
 ghost use Rattle.pciv_mask_bytes.specs.Rows.{bit_rows};
 
 use crate::rows::{bit_rows, put_row};
+use pciv_bytes::copies::copy_bytes;
 use pciv_format::HEADER_LEN;
 
 // 1 where a slot is set, else 0.
@@ -30,12 +31,10 @@ fn few_set(words: &[u64], from: usize) -> bool
         return false;
     }
     let mut any: u64 = 0;
-    let mut j = 0;
-    while j < BLOCK {
-        any |= words[from + j];
-        j += 1;
+    for word in &words[from..from + BLOCK] {
+        any |= *word;
     }
-    u64::count_ones(any) <= FEW_SET
+    any.count_ones() <= FEW_SET
 }
 
 // Whether few slots are set in the block of word w: asked at its first word, else the answer for the word before. It is a
@@ -62,10 +61,9 @@ pub fn put_word(out: &mut [u8], at: usize, rows: &[u8; 2048], word: u64)
     requires { (rows.now ≡ bit_rows) × (at + 64 ≤ length out.old) }
     ensures { out.new ≡ sets out.old at (table (bit_at word) 0 64) }
 {
-    let mut j = 0;
-    while j < 64 {
+    for row in 0..8 {
+        let j = 8 * row;
         put_row(out, at + j, rows, eight_bits(word, j));
-        j += 8;
     }
 }
 
@@ -87,14 +85,9 @@ pub fn put_bits(out: &mut [u8], n: usize, words: &[u64])
     ensures { out.new ≡ sets out.old 40 (table (mask_value words.now) 0 n) }
 {
     let rows = bit_rows();
-    let mut i = 0;
-    while 64 <= n - i {
-        put_word(out, HEADER_LEN + i, &rows, words[i / 64]);
-        i += 64;
+    for w in 0..n / 64 {
+        put_word(out, HEADER_LEN + 64 * w, &rows, words[w]);
     }
     let bits = last_bits(words, n, &rows);
-    while i < n {
-        out[HEADER_LEN + i] = bits[i % 64];
-        i += 1;
-    }
+    copy_bytes(&bits[..n % 64], out, HEADER_LEN + n - n % 64);
 }

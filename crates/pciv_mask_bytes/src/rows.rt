@@ -275,9 +275,7 @@ pub fn put_row(out: &mut [u8], at: usize, rows: &[u8; 2048], b: usize)
     ensures { out.new ≡ sets out.old at (bits_row b) }
 {
     let row = 8 * b;
-    let mut j = 0;
-    while j < 8 {
+    for j in 0..8 {
         out[at + j] = rows[row + j];
-        j += 1;
     }
 }

@@ -1,15 +1,17 @@
 -- A map with 1 added where a mask is 1.
 --   FineTo P ws j          no slot below the least that entry j may have is too large
---   fine-start, _more, -found, -all    it holds at first and one entry on; an entry is too large, and none is
---   raised-le, word-raised    at most one for each slot; what is picked in a word, as a part of a sum over all slots
+--   fine_more, -found, -all    it holds one entry on; an entry is too large, and none is
+--   raised-le, word-raised, raised-next    at most one for each slot; what is picked in a word, as a part of a sum over
+--                          all slots, and the sum one word on
 --   raised-count           the slots in overflow are the map's own and those that come to it
 --   Raising P ws d₀ d at j    the walk that writes the entries: those of slots from `from` on are left, and the cursor
 --                          is there;  RaisingAt  and at the next slot in overflow
 --   raising-start, -next, -more    where it begins, the next slot, and one entry on
 -- Axioms: none.
 use mathlib.Core.Path.{◌≡◌, sym, ap, ◌∙◌}
-use Prim.Native.Nat.{ℕ, ◌+◌, ◌*◌, ◌≤◌, ◌<◌, min}
+use Prim.Native.Nat.{ℕ, ◌+◌, ◌-◌, ◌*◌, ◌≤◌, ◌<◌, min}
 use native.Mathlib.Numerals.{add-one}
+use native.Mathlib.Nat.{sub-zero}
 use native.Mathlib.Omega.{arith}
 use native.Mathlib.Decide.{dec_le}
 use mathlib.Core.Bool.{Bool, true, false}
@@ -22,7 +24,7 @@ use Rattle.pciv_bytes.specs.Ranges.{flag, first_below, sum_from}
 use Rattle.pciv_bytes.specs.LittleEndian.{Bytes, le, get}
 use Rattle.pciv_bytes.specs.ByteAt.{byte_at, byte_is}
 use Rattle.pciv_bytes.proofs.RangesLaws.{first_below-at, first_below-none, flag-le}
-use Rattle.pciv_bytes.proofs.SumLaws.{sum_from-le, sum_from-plus}
+use Rattle.pciv_bytes.proofs.SumLaws.{sum_from-le, sum_from-plus, sum_from-split}
 use Rattle.pciv_format.specs.Layout.{max_distance, in_overflow, primary_byte, overflow_count}
 use Rattle.pciv_format.specs.Parts.{Parts, lowest_slot, value_of, SoundParts}
 use Rattle.pciv_format.specs.Check.{file_parts, CheckedMap}
@@ -47,9 +49,6 @@ use Rattle.pciv_mask_increment.proofs.PickedLaws.{picked-sum}
 
 abbrev pub FineTo : Parts → List ℕ → ℕ → Type 0
 FineTo P ws j = (i : ℕ) → i < lowest_slot P j → masked_distance Increment P ws i ≤ max_distance
-
-pub fine-start : (P : Parts) (ws : List ℕ) → FineTo P ws 0
-fine-start P ws i h = absurd (omega arith)
 
 module _ (P : Parts) (s : SoundParts P) (bytes : (i : ℕ) → P.byte i < 256) (ws : List ℕ) where
   abbrev v : ℕ → ℕ
@@ -121,6 +120,14 @@ module _ (xs ws : List ℕ) where
   word-raised w =
       picked-sum (byte_is xs 254) (raised_at xs ws) 64 (64 * w) (get_or ws w 0)
       (λ t h. ap (λ (b : ℕ). b * byte_is xs 254 (64 * w + t)) (flag-mask_has ws w t h))
+
+  pub raised-next : (w count found : ℕ) → count ≡ sum_from (raised_at xs ws) 0 (64 * w)
+      → found ≡ sum_from (raised_at xs ws) (64 * w) 64 → count + found ≡ sum_from (raised_at xs ws) 0 (64 * (w + 1))
+  raised-next w count found is here =
+      let f : ℕ → ℕ = raised_at xs ws in
+      let e : 64 * (w + 1) - 64 * w ≡ 64 = omega arith in
+      let split = sum_from-split f 0 (64 * w) (64 * (w + 1)) (omega arith) (omega arith) in
+      omega (arith, simp (e, sub-zero) at split)
 
 -- one more, where the bit is set: in overflow before, or a byte 254
 raised-one : (b : Bool) (x : ℕ)

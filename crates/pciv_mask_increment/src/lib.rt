@@ -29,11 +29,9 @@ pub fn first_too_large(file: &[u8], n: usize, k: usize, words: &[u64]) -> usize
     requires mask { IsMask n words.now }
     ensures { result ≡ first_below (λ (i : ℕ). ltb max_distance (masked_distance Increment (file_parts file.now n k) words.now i)) n }
 {
-    let mut j = 0;
-    while j < k {
+    for j in 0..k {
         let slot = entry_slot(file, n, j);
         let x = entry_distance(file, n, j);
-        j += 1;
         if MAX_DISTANCE - x < bit_of(words, slot) as u32 {
             return slot;
         }
@@ -50,7 +48,7 @@ fn count_set(bytes: &[u8], from: usize, word: u64) -> usize
     let mut count: usize = 0;
     let mut rest = word;
     while 0 < rest {
-        let slot = from + u64::trailing_zeros(rest) as usize;
+        let slot = from + rest.trailing_zeros() as usize;
         count += (bytes[slot] == INLINE_MAX) as usize;
         rest &= rest - 1;
     }
@@ -77,10 +75,8 @@ fn count_raised(bytes: &[u8], words: &[u64]) -> usize
     ensures { result ≡ sum_from (raised_at bytes.now words.now) 0 (64 * length words.now) }
 {
     let mut count: usize = 0;
-    let mut w = 0;
-    while w < words.len() {
-        count += count_word(bytes, 64 * w, words[w]);
-        w += 1;
+    for (w, word) in words.iter().enumerate() {
+        count += count_word(bytes, 64 * w, *word);
     }
     count
 }

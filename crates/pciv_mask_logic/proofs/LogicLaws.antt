@@ -1,7 +1,6 @@
 -- What the word operations are on masks.
 --   combined-words, flipped-words    the words of and, or, exclusive or, and of not, are those of a mask
 --   flip-full, -last    not, of a word that the slots fill, and of the last one where they do not
---   one-bit-pos         a single bit is not 0
 -- Axioms: none.
 use mathlib.Core.Path.{◌≡◌, refl, sym, ap, ap₂, ◌∙◌}
 use Prim.Native.Nat.{ℕ, zero, suc, ◌+◌, ◌-◌, ◌*◌, ◌/◌, ◌%◌, ◌^◌, ◌≤◌, ◌<◌, min, max}
@@ -12,6 +11,7 @@ use mathlib.Core.List.{List}
 use lib.ListN.{get_or}
 use lib.Bits.{bit_xor, differ, and_lt, or_lt, xor_lt}
 use lib.Pow.{pow_pos, pow-lt, pow_mono}
+use Rattle.std.proofs.lemmas.Bool.Decides.{nat_tests}
 use Rattle.pciv_bytes.specs.Ranges.{flag, table}
 use Rattle.pciv_format.specs.Mask.{mask_len, bit_at, mask_has, word, mask_of, combined}
 use Rattle.pciv_format.specs.declared.MaskOp.{MaskOp}
@@ -31,18 +31,9 @@ flag_op Xor x y = differ x y
 
 flag_op-flag : (op : MaskOp) (p q : Bool) → flag_op op (flag p) (flag q) ≡ flag (combined op p q)
 unfolding xor
-flag_op-flag And true true = refl
-flag_op-flag And true false = refl
-flag_op-flag And false true = refl
-flag_op-flag And false false = refl
-flag_op-flag Or true true = refl
-flag_op-flag Or true false = refl
-flag_op-flag Or false true = refl
-flag_op-flag Or false false = refl
-flag_op-flag Xor true true = refl
-flag_op-flag Xor true false = refl
-flag_op-flag Xor false true = refl
-flag_op-flag Xor false false = refl
+flag_op-flag And p q = grind (arith, nat_tests)
+flag_op-flag Or p q = grind (arith, nat_tests)
+flag_op-flag Xor p q = grind (arith, nat_tests)
 
 bit_at-op : (op : MaskOp) (x y j : ℕ) → bit_at (bit_op op x y) j ≡ flag_op op (bit_at x j) (bit_at y j)
 bit_at-op And x y j = bit_at-and x y j
@@ -118,17 +109,10 @@ pub flip-full : (n : ℕ) (ws : List ℕ) (w : ℕ) → 64 * w + 64 ≤ n
 flip-full n ws w full =
     let e : 64 ≡ min 64 (n - 64 * w) = omega arith in ap (λ (c : ℕ). bit_xor (get_or ws w 0) (low_bits c)) e
 
--- one bit of a word
-one_bit : (j : ℕ) → j < 64 → 1 * 2 ^ j % 2 ^ 64 ≡ 2 ^ j
-one_bit j h = rw (one-mul (2 ^ j)) (mod-eq_of_lt (pow-lt {i = j} {j = 64} h))
-
-pub one-bit-pos : (j : ℕ) → j < 64 → 1 ≤ 1 * 2 ^ j % 2 ^ 64
-one-bit-pos j h = rw (one_bit j h) (pow_pos j)
-
 -- the last word, where the slots do not fill it
 pub flip-last : (n : ℕ) (ws : List ℕ) (w : ℕ) → w ≡ n / 64
     → bit_xor (get_or ws w 0) (1 * 2 ^ (n % 64) % 2 ^ 64 - 1) ≡ flip_at n ws w
 flip-last n ws w last =
     let e : n % 64 ≡ min 64 (n - 64 * w) = omega arith in
-    ap (λ (x : ℕ). bit_xor (get_or ws w 0) (x - 1)) (one_bit (n % 64) (omega arith))
-    ∙ ap (λ (c : ℕ). bit_xor (get_or ws w 0) (low_bits c)) e
+    let one : 2 ^ (n % 64) < 2 ^ 64 = pow-lt {i = n % 64} {j = 64} (omega arith) in
+    rw (one-mul (2 ^ (n % 64)), mod-eq_of_lt one) (ap (λ (c : ℕ). bit_xor (get_or ws w 0) (low_bits c)) e)

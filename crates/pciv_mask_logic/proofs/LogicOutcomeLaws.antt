@@ -1,23 +1,24 @@
 -- What the mask routines answer and write, case by case.
---   masks-many, -bad, -good    too many slots, a mask at fault, or what follows
---   mask-short, _done          a mask into a list of too few words, or enough
 --   combine-is, complement-is  the outcome by the test of the masks that the code makes
 --   combine-refused, complement-refused          a refused call changes no word
 --   combine-fits, -written, complement-fits, -written    where it is done the words fit, and are those that are written
---   set_bits-many, -bad, -done  the number of set bits
+--   set_bits-done              the number of set bits
 -- Axioms: none.
-use mathlib.Core.Path.{◌≡◌, refl, sym, ap, ◌∙◌}
-use Prim.Native.Nat.{ℕ, ◌*◌, ◌≤◌, ◌<◌}
-use mathlib.Core.Bool.{Bool, true, false, not, ◌&&◌, ◌||◌}
+use Rattle.std.proofs.Common.{Ok, Err, arith}
+use Rattle.pciv_format.specs.declared.RefusalKind.TheVariants.{BadMask}
+use mathlib.Core.Path.{◌≡◌, sym, ap, ◌∙◌}
+use Prim.Native.Nat.{ℕ, ◌*◌, ◌≤◌}
+use mathlib.Core.Bool.{Bool, false, not, ◌&&◌, ◌||◌}
 use mathlib.Core.List.{List}
 use lib.ListN.{length}
 use lib.Seq.{sets}
 use lib.Dec.{ltb}
-use borrow.Author.Tests.{lt-ltb, le-ltb, ltb-false}
+use Rattle.std.proofs.lemmas.Bool.Decides.{nat_tests}
+use borrow.Author.Tests.{le-ltb, ltb-false}
 use Rattle.pciv_bytes.specs.Ranges.{flag, table, sum_from}
 use Rattle.pciv_bytes.proofs.WriteLaws.{sets-front}
 use Rattle.pciv_format.specs.Layout.{max_slots}
-use Rattle.pciv_format.specs.Refusals.{Outcome, done, refused, refuse, refuse_if, written}
+use Rattle.pciv_format.specs.Refusals.{refuse, refuse_if, written}
 use Rattle.pciv_format.specs.Read.{items_into}
 use Rattle.pciv_format.specs.Mask.{mask_len, mask_has, mask_of, bad_mask, combined, refuse_masks, combine_outcome}
 use Rattle.pciv_format.specs.Mask.{combine_words, complement_outcome, complement_words, set_bits}
@@ -30,54 +31,30 @@ use Rattle.pciv_format.proofs.MaskLaws.{or-false, bad_mask-good, good-bad_mask, 
 use Rattle.pciv_mask_logic.specs.Logic.{op_at, flip_at}
 use Rattle.pciv_mask_logic.proofs.LogicLaws.{combined-words, flipped-words}
 
--- ---- too many slots, then a mask at fault, then what follows
-
-module _ {A : Type 0} (n : ℕ) (bad : Bool) (o : Outcome A) where
-  pub masks-many : max_slots < n → refuse_masks n bad o ≡ refuse 3 1 0
-  masks-many many = rw (lt-ltb max_slots n many)
-
-  pub masks-bad : n ≤ max_slots → bad ≡ true → refuse_masks n bad o ≡ refuse 13 0 0
-  masks-bad few is-bad = rw (le-ltb max_slots n few, is-bad)
-
-  pub masks-good : n ≤ max_slots → bad ≡ false → refuse_masks n bad o ≡ o
-  masks-good few good = rw (le-ltb max_slots n few, good)
-
 -- ---- a mask into a list of words
 
-module _ (n : ℕ) (bad : Bool) (capacity : ℕ) (few : n ≤ max_slots) (good : bad ≡ false) where
-  pub mask-short : capacity < mask_len n → refuse_masks n bad (items_into (mask_len n) capacity) ≡ refuse 12 0 0
-  mask-short short = masks-good n bad (items_into (mask_len n) capacity) few good ∙ rw (lt-ltb capacity (mask_len n) short)
-
-  pub mask_done : mask_len n ≤ capacity → refuse_masks n bad (items_into (mask_len n) capacity) ≡ done (mask_len n)
-  mask_done fits = masks-good n bad (items_into (mask_len n) capacity) few good ∙ rw (le-ltb capacity (mask_len n) fits)
-
 module _ (n : ℕ) (bad : Bool) (out : List ℕ) (x : ℕ)
-    (e : refuse_masks n bad (items_into (mask_len n) (length out)) ≡ done x) where
-  after-slots : (ltb max_slots n ≡ false) × (refuse_if bad (refuse 13 0 0) (items_into (mask_len n) (length out)) ≡ done x)
+    (e : refuse_masks n bad (items_into (mask_len n) (length out)) ≡ Ok x) where
+  after-slots : (ltb max_slots n ≡ false) × (refuse_if bad (refuse BadMask 0 0) (items_into (mask_len n) (length out)) ≡ Ok x)
   after-slots = refuse_if-done (ltb max_slots n) _ _ x e
 
-  after-masks : (bad ≡ false) × (items_into (mask_len n) (length out) ≡ done x)
+  after-masks : (bad ≡ false) × (items_into (mask_len n) (length out) ≡ Ok x)
   after-masks = refuse_if-done bad _ _ x after-slots.1
 
   mask-good : bad ≡ false
   mask-good = after-masks.0
 
   mask_fits : mask_len n ≤ length out
-  mask_fits = ltb-false _ _ (refuse_if-done (ltb (length out) (mask_len n)) _ (done (mask_len n)) x after-masks.1).0
+  mask_fits = ltb-false _ _ (refuse_if-done (ltb (length out) (mask_len n)) _ (Ok (mask_len n)) x after-masks.1).0
 
   mask-written : (f : List ℕ) → length f ≡ mask_len n
       → sets out 0 f ≡ written (refuse_masks n bad (items_into (mask_len n) (length out))) f out
   mask-written f full = rw e (sets-front f out (rw full mask_fits))
 
-not-not : (a : Bool) → not (not a) ≡ a
-not-not true = refl
-not-not false = refl
-
 -- ---- and, or, exclusive or
 
 or-not : (a b : Bool) → a || b ≡ not (not a && not b)
-or-not true b = refl
-or-not false b = sym (not-not b)
+or-not a b = grind (arith, nat_tests)
 
 module _ (op : MaskOp) (n : ℕ) (xs ys out : List ℕ) where
   pub combine-is : combine_outcome op n xs ys (length out)
@@ -86,12 +63,12 @@ module _ (op : MaskOp) (n : ℕ) (xs ys out : List ℕ) where
   combine-is =
       ap (λ (bad : Bool). refuse_masks n bad (items_into (mask_len n) (length out))) (or-not (bad_mask n xs) (bad_mask n ys))
 
-  pub combine-refused : (r : Refusal) → combine_outcome op n xs ys (length out) ≡ refused r
+  pub combine-refused : (r : Refusal) → combine_outcome op n xs ys (length out) ≡ Err r
       → combine_words op n xs ys out ≡ out
   unfolding combine_words
   combine-refused r e = rw e
 
-  module _ (x : ℕ) (e : combine_outcome op n xs ys (length out) ≡ done x) where
+  module _ (x : ℕ) (e : combine_outcome op n xs ys (length out) ≡ Ok x) where
     good : (bad_mask n xs ≡ false) × (bad_mask n ys ≡ false)
     unfolding combine_outcome
     good = or-false (bad_mask n xs) (bad_mask n ys) (mask-good n (bad_mask n xs || bad_mask n ys) out x e)
@@ -124,14 +101,14 @@ module _ (n : ℕ) (ws out : List ℕ) where
       ≡ refuse_masks n (not (not (bad_mask n ws))) (items_into (mask_len n) (length out))
   unfolding complement_outcome
   complement-is =
-      ap (λ (bad : Bool). refuse_masks n bad (items_into (mask_len n) (length out))) (sym (not-not (bad_mask n ws)))
+      ap (λ (bad : Bool). refuse_masks n bad (items_into (mask_len n) (length out))) (grind (arith, nat_tests))
 
-  pub complement-refused : (r : Refusal) → complement_outcome n ws (length out) ≡ refused r
+  pub complement-refused : (r : Refusal) → complement_outcome n ws (length out) ≡ Err r
       → complement_words n ws out ≡ out
   unfolding complement_words
   complement-refused r e = rw e
 
-  module _ (x : ℕ) (e : complement_outcome n ws (length out) ≡ done x) where
+  module _ (x : ℕ) (e : complement_outcome n ws (length out) ≡ Ok x) where
     mask : IsMask n ws
     unfolding complement_outcome
     mask = bad_mask-good n ws (mask-good n (bad_mask n ws) out x e)
@@ -149,18 +126,8 @@ module _ (n : ℕ) (ws out : List ℕ) where
 -- ---- set bits
 
 module _ (n : ℕ) (ws : List ℕ) where
-  pub set_bits-many : max_slots < n → set_bits_outcome n ws ≡ refuse 3 1 0
-  unfolding set_bits_outcome
-  set_bits-many many = masks-many n (bad_mask n ws) (done (set_bits n ws)) many
-
-  module _ (few : n ≤ max_slots) where
-    pub set_bits-bad : bad_mask n ws ≡ true → set_bits_outcome n ws ≡ refuse 13 0 0
-    unfolding set_bits_outcome
-    set_bits-bad bad = masks-bad n (bad_mask n ws) (done (set_bits n ws)) few bad
-
-    pub set_bits-done : IsMask n ws
-        → set_bits_outcome n ws ≡ done (sum_from (λ (i : ℕ). flag (mask_has ws i)) 0 (64 * length ws))
-    unfolding set_bits_outcome set_bits
-    set_bits-done mask =
-        masks-good n (bad_mask n ws) (done (set_bits n ws)) few (good-bad_mask n ws mask)
-        ∙ ap done (sym (set_bits-sum n ws mask))
+  pub set_bits-done : n ≤ max_slots → IsMask n ws
+      → set_bits_outcome n ws ≡ Ok (sum_from (λ (i : ℕ). flag (mask_has ws i)) 0 (64 * length ws))
+  unfolding set_bits_outcome set_bits
+  set_bits-done few mask =
+      rw (le-ltb max_slots n few, good-bad_mask n ws mask) (ap Ok (sym (set_bits-sum n ws mask)))

@@ -6,7 +6,6 @@
 ghost use Rattle.std.specs.Prelude.{◌≡◌, not, ◌≤◌, length};
 ghost use Rattle.std.proofs.lemmas.List.Edits.{sets};
 ghost use Rattle.pciv_bytes.specs.Ranges.{table};
-ghost use Rattle.pciv_format.specs.Refusals.{number_answer};
 ghost use Rattle.pciv_format.specs.Read.{items_into};
 ghost use Rattle.pciv_format.specs.Mask.{mask_len, refuse_masks, combine_outcome, combine_words};
 ghost use Rattle.pciv_format.specs.Mask.{complement_outcome, complement_words, set_bits_outcome};
@@ -14,26 +13,26 @@ ghost use Rattle.pciv_format.specs.declared.MaskOp.TheVariants.{And, Or, Xor};
 ghost use Rattle.pciv_mask_logic.specs.Logic.{bit_op, op_at, flip_at};
 
 use pciv_bits::masks::{ALL_BITS, count_bits, is_mask};
-use pciv_format::{BAD_MASK, BUFFER_TOO_SMALL, MAX_SLOTS, MaskOp, NumberAnswer, TOO_MANY_SLOTS};
+use pciv_format::{MAX_SLOTS, MaskOp, Refusal, RefusalKind};
 use pciv_layout::mask_len;
-use pciv_layout::refusals::refuse_number;
+use pciv_layout::refusals::refuse;
 
 // The answer of a routine that writes a mask of n slots to a list of `capacity` words; `good` says that the masks that
 // are read are masks of n slots.
-fn mask_into(n: usize, good: bool, capacity: usize) -> NumberAnswer
-    ensures { result ≡ number_answer (refuse_masks n (not good) (items_into (mask_len n) capacity)) }
+fn mask_into(n: usize, good: bool, capacity: usize) -> Result<usize, Refusal>
+    ensures { result ≡ refuse_masks n (not good) (items_into (mask_len n) capacity) }
 {
     if MAX_SLOTS < n {
-        return refuse_number(TOO_MANY_SLOTS, 1, 0);
+        return refuse(RefusalKind::TooManySlots, 1, 0);
     }
     if !good {
-        return refuse_number(BAD_MASK, 0, 0);
+        return refuse(RefusalKind::BadMask, 0, 0);
     }
     let count = mask_len(n);
     if capacity < count {
-        return refuse_number(BUFFER_TOO_SMALL, 0, 0);
+        return refuse(RefusalKind::BufferTooSmall, 0, 0);
     }
-    NumberAnswer::Number(count)
+    Ok(count)
 }
 
 // The operation on two words.
@@ -52,47 +51,40 @@ fn zip_words(op: MaskOp, a: &[u64], b: &[u64], out: &mut [u64])
     requires { (length a.now ≡ length b.now) × (length a.now ≤ length out.old) }
     ensures { out.new ≡ sets out.old 0 (table (op_at op a.now b.now) 0 (length a.now)) }
 {
-    let mut i = 0;
-    while i < a.len() {
+    for i in 0..a.len() {
         out[i] = bit_op(op, a[i], b[i]);
-        i += 1;
     }
 }
 
 // Checks both masks, and writes the operation on them.
-fn combine(op: MaskOp, n: usize, a: &[u64], b: &[u64], out: &mut [u64]) -> NumberAnswer
-    ensures answer { result ≡ number_answer (combine_outcome op n a.now b.now (length out.old)) }
+fn combine(op: MaskOp, n: usize, a: &[u64], b: &[u64], out: &mut [u64]) -> Result<usize, Refusal>
+    ensures answer { result ≡ combine_outcome op n a.now b.now (length out.old) }
     ensures words { out.new ≡ combine_words op n a.now b.now out.old }
 {
-    let answer = mask_into(n, is_mask(n, a) & is_mask(n, b), out.len());
-    match answer {
-        NumberAnswer::Refused(_) => answer,
-        NumberAnswer::Number(_) => {
-            zip_words(op, a, b, out);
-            answer
-        }
-    }
+    let count = mask_into(n, is_mask(n, a) & is_mask(n, b), out.len())?;
+    zip_words(op, a, b, out);
+    Ok(count)
 }
 
 // The slots that are set in both masks.
-pub fn and(n: usize, a: &[u64], b: &[u64], out: &mut [u64]) -> NumberAnswer
-    ensures answer { result ≡ number_answer (combine_outcome And n a.now b.now (length out.old)) }
+pub fn and(n: usize, a: &[u64], b: &[u64], out: &mut [u64]) -> Result<usize, Refusal>
+    ensures answer { result ≡ combine_outcome And n a.now b.now (length out.old) }
     ensures words { out.new ≡ combine_words And n a.now b.now out.old }
 {
     combine(MaskOp::And, n, a, b, out)
 }
 
 // The slots that are set in one of the masks, or in both.
-pub fn or(n: usize, a: &[u64], b: &[u64], out: &mut [u64]) -> NumberAnswer
-    ensures answer { result ≡ number_answer (combine_outcome Or n a.now b.now (length out.old)) }
+pub fn or(n: usize, a: &[u64], b: &[u64], out: &mut [u64]) -> Result<usize, Refusal>
+    ensures answer { result ≡ combine_outcome Or n a.now b.now (length out.old) }
     ensures words { out.new ≡ combine_words Or n a.now b.now out.old }
 {
     combine(MaskOp::Or, n, a, b, out)
 }
 
 // The slots that are set in exactly one of the masks.
-pub fn xor(n: usize, a: &[u64], b: &[u64], out: &mut [u64]) -> NumberAnswer
-    ensures answer { result ≡ number_answer (combine_outcome Xor n a.now b.now (length out.old)) }
+pub fn xor(n: usize, a: &[u64], b: &[u64], out: &mut [u64]) -> Result<usize, Refusal>
+    ensures answer { result ≡ combine_outcome Xor n a.now b.now (length out.old) }
     ensures words { out.new ≡ combine_words Xor n a.now b.now out.old }
 {
     combine(MaskOp::Xor, n, a, b, out)
@@ -105,40 +97,33 @@ fn flip_words(n: usize, words: &[u64], out: &mut [u64])
     ensures { out.new ≡ sets out.old 0 (table (flip_at n words.now) 0 (mask_len n)) }
 {
     let full = n / 64;
-    let mut i = 0;
-    while i < full {
+    for i in 0..full {
         out[i] = words[i] ^ ALL_BITS;
-        i += 1;
     }
-    if i < words.len() {
-        out[i] = words[i] ^ ((1 << (n % 64)) - 1);
+    if full < words.len() {
+        out[full] = words[full] ^ ((1 << (n % 64)) - 1);
     }
 }
 
 // The slots that are not set.
-pub fn complement(n: usize, words: &[u64], out: &mut [u64]) -> NumberAnswer
-    ensures answer { result ≡ number_answer (complement_outcome n words.now (length out.old)) }
+pub fn complement(n: usize, words: &[u64], out: &mut [u64]) -> Result<usize, Refusal>
+    ensures answer { result ≡ complement_outcome n words.now (length out.old) }
     ensures words { out.new ≡ complement_words n words.now out.old }
 {
-    let answer = mask_into(n, is_mask(n, words), out.len());
-    match answer {
-        NumberAnswer::Refused(_) => answer,
-        NumberAnswer::Number(_) => {
-            flip_words(n, words, out);
-            answer
-        }
-    }
+    let count = mask_into(n, is_mask(n, words), out.len())?;
+    flip_words(n, words, out);
+    Ok(count)
 }
 
 // The number of set bits. Refusals: 3 with map 1, then 13.
-pub fn set_bits(n: usize, words: &[u64]) -> NumberAnswer
-    ensures answer { result ≡ number_answer (set_bits_outcome n words.now) }
+pub fn set_bits(n: usize, words: &[u64]) -> Result<usize, Refusal>
+    ensures answer { result ≡ set_bits_outcome n words.now }
 {
     if MAX_SLOTS < n {
-        return refuse_number(TOO_MANY_SLOTS, 1, 0);
+        return refuse(RefusalKind::TooManySlots, 1, 0);
     }
     if !is_mask(n, words) {
-        return refuse_number(BAD_MASK, 0, 0);
+        return refuse(RefusalKind::BadMask, 0, 0);
     }
-    NumberAnswer::Number(count_bits(words))
+    Ok(count_bits(words))
 }

@@ -7,7 +7,7 @@
 --   raised-copied        after a copy of 64 bytes it leaves what the word makes of them;  word-length  their number
 -- Axioms: none.
 use mathlib.Core.Path.{◌≡◌, refl, sym, ap, ap₂, ◌∙◌}
-use Prim.Native.Nat.{ℕ, ◌+◌, ◌-◌, ◌/◌, ◌%◌, ◌^◌, ◌≤◌, ◌<◌}
+use Prim.Native.Nat.{ℕ, ◌+◌, ◌*◌, ◌-◌, ◌^◌, ◌≤◌, ◌<◌}
 use native.Mathlib.Nat.{zero-add}
 use native.Mathlib.Omega.{arith}
 use native.Mathlib.Decide.{ℕ_discrete}
@@ -28,7 +28,7 @@ use Rattle.pciv_format.specs.Check.{file_parts, CheckedMap}
 use Rattle.pciv_format.specs.Mask.{bit_at, mask_has, mask_value}
 use Rattle.pciv_format.proofs.PartsLaws.{primary_byte-value_of, primary_byte-min}
 use Rattle.pciv_format.proofs.BitLaws.{bit_at-none, trailing-bit, trailing_lt, less-lowest, less_other}
-use Rattle.pciv_format.proofs.MaskLaws.{slot-bit}
+use Rattle.pciv_format.proofs.MaskLaws.{flag-mask_has}
 use Rattle.pciv_mask_primary.specs.Masked.{masked_of, masked_distance, masked_byte, masked_word}
 use Rattle.pciv_mask_primary.specs.declared.MaskedOp.{MaskedOp}
 use Rattle.pciv_mask_primary.specs.declared.MaskedOp.TheVariants.{Keep, Increment}
@@ -45,14 +45,14 @@ module _ (op : MaskedOp) (b ws : List ℕ) where
   abbrev pub masked_slot : ℕ → ℕ
   masked_slot i = masked_byte op (mask_value ws i) (byte_at b (40 + i))
 
-  pub word-of-slots : (i : ℕ) → i % 64 ≡ 0
-      → table (masked_word op b (40 + i) (get_or ws (i / 64) 0)) 0 64 ≡ table masked_slot i 64
-  word-of-slots i whole =
-      let x : ℕ = get_or ws (i / 64) 0 in
-      table-shift (masked_word op b (40 + i) x) masked_slot 0 i 64
+  pub word-of-slots : (w : ℕ)
+      → table (masked_word op b (40 + 64 * w) (get_or ws w 0)) 0 64 ≡ table masked_slot (64 * w) 64
+  word-of-slots w =
+      let x : ℕ = get_or ws w 0 in
+      table-shift (masked_word op b (40 + 64 * w) x) masked_slot 0 (64 * w) 64
       (λ t h.
-      (let e : 40 + i + (0 + t) ≡ 40 + (i + t) = omega arith in
-      ap₂ (masked_byte op) (ap (bit_at x) (zero-add t) ∙ slot-bit ws i t whole h) (ap (byte_at b) e)))
+      (let e : 40 + 64 * w + (0 + t) ≡ 40 + (64 * w + t) = omega arith in
+      ap₂ (masked_byte op) (ap (bit_at x) (zero-add t) ∙ sym (flag-mask_has ws w t h)) (ap (byte_at b) e)))
 
   pub masked-primary : (n k : ℕ) → CheckedMap b n k → Bytes b
       → table masked_slot 0 n ≡ primary n (masked_distance op (file_parts b n k) ws)

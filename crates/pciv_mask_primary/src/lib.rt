@@ -31,7 +31,7 @@ fn masked_byte(op: MaskedOp, bit: u8, x: u8) -> u8
 {
     match op {
         MaskedOp::Keep => if bit == 0 { 0 } else { x },
-        MaskedOp::Increment => if 255 - x <= bit { 255 } else { x + bit },
+        MaskedOp::Increment => x.saturating_add(bit),
     }
 }
 
@@ -43,11 +43,9 @@ fn mask_word(out: &mut [u8], op: MaskedOp, file: &[u8], i: usize, rows: &[u8; 20
 {
     let mut bits: [u8; 64] = [0; 64];
     put_word(&mut bits, 0, rows, word);
-    let mut j = 0;
-    while j < 64 {
+    for j in 0..64 {
         let at = HEADER_LEN + i + j;
         out[at] = masked_byte(op, bits[j], file[at]);
-        j += 1;
     }
 }
 
@@ -59,7 +57,7 @@ fn raise_set(out: &mut [u8], at: usize, word: u64)
 {
     let mut rest = word;
     while 0 < rest {
-        let slot = at + u64::trailing_zeros(rest) as usize;
+        let slot = at + rest.trailing_zeros() as usize;
         out[slot] = masked_byte(MaskedOp::Increment, 1, out[slot]);
         rest &= rest - 1;
     }
@@ -72,8 +70,7 @@ fn copy_word(out: &mut [u8], file: &[u8], at: usize)
     ensures { out.new ≡ sets out.old at (take 64 (drop at file.now)) }
 {
     let mut bytes: [u8; 64] = [0; 64];
-    let end = at + 64;
-    copy_bytes(&file[at..end], &mut bytes, 0);
+    bytes.copy_from_slice(&file[at..at + 64]);
     copy_bytes(&bytes, out, at);
 }
 
@@ -122,15 +119,12 @@ pub fn put_primary(out: &mut [u8], op: MaskedOp, file: &[u8], n: usize, k: usize
 {
     let rows = bit_rows();
     let mut few = false;
-    let mut i = 0;
-    while 64 <= n - i {
-        few = few_at(words, i / 64, few);
-        mask_slots(out, op, file, i, &rows, words[i / 64], few);
-        i += 64;
+    for w in 0..n / 64 {
+        few = few_at(words, w, few);
+        mask_slots(out, op, file, 64 * w, &rows, words[w], few);
     }
     let bits = last_bits(words, n, &rows);
-    while i < n {
+    for i in n - n % 64..n {
         out[HEADER_LEN + i] = masked_byte(op, bits[i % 64], file[HEADER_LEN + i]);
-        i += 1;
     }
 }

@@ -18,13 +18,13 @@ use lib.ListN.{length, get_or, set}
 use lib.Seq.{sets}
 use lib.Bits.{bit_xor}
 use lib.Dec.{ltb, leb}
-use borrow.Author.Tests.{ltb-false, lt-ltb, le-ltb, le-leb, lt-leb, eq-eqb, ne_eqb}
+use Rattle.std.proofs.lemmas.Bool.Decides.{nat_tests}
+use borrow.Author.Tests.{ltb-false, lt-ltb, le-ltb, lt-leb, eq-eqb, ne_eqb}
 use Rattle.pciv_bytes.specs.Ranges.{flag}
 use Rattle.pciv_bytes.proofs.WriteLaws.{sets-at, set-sets}
 use Rattle.pciv_format.specs.Mask.{mask_len, mask_of, is_near}
 use Rattle.pciv_format.specs.Parts.{Parts, value_of, lowest_slot, SoundParts}
 use Rattle.pciv_format.proofs.PartsLaws.{entry-good, value_of-slot, slot_cases}
-use Rattle.pciv_format.proofs.ZeroLaws.{near_none}
 use Rattle.pciv_format.proofs.EntryLaws.{gap-inline, gap-value}
 use Rattle.pciv_format.proofs.MaskLaws.{length-mask_of, mask_of-cong}
 use Rattle.pciv_bits.specs.Flags.{flip_if, passes}
@@ -35,45 +35,17 @@ use Rattle.pciv_bits.proofs.FlipLaws.{flip_at, flipped, mask_of-flip}
 
 -- ---- one distance
 
-flip-true : (b : Bool) → flip_if b true ≡ not b
-flip-true true = refl
-flip-true false = refl
-
-flip-false : (b : Bool) → flip_if b false ≡ not (not b)
-flip-false true = refl
-flip-false false = refl
-
 -- a distance that is not below the limit is the other way round
 passes-flip : (limit : ℕ) (negated : Bool) (x : ℕ) → passes limit negated x ≡ flip_if (leb limit x) (not negated)
-passes-flip limit negated x =
-    elim (dec_le limit x) [
-      | yes d ↦ rw (le-ltb x limit d, le-leb limit x d) (flip-false negated)
-      | no d ↦ rw (lt-ltb x limit (omega arith), lt-leb limit x (omega arith)) (flip-true negated)
-    ]
-
-pub asked-high : (a : Asked) → bytes_tell a ≡ false → 255 ≤ limit_asked a
-asked-high (Limit limit negated) e = ltb-false limit 255 e
-asked-high (Near t) e = omega (arith, ltb-false t 255 e)
+passes-flip limit true x = grind (arith, nat_tests)
+passes-flip limit false x = grind (arith, nat_tests)
 
 -- for t from 255 on: an inline distance, and one in overflow, whose byte is 255
 near-inline : (t x : ℕ) → x < 255 → 255 ≤ t → flip_if (leb (t + 1) x) (passes 1 true x) ≡ is_near t x
-near-inline t x small high =
-    elim (dec_le 1 x) [
-      | yes d ↦ rw (
-        lt-leb (t + 1) x (omega arith),
-        le-ltb x 1 d,
-        le-leb 1 x d,
-        le-leb x t (omega arith),
-      )
-      | no d ↦ rw (lt-leb (t + 1) x (omega arith), lt-ltb x 1 (omega arith), lt-leb 1 x (omega arith))
-    ]
+near-inline t x small high = grind (arith, nat_tests)
 
 near-overflow : (t x : ℕ) → 255 ≤ x → flip_if (leb (t + 1) x) true ≡ is_near t x
-near-overflow t x large =
-    elim (dec_le x t) [
-      | yes d ↦ rw (lt-leb (t + 1) x (omega arith), le-leb 1 x (omega arith), le-leb x t d)
-      | no d ↦ rw (le-leb (t + 1) x (omega arith), near_none t x (omega arith))
-    ]
+near-overflow t x large = grind (arith, nat_tests)
 
 pub flipped-asked : (P : Parts) → SoundParts P → ((i : ℕ) → P.byte i < 256) → (a : Asked) → bytes_tell a ≡ false
     → mask_of P.n (flipped_from P (limit_asked a) (start_in P a)) ≡ mask_of P.n (asked_in P a)
@@ -156,10 +128,10 @@ module _ (P : Parts) (s : SoundParts P) (bytes : (i : ℕ) → P.byte i < 256)
       (mask_of-cong P.n (flip_at (settled P limit p j) (P.slot j) (leb limit (P.distance j)))
       (settled P limit p (suc j)) (λ i h. entry-settled j i here h))
 
-  pub settled-end : mask_of P.n (settled P limit p P.k) ≡ mask_of P.n (flipped_from P limit p)
-  settled-end =
-      mask_of-cong P.n (settled P limit p P.k) (flipped_from P limit p)
-      (λ i h. up_to P.k i (omega arith) (λ more. absurd (omega arith)) h)
+  pub settled-end : (j : ℕ) → j ≡ P.k → mask_of P.n (settled P limit p j) ≡ mask_of P.n (flipped_from P limit p)
+  settled-end j all =
+      mask_of-cong P.n (settled P limit p j) (flipped_from P limit p)
+      (λ i h. up_to j i (omega arith) (λ more. absurd (omega arith)) h)
 
 -- ---- at the front of a list
 

@@ -6,32 +6,32 @@
 --   select-refused, _short, -done      the outcome, where the file is refused, and where it is a map with counts s
 --   words-refused, -done, -cong        the caller's words afterwards
 -- Axioms: none.
+use Rattle.std.proofs.Common.{Ok}
 use mathlib.Core.Path.{◌≡◌, refl, sym, ap, ap₂, ◌∙◌}
 use Prim.Native.Nat.{ℕ, ◌+◌, ◌≤◌, ◌<◌}
 use native.Mathlib.Omega.{arith}
-use native.Mathlib.Decide.{dec_le}
-use mathlib.Core.Bool.{Bool, true, not}
+use mathlib.Core.Bool.{Bool, true}
 use mathlib.Core.List.{List}
 use lib.ListN.{length}
 use lib.Seq.{sets}
-use lib.Dec.{ltb, leb}
-use borrow.Author.Tests.{lt-ltb, le-ltb, le-leb, lt-leb}
+use lib.Dec.{ltb}
+use Rattle.std.proofs.lemmas.Bool.Decides.{nat_tests}
+use borrow.Author.Tests.{le-ltb}
 use Rattle.pciv_bytes.specs.LittleEndian.{Bytes}
 use Rattle.pciv_bytes.specs.ByteAt.{byte_at}
 use Rattle.pciv_bytes.proofs.WriteLaws.{sets-front}
 use Rattle.pciv_format.specs.Layout.{at}
-use Rattle.pciv_format.specs.Refusals.{Outcome, done, refused, refuse, written}
+use Rattle.pciv_format.specs.Refusals.{Outcome, written}
 use Rattle.pciv_format.specs.Parts.{Parts, value_of, SoundParts}
 use Rattle.pciv_format.specs.Check.{counts_file, file_parts, CheckedMap}
 use Rattle.pciv_format.specs.Read.{list_of}
 use Rattle.pciv_format.specs.Mask.{mask_len, mask_of, holds, is_near, select_outcome, select_words}
 use Rattle.pciv_format.specs.declared.Counts.{Counts}
-use Rattle.pciv_format.specs.declared.Refusal.{Refusal}
 use Rattle.pciv_format.specs.declared.Comparison.{Comparison}
 use Rattle.pciv_format.specs.declared.Comparison.TheVariants.{Below, AtMost, Above, AtLeast}
 use Rattle.pciv_format.proofs.PartsLaws.{slot_cases}
 use Rattle.pciv_format.proofs.ZeroLaws.{near_none}
-use Rattle.pciv_format.proofs.ReadLaws.{length-list_of, at-list, items-fit, items-short}
+use Rattle.pciv_format.proofs.ReadLaws.{length-list_of, at-list, items-fit}
 use Rattle.pciv_format.proofs.MapLaws.{primary_of, primary-length, primary-at}
 use Rattle.pciv_format.proofs.ReadCaseLaws.{checked}
 use Rattle.pciv_format.proofs.MaskLaws.{length-mask_of, mask_of-cong}
@@ -41,32 +41,11 @@ use Rattle.pciv_mask_threshold.specs.declared.Asked.TheVariants.{Limit, Near}
 
 -- ---- comparisons
 
-leb-ltb : (x t : ℕ) → leb x t ≡ ltb x (t + 1)
-leb-ltb x t =
-    elim (dec_le x t) [
-      | yes d ↦ le-leb x t d ∙ sym (lt-ltb x (t + 1) (omega arith))
-      | no d ↦ lt-leb x t (omega arith) ∙ sym (le-ltb x (t + 1) (omega arith))
-    ]
-
-leb-not : (t x : ℕ) → leb t x ≡ not (ltb x t)
-leb-not t x =
-    elim (dec_le t x) [
-      | yes d ↦ le-leb t x d ∙ ap not (sym (le-ltb x t d))
-      | no d ↦ lt-leb t x (omega arith) ∙ ap not (sym (lt-ltb x t (omega arith)))
-    ]
-
-ltb-not : (t x : ℕ) → ltb t x ≡ not (ltb x (t + 1))
-ltb-not t x =
-    elim (dec_le x t) [
-      | yes d ↦ le-ltb t x d ∙ ap not (sym (lt-ltb x (t + 1) (omega arith)))
-      | no d ↦ lt-ltb t x (omega arith) ∙ ap not (sym (le-ltb x (t + 1) (omega arith)))
-    ]
-
 pub holds-limit : (c : Comparison) (x t : ℕ) → passes (limit_of c t) (is_negated c) x ≡ holds c x t
 holds-limit Below x t = refl
-holds-limit AtMost x t = sym (leb-ltb x t)
-holds-limit Above x t = sym (ltb-not t x)
-holds-limit AtLeast x t = sym (leb-not t x)
+holds-limit AtMost x t = grind (arith, nat_tests)
+holds-limit Above x t = grind (arith, nat_tests)
+holds-limit AtLeast x t = grind (arith, nat_tests)
 
 -- ---- the primary bytes
 
@@ -109,29 +88,16 @@ module _ (b : List ℕ) (n k : ℕ) (m : CheckedMap b n k) (bytes : Bytes b) whe
 -- ---- the caller's words, by the outcome
 
 module _ (p : ℕ → Bool) (b out : List ℕ) where
-  pub words-refused : (r : Refusal) → select_outcome b (length out) ≡ refused r → select_words p b out ≡ out
-  words-refused r e =
-      ap (λ (o : Outcome ℕ). written o (mask_of (length (list_of b)) (λ (i : ℕ). p (at (list_of b) i))) out) e
-
   pub words-cong : (q : ℕ → Bool) → ((x : ℕ) → p x ≡ q x) → select_words p b out ≡ select_words q b out
   words-cong q same =
       ap (λ (ws : List ℕ). written (select_outcome b (length out)) ws out)
       (mask_of-cong (length (list_of b)) (λ (i : ℕ). p (at (list_of b) i)) (λ (i : ℕ). q (at (list_of b) i))
       (λ i h. same (at (list_of b) i)))
 
--- ---- the file is refused
-
-pub select-refused : (b : List ℕ) (r : Refusal) → counts_file 1 b ≡ refused r
-    → (capacity : ℕ) → select_outcome b capacity ≡ refused r
-select-refused b r e capacity = rw e
-
 -- ---- the file is a map
 
-module _ (b : List ℕ) (s : Counts) (e : counts_file 1 b ≡ done s) where
-  pub select_short : (capacity : ℕ) → capacity < mask_len s.n → select_outcome b capacity ≡ refuse 12 0 0
-  select_short capacity h = rw e (items-short (mask_len s.n) capacity h)
-
-  pub select-done : (capacity : ℕ) → mask_len s.n ≤ capacity → select_outcome b capacity ≡ done (mask_len s.n)
+module _ (b : List ℕ) (s : Counts) (e : counts_file 1 b ≡ Ok s) where
+  pub select-done : (capacity : ℕ) → mask_len s.n ≤ capacity → select_outcome b capacity ≡ Ok (mask_len s.n)
   select-done capacity h = rw e (items-fit (mask_len s.n) capacity h)
 
   pub words-done : (p : ℕ → Bool) (out : List ℕ) → mask_len s.n ≤ length out

@@ -14,12 +14,10 @@ pub(crate) fn flip_entries(file: &[u8], n: usize, k: usize, limit: u64, out: &mu
     ensures { (d : List ℕ) (p : ℕ → Bool) → out.old ≡ sets d 0 (mask_of n p)
         → out.new ≡ sets d 0 (mask_of n (flipped_from (file_parts file.now n k) limit p)) }
 {
-    let mut j = 0;
-    while j < k {
+    for j in 0..k {
         let slot = entry_slot(file, n, j);
         let distance = entry_distance(file, n, j);
         let w = slot / 64;
         out[w] ^= ((limit <= distance as u64) as u64) << (slot % 64);
-        j += 1;
     }
 }

@@ -7,7 +7,6 @@ mod entries;
 
 ghost use Rattle.std.specs.Prelude.{◌≡◌, true, ◌≤◌, length};
 ghost use Rattle.std.proofs.lemmas.List.Edits.{sets};
-ghost use Rattle.pciv_format.specs.Refusals.{number_answer};
 ghost use Rattle.pciv_format.specs.Check.{file_parts, CheckedMap};
 ghost use Rattle.pciv_format.specs.Mask.{mask_len, mask_of, select_outcome, select_words, threshold_outcome};
 ghost use Rattle.pciv_format.specs.Mask.{threshold_words, near_mask_outcome, near_mask_words};
@@ -17,9 +16,9 @@ ghost use Rattle.pciv_mask_threshold.specs.Select.{limit_asked, start_in};
 use crate::entries::flip_entries;
 use pciv_bits::flags::{fill, flags_into, near_into};
 use pciv_check::check_counts;
-use pciv_format::{BUFFER_TOO_SMALL, Comparison, CountsAnswer, HEADER_LEN, NumberAnswer, SENTINEL};
+use pciv_format::{Comparison, HEADER_LEN, Refusal, RefusalKind, SENTINEL};
 use pciv_layout::mask_len;
-use pciv_layout::refusals::refuse_number;
+use pciv_layout::refusals::refuse;
 
 // The least limit that every inline distance is below.
 const INLINE_LIMIT: u64 = SENTINEL as u64;
@@ -121,30 +120,30 @@ fn asked_into(file: &[u8], n: usize, k: usize, asked: Asked, out: &mut [u64])
 }
 
 // The mask of the distances of which what is asked holds, to the front of out.
-fn select(file: &[u8], asked: Asked, out: &mut [u64]) -> NumberAnswer
-    ensures answer { result ≡ number_answer (select_outcome file.now (length out.old)) }
+fn select(file: &[u8], asked: Asked, out: &mut [u64]) -> Result<usize, Refusal>
+    ensures answer { result ≡ select_outcome file.now (length out.old) }
     ensures words { out.new ≡ select_words (asked_of asked) file.now out.old }
 {
-    let checked = check_counts(file, 1);
-    match checked {
-        CountsAnswer::Refused(r) => NumberAnswer::Refused(r),
-        CountsAnswer::Counted(s) => {
-            let n = s.n;
-            let k = s.k;
-            let count = mask_len(n);
-            if out.len() < count {
-                return refuse_number(BUFFER_TOO_SMALL, 0, 0);
-            }
-            asked_into(file, n, k, asked, out);
-            NumberAnswer::Number(count)
-        }
+    let counts = check_counts(file, 1)?;
+    let n = counts.n;
+    let k = counts.k;
+    let count = mask_len(n);
+    if out.len() < count {
+        return refuse(RefusalKind::BufferTooSmall, 0, 0);
     }
+    asked_into(file, n, k, asked, out);
+    Ok(count)
 }
 
 // The mask of the slots whose distance compares with t as asked, to the front of the caller's list of words; answers how
 // many words. Refusals: 1 to 8, then 12.
-pub fn threshold(file: &[u8], comparison: Comparison, t: u32, out: &mut [u64]) -> NumberAnswer
-    ensures answer { result ≡ number_answer (threshold_outcome comparison file.now t (length out.old)) }
+pub fn threshold(
+    file: &[u8],
+    comparison: Comparison,
+    t: u32,
+    out: &mut [u64],
+) -> Result<usize, Refusal>
+    ensures answer { result ≡ threshold_outcome comparison file.now t (length out.old) }
     ensures words { out.new ≡ threshold_words comparison file.now t out.old }
 {
     select(
@@ -155,8 +154,8 @@ pub fn threshold(file: &[u8], comparison: Comparison, t: u32, out: &mut [u64]) -
 }
 
 // The near mask at t, likewise: the slots whose distance is from 1 to t. Refusals: 1 to 8, then 12.
-pub fn near_mask(file: &[u8], t: u32, out: &mut [u64]) -> NumberAnswer
-    ensures answer { result ≡ number_answer (near_mask_outcome file.now t (length out.old)) }
+pub fn near_mask(file: &[u8], t: u32, out: &mut [u64]) -> Result<usize, Refusal>
+    ensures answer { result ≡ near_mask_outcome file.now t (length out.old) }
     ensures words { out.new ≡ near_mask_words file.now t out.old }
 {
     select(file, Asked::Near(t), out)

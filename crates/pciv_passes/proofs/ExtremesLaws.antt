@@ -1,11 +1,10 @@
 -- Laws of what the smaller and the larger of every two bytes add up to.
---   Progress of xs ys from to i l m    the invariant of a loop that adds up both: l and m are the sums up to i
---   progress_start, -one, -part, -end  before the first byte; a byte, or a part, further; after the last
---   progress-least, -most              with a byte more, neither is above the whole
---   counts-le, sums-le                 the whole is at most 1 for each byte that is counted, and else at most 255
+--   extremes-none, -next    of no byte, and of a byte more
+--   counts-le, sums-le      at most 1 for each byte that is counted, and else at most 255
 -- Axioms: none.
-use mathlib.Core.Path.{◌≡◌}
-use Prim.Native.Nat.{ℕ, ◌+◌, ◌-◌, ◌*◌, ◌≤◌, ◌<◌, min, max}
+use mathlib.Core.Path.{◌≡◌, sym}
+use Prim.Native.Nat.{ℕ, ◌+◌, ◌*◌, ◌≤◌, ◌<◌, min, max}
+use native.Mathlib.Nat.{sub-zero}
 use native.Mathlib.Omega.{arith}
 use mathlib.Core.List.{List}
 use Rattle.pciv_bytes.specs.Ranges.{sum_from}
@@ -17,41 +16,23 @@ use Rattle.pciv_passes.specs.declared.counts.Test.{Test}
 use Rattle.pciv_passes.specs.declared.counts.Term.{Term}
 use Rattle.pciv_passes.specs.declared.counts.Term.TheVariants.{Passing, Byte}
 use Rattle.pciv_bytes.proofs.RangesLaws.{flag-le}
-use Rattle.pciv_bytes.proofs.SumLaws.{sum_from-le, sum_from-flag-le, Added, added_none, added-one, added-part, added-all}
+use Rattle.pciv_bytes.proofs.SumLaws.{sum_from-none, sum_from-next, sum_from-le, sum_from-flag-le}
 
--- ---- both sums, piece by piece
-
-pub record Progress (of : Term) (xs ys : List ℕ) (from to i l m : ℕ) : Type 0 where
-  pub least : Added (least_at of xs ys) to (sum_from (least_at of xs ys) from (to - from)) i l
-  pub most : Added (most_at of xs ys) to (sum_from (most_at of xs ys) from (to - from)) i m
-
-pub progress_start : (of : Term) (xs ys : List ℕ) (from to : ℕ) → from ≤ to → Progress of xs ys from to from 0 0
-progress_start of xs ys from to h =
-    record { least = added_none (least_at of xs ys) from to h; most = added_none (most_at of xs ys) from to h }
-
-module _ {of : Term} {xs ys : List ℕ} {from to i l m : ℕ} (p : Progress of xs ys from to i l m) where
-  module _ (inside : i < to) where
-    pub progress-least : (x : ℕ) → x ≡ least_at of xs ys i → l + x ≤ sum_from (least_at of xs ys) from (to - from)
-    progress-least x e = omega (arith, (added-one p.least inside).rest)
-
-    pub progress-most : (x : ℕ) → x ≡ most_at of xs ys i → m + x ≤ sum_from (most_at of xs ys) from (to - from)
-    progress-most x e = omega (arith, (added-one p.most inside).rest)
-
-    pub progress-one : (x y : ℕ) → x ≡ least_at of xs ys i → y ≡ most_at of xs ys i
-        → Progress of xs ys from to (i + 1) (l + x) (m + y)
-    progress-one x y e f =
-        record { least = rw e (added-one p.least inside); most = rw f (added-one p.most inside) }
-
-  pub progress-part : (s x y : ℕ) → ExtremeSums of xs ys i s x y → i ≤ s → s ≤ to
-      → Progress of xs ys from to s (l + x) (m + y)
-  progress-part s x y e h₁ h₂ =
+module _ (of : Term) (xs ys : List ℕ) where
+  pub extremes-none : ExtremeSums of xs ys 0 0 0 0
+  extremes-none =
       record {
-        least = rw e.least (added-part p.least s h₁ h₂);
-        most = rw e.most (added-part p.most s h₁ h₂);
+        least = sym (sum_from-none (least_at of xs ys) 0 0 (omega arith));
+        most = sym (sum_from-none (most_at of xs ys) 0 0 (omega arith));
       }
 
-  pub progress-end : to ≤ i → ExtremeSums of xs ys from to l m
-  progress-end h = record { least = added-all p.least h; most = added-all p.most h }
+  pub extremes-next : (i l m x y : ℕ) → ExtremeSums of xs ys 0 i l m → x ≡ least_at of xs ys i → y ≡ most_at of xs ys i
+      → ExtremeSums of xs ys 0 (i + 1) (l + x) (m + y)
+  extremes-next i l m x y sums e f =
+      record {
+        least = rw (sub-zero, e, sums.least, sub-zero) (sym (sum_from-next (least_at of xs ys) i));
+        most = rw (sub-zero, f, sums.most, sub-zero) (sym (sum_from-next (most_at of xs ys) i));
+      }
 
 -- ---- how large they are
 

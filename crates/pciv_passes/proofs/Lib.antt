@@ -1,1 +1,2 @@
+pub mod BlocksLaws
 pub mod ExtremesLaws

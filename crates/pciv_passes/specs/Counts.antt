@@ -1,9 +1,8 @@
 -- What is counted and summed over the bytes of a list.
 --   passes t x         byte x passes the test t;  test_at t xs i  1 where byte i does, else 0
 --   term_of of x        what a sum of `of` adds for a byte x;  term_at of xs i  for byte i
---   Part xs from to    from .. to is a part of xs, of no more bytes than a byte can count
 -- Axioms: none.
-use Rattle.std.specs.Prelude.{ℕ, ◌+◌, ◌≤◌, List, length, Bool, leb, eqb}
+use Rattle.std.specs.Prelude.{ℕ, List, Bool, leb, eqb}
 use Rattle.pciv_bytes.specs.Ranges.{flag}
 use Rattle.pciv_bytes.specs.ByteAt.{byte_at}
 use Rattle.pciv_passes.specs.declared.counts.Test.{Test}
@@ -23,10 +22,4 @@ term_of (Passing t) x = flag (passes t x)
 term_of Byte x = x
 
 abbrev pub term_at : Term → List ℕ → ℕ → ℕ
-term_at (Passing t) = test_at t
-term_at Byte = byte_at
-
-pub record Part (xs : List ℕ) (from to : ℕ) : Type 0 where
-  pub order : from ≤ to
-  pub inside : to ≤ length xs
-  pub short : to ≤ from + 255
+term_at of xs i = term_of of (byte_at xs i)

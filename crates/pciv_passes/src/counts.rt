@@ -1,9 +1,9 @@
 // How many bytes pass a test, and the sum of bytes. Counters are narrow, so that the
 // compiler counts many bytes at once, and so the bytes are taken block by block.
-ghost use Rattle.std.specs.Prelude.{◌≡◌, ◌-◌, ◌^◌, ◌≤◌, ◌<◌, length};
+ghost use Rattle.std.specs.Prelude.{◌≡◌, ◌^◌, ◌≤◌, ◌<◌, length};
 ghost use Rattle.pciv_bytes.specs.Ranges.{flag, sum_from};
 ghost use Rattle.pciv_bytes.specs.ByteAt.{byte_at, byte_is, byte_from};
-ghost use Rattle.pciv_passes.specs.Counts.{passes, test_at, term_at, Part};
+ghost use Rattle.pciv_passes.specs.Counts.{passes, test_at, term_at};
 
 // A test of bytes: equal to the given one, or not below it.
 #[derive(Clone, Copy)]
@@ -20,54 +20,50 @@ pub enum Term {
 }
 
 // The bytes that are counted at once: at most 255, so that a byte can hold their count.
-const BLOCK: usize = 192;
+pub(crate) const BLOCK: usize = 192;
 
 // 1 where a byte passes the test, else 0.
 pub(crate) fn passing(test: Test, x: u8) -> u8
     ensures { result ≡ flag (passes test x) }
 {
     match test {
-        Test::Equal(y) => (x == y) as u8,
-        Test::AtLeast(y) => (y <= x) as u8,
+        Test::Equal(y) => u8::from(x == y),
+        Test::AtLeast(y) => u8::from(y <= x),
     }
 }
 
-// How many of the bytes from `from` up to `to` pass the test.
-fn count_part(test: Test, a: &[u8], from: usize, to: usize) -> u8
-    requires { Part a.now from to }
-    ensures { result ≡ sum_from (test_at test a.now) from (to - from) }
+// How many bytes of a block pass the test.
+fn count_block(test: Test, block: &[u8]) -> usize
+    requires { length block.now ≤ 255 }
+    ensures { result ≡ sum_from (test_at test block.now) 0 (length block.now) }
 {
     let mut sum: u8 = 0;
-    let mut i = from;
-    while i < to {
-        sum += passing(test, a[i]);
-        i += 1;
+    for x in block {
+        sum += passing(test, *x);
     }
-    sum
+    usize::from(sum)
 }
 
-// The sum of the bytes from `from` up to `to`.
-fn sum_part(a: &[u8], from: usize, to: usize) -> u16
-    requires { Part a.now from to }
-    ensures { result ≡ sum_from (byte_at a.now) from (to - from) }
+// The sum of the bytes of a block.
+fn sum_block(block: &[u8]) -> usize
+    requires { length block.now ≤ 255 }
+    ensures { result ≡ sum_from (byte_at block.now) 0 (length block.now) }
 {
     let mut sum: u16 = 0;
-    let mut i = from;
-    while i < to {
-        sum += a[i] as u16;
-        i += 1;
+    for x in block {
+        sum += u16::from(*x);
     }
-    sum
+    usize::from(sum)
 }
 
 // Either of the two. A constant `of` leaves no test in the compiled loop.
-fn add_part(of: Term, a: &[u8], from: usize, to: usize) -> usize
-    requires { Part a.now from to }
-    ensures { result ≡ sum_from (term_at of a.now) from (to - from) }
+fn add_block(of: Term, block: &[u8]) -> usize
+    requires { length block.now ≤ 255 }
+    ensures { result ≡ sum_from (term_at of block.now) 0 (length block.now) }
 {
     match of {
-        Term::Passing(test) => count_part(test, a, from, to) as usize,
-        Term::Byte => sum_part(a, from, to) as usize,
+        Term::Passing(test) => count_block(test, block),
+        Term::Byte => sum_block(block),
     }
 }
 
@@ -76,14 +72,12 @@ fn add_up(of: Term, a: &[u8]) -> usize
     requires { sum_from (term_at of a.now) 0 (length a.now) < 2 ^ 64 }
     ensures { result ≡ sum_from (term_at of a.now) 0 (length a.now) }
 {
-    let n = a.len();
+    let (blocks, rest) = a.as_chunks::<BLOCK>();
     let mut sum: usize = 0;
-    let mut i = 0;
-    while BLOCK <= n - i {
-        sum += add_part(of, a, i, i + BLOCK);
-        i += BLOCK;
+    for block in blocks {
+        sum += add_block(of, block);
     }
-    sum + add_part(of, a, i, n)
+    sum + add_block(of, rest)
 }
 
 // How many bytes of a are x.

@@ -1,12 +1,10 @@
 // What the smaller and the larger of every two bytes of two lists add up to: the bytes themselves, or 1 for each that
 // passes a test. One pass yields both, with narrow counters and so block by block.
 ghost use Rattle.std.specs.Prelude.{◌≡◌, ◌≤◌, length};
-ghost use Rattle.pciv_passes.specs.Counts.{Part};
 ghost use Rattle.pciv_passes.specs.Extremes.{ExtremeSums};
 ghost use Rattle.pciv_passes.specs.declared.counts.Term.TheVariants.{Passing, Byte};
 
-use crate::counts::{Term, Test, passing};
-use crate::pairs::{ByteOp, byte_op};
+use crate::counts::{BLOCK, Term, Test, passing};
 
 // What the smaller bytes and the larger ones add up to.
 #[derive(Clone, Copy)]
@@ -15,77 +13,51 @@ pub struct Extremes {
     pub most: usize,
 }
 
-// The same of a block, as counts and as sums of bytes.
-#[derive(Clone, Copy)]
-struct BlockCounts {
-    least: u8,
-    most: u8,
-}
-
-#[derive(Clone, Copy)]
-struct BlockSums {
-    least: u16,
-    most: u16,
-}
-
-// The bytes that are taken at once: at most 255, so that a byte can hold their count.
-const BLOCK: usize = 192;
-
-// How many pass the test from `from` up to `to`.
-fn count_block(test: Test, a: &[u8], b: &[u8], from: usize, to: usize) -> BlockCounts
-    requires part { Part a.now from to }
+// How many of the smaller bytes and of the larger ones pass the test, in two blocks.
+fn count_block(test: Test, a: &[u8], b: &[u8]) -> Extremes
+    requires short { length a.now ≤ 255 }
     requires a_len { length a.now ≡ length b.now }
-    ensures { ExtremeSums (Passing test) a.now b.now from to result.least result.most }
+    ensures { ExtremeSums (Passing test) a.now b.now 0 (length a.now) result.least result.most }
 {
     let mut least: u8 = 0;
     let mut most: u8 = 0;
-    let mut i = from;
-    while i < to {
-        least += passing(test, byte_op(ByteOp::Min, a[i], b[i]));
-        most += passing(test, byte_op(ByteOp::Max, a[i], b[i]));
-        i += 1;
+    for i in 0..a.len() {
+        least += passing(test, a[i].min(b[i]));
+        most += passing(test, a[i].max(b[i]));
     }
-    BlockCounts { least, most }
+    Extremes {
+        least: usize::from(least),
+        most: usize::from(most),
+    }
 }
 
-// Their sums from `from` up to `to`.
-fn sum_block(a: &[u8], b: &[u8], from: usize, to: usize) -> BlockSums
-    requires part { Part a.now from to }
+// Their sums in two blocks.
+fn sum_block(a: &[u8], b: &[u8]) -> Extremes
+    requires short { length a.now ≤ 255 }
     requires a_len { length a.now ≡ length b.now }
-    ensures { ExtremeSums Byte a.now b.now from to result.least result.most }
+    ensures { ExtremeSums Byte a.now b.now 0 (length a.now) result.least result.most }
 {
     let mut least: u16 = 0;
     let mut most: u16 = 0;
-    let mut i = from;
-    while i < to {
-        least += byte_op(ByteOp::Min, a[i], b[i]) as u16;
-        most += byte_op(ByteOp::Max, a[i], b[i]) as u16;
-        i += 1;
+    for i in 0..a.len() {
+        least += u16::from(a[i].min(b[i]));
+        most += u16::from(a[i].max(b[i]));
     }
-    BlockSums { least, most }
+    Extremes {
+        least: usize::from(least),
+        most: usize::from(most),
+    }
 }
 
 // Either of the two. A constant `of` leaves no test in the compiled loop.
-fn add_block(of: Term, a: &[u8], b: &[u8], from: usize, to: usize) -> Extremes
-    requires part { Part a.now from to }
+fn add_block(of: Term, a: &[u8], b: &[u8]) -> Extremes
+    requires short { length a.now ≤ 255 }
     requires a_len { length a.now ≡ length b.now }
-    ensures { ExtremeSums of a.now b.now from to result.least result.most }
+    ensures { ExtremeSums of a.now b.now 0 (length a.now) result.least result.most }
 {
     match of {
-        Term::Passing(test) => {
-            let counts = count_block(test, a, b, from, to);
-            Extremes {
-                least: counts.least as usize,
-                most: counts.most as usize,
-            }
-        }
-        Term::Byte => {
-            let sums = sum_block(a, b, from, to);
-            Extremes {
-                least: sums.least as usize,
-                most: sums.most as usize,
-            }
-        }
+        Term::Passing(test) => count_block(test, a, b),
+        Term::Byte => sum_block(a, b),
     }
 }
 
@@ -96,17 +68,16 @@ pub fn add_extremes(of: Term, a: &[u8], b: &[u8]) -> Extremes
     ensures { ExtremeSums of a.now b.now 0 (length a.now)
         result.least result.most }
 {
-    let n = a.len();
+    let (xs, x_rest) = a.as_chunks::<BLOCK>();
+    let (ys, y_rest) = b.as_chunks::<BLOCK>();
     let mut least: usize = 0;
     let mut most: usize = 0;
-    let mut i = 0;
-    while BLOCK <= n - i {
-        let block = add_block(of, a, b, i, i + BLOCK);
-        least += block.least;
-        most += block.most;
-        i += BLOCK;
+    for (x, y) in xs.iter().zip(ys) {
+        let sums = add_block(of, x, y);
+        least += sums.least;
+        most += sums.most;
     }
-    let rest = add_block(of, a, b, i, n);
+    let rest = add_block(of, x_rest, y_rest);
     Extremes {
         least: least + rest.least,
         most: most + rest.most,

@@ -3,34 +3,20 @@
 // A refused call changes no byte, and what follows a result in the caller's list stays as it was.
 #![tactic(auto)]
 
-ghost use Rattle.std.specs.Prelude.{◌≡◌, ℕ, ◌+◌, ◌≤◌, ◌<◌, min, length, get_or, take, drop, ltb, leb};
-ghost use Rattle.pciv_bytes.specs.Ranges.{first_below};
-ghost use Rattle.pciv_format.specs.Refusals.{number_answer, lookup_answer};
-ghost use Rattle.pciv_format.specs.Read.{primary_part, behind, primary_place, lookup_outcome};
+ghost use Rattle.std.specs.Prelude.{◌≡◌, length, leb};
+ghost use Rattle.std.specs.List.{position};
+ghost use Rattle.pciv_format.specs.Read.{primary_part, primary_place, lookup_outcome};
 ghost use Rattle.pciv_format.specs.Read.{lookup_list_outcome, lookup_list_buffer, lookup_list_entries};
 ghost use Rattle.pciv_format.specs.Read.{scan_outcome, scan_buffer};
 ghost use Rattle.pciv_format.specs.Read.{sum_outcome, readings_outcome};
 
 use pciv_check::{check, check_counts};
-use pciv_format::{
-    BUFFER_TOO_SMALL, CountsAnswer, FileAnswer, HEADER_LEN, LookupAnswer, NumberAnswer, Refusal,
-    SLOT_OUT_OF_RANGE,
-};
-use pciv_layout::refusals::refuse_number;
+use pciv_format::{Counts, HEADER_LEN, Located, Refusal, RefusalKind};
+use pciv_layout::refusals::refuse;
 use pciv_map::scan::scan_into;
 use pciv_map::totals::readings_of;
 use pciv_map_lookup::list::locate_into;
 use pciv_map_lookup::locate;
-
-// The `len` bytes from `start` on, as a part of the file.
-fn part(file: &[u8], start: usize, len: usize) -> &[u8]
-    requires { start + len ≤ length file.now }
-    ensures bytes { result.now ≡ take len (drop start file.now) }
-    ensures place { result.ref_ptr ≡ behind start file.entry.ref_ptr }
-{
-    let end = start + len;
-    &file[start..end]
-}
 
 // The map's own primary bytes, the part of the caller's file from byte 40 on. Refusals: none; where the check refuses
 // the file, the part of length 0 at the file's start.
@@ -38,61 +24,31 @@ pub fn primary(file: &[u8]) -> &[u8]
     ensures part { result.now ≡ primary_part file.now }
     ensures place { result.ref_ptr ≡ primary_place file.now file.entry.ref_ptr }
 {
-    let checked = check_counts(file, 1);
-    match checked {
-        CountsAnswer::Refused(_) => part(file, 0, 0),
-        CountsAnswer::Counted(s) => {
-            let n = s.n;
-            part(file, HEADER_LEN, n)
+    match check_counts(file, 1) {
+        Err(_) => &file[..0],
+        Ok(counts) => {
+            let end = HEADER_LEN + counts.n;
+            &file[HEADER_LEN..end]
         }
     }
 }
 
 // The distance at a slot, and its origin. Refusals: 1 to 8, then 9.
-pub fn lookup(file: &[u8], slot: usize) -> LookupAnswer
-    ensures answer { result ≡ lookup_answer (lookup_outcome file.now slot) }
+pub fn lookup(file: &[u8], slot: usize) -> Result<Located, Refusal>
+    ensures answer { result ≡ lookup_outcome file.now slot }
 {
-    let checked = check_counts(file, 1);
-    match checked {
-        CountsAnswer::Refused(r) => LookupAnswer::Refused(r),
-        CountsAnswer::Counted(s) => {
-            let n = s.n;
-            let k = s.k;
-            if n <= slot {
-                return LookupAnswer::Refused(Refusal {
-                    number: SLOT_OUT_OF_RANGE,
-                    map: 0,
-                    place: 0,
-                });
-            }
-            LookupAnswer::Found(locate(file, n, k, slot))
-        }
+    let Counts { n, k, .. } = check_counts(file, 1)?;
+    if n <= slot {
+        return refuse(RefusalKind::SlotOutOfRange, 0, 0);
     }
+    Ok(locate(file, n, k, slot))
 }
 
-// The least position in the list of a slot that is n or more, or the list's length.
-fn first_outside(slots: &[usize], n: usize) -> usize
-    ensures { result
-        ≡ first_below (λ (i : ℕ). leb n (get_or slots.now i 0)) (length slots.now) }
+// The least position in the list of a slot that is n or more, if there is one.
+fn first_outside(slots: &[usize], n: usize) -> Option<usize>
+    ensures { result ≡ position (λ slot. leb n slot) slots.now }
 {
-    let mut i = 0;
-    while i < slots.len() {
-        if n <= slots[i] {
-            return i;
-        }
-        i += 1;
-    }
-    i
-}
-
-// One of two lists of these lengths holds fewer than `count` items.
-fn either_short(first: usize, second: usize, count: usize) -> bool
-    ensures { result ≡ ltb (min first second) count }
-{
-    if first < count {
-        return true;
-    }
-    second < count
+    slots.iter().position(|slot| n <= *slot)
 }
 
 // The distances at a list of slots, to the front of one list of the caller, and the numbers of their overflow entries, or
@@ -103,10 +59,10 @@ pub fn lookup_list(
     slots: &[usize],
     distances: &mut [u32],
     entries: &mut [usize],
-) -> NumberAnswer
+) -> Result<usize, Refusal>
     ensures answer { result
-        ≡ number_answer (lookup_list_outcome file.now slots.now
-        (length distances.old) (length entries.old)) }
+        ≡ lookup_list_outcome file.now slots.now
+        (length distances.old) (length entries.old) }
     ensures buffer { distances.new
         ≡ lookup_list_buffer file.now slots.now
         (length entries.old) distances.old }
@@ -114,70 +70,47 @@ pub fn lookup_list(
         ≡ lookup_list_entries file.now slots.now
         (length distances.old) entries.old }
 {
-    let checked = check_counts(file, 1);
-    match checked {
-        CountsAnswer::Refused(r) => NumberAnswer::Refused(r),
-        CountsAnswer::Counted(s) => {
-            let n = s.n;
-            let k = s.k;
-            let outside = first_outside(slots, n);
-            let short = either_short(distances.len(), entries.len(), slots.len());
-            if outside < slots.len() {
-                let no_slot = refuse_number(SLOT_OUT_OF_RANGE, 0, outside);
-                return no_slot;
-            }
-            if short {
-                let no_room = refuse_number(BUFFER_TOO_SMALL, 0, 0);
-                return no_room;
-            }
-            locate_into(file, n, k, slots, distances, entries);
-            NumberAnswer::Number(slots.len())
-        }
+    let Counts { n, k, .. } = check_counts(file, 1)?;
+    let outside = first_outside(slots, n);
+    let short = distances.len().min(entries.len()) < slots.len();
+    if let Some(place) = outside {
+        let no_slot = refuse(RefusalKind::SlotOutOfRange, 0, place);
+        return no_slot;
     }
+    if short {
+        let no_room = refuse(RefusalKind::BufferTooSmall, 0, 0);
+        return no_room;
+    }
+    locate_into(file, n, k, slots, distances, entries);
+    Ok(slots.len())
 }
 
 // All distances, to the front of the caller's list; answers how many. Refusals: 1 to 8, then 12.
-pub fn scan(file: &[u8], out: &mut [u32]) -> NumberAnswer
-    ensures answer { result ≡ number_answer (scan_outcome file.now (length out.old)) }
+pub fn scan(file: &[u8], out: &mut [u32]) -> Result<usize, Refusal>
+    ensures answer { result ≡ scan_outcome file.now (length out.old) }
     ensures buffer { out.new ≡ scan_buffer file.now out.old }
 {
-    let checked = check_counts(file, 1);
-    match checked {
-        CountsAnswer::Refused(r) => NumberAnswer::Refused(r),
-        CountsAnswer::Counted(s) => {
-            let n = s.n;
-            let k = s.k;
-            if out.len() < n {
-                return refuse_number(BUFFER_TOO_SMALL, 0, 0);
-            }
-            scan_into(file, n, k, out);
-            NumberAnswer::Number(n)
-        }
+    let Counts { n, k, .. } = check_counts(file, 1)?;
+    if out.len() < n {
+        return refuse(RefusalKind::BufferTooSmall, 0, 0);
     }
+    scan_into(file, n, k, out);
+    Ok(n)
 }
 
 // The sum of all distances. Refusals: 1 to 8.
-pub fn sum(file: &[u8]) -> NumberAnswer
-    ensures answer { result ≡ number_answer (sum_outcome file.now) }
+pub fn sum(file: &[u8]) -> Result<usize, Refusal>
+    ensures answer { result ≡ sum_outcome file.now }
 {
-    let checked = check(file);
-    match checked {
-        FileAnswer::Refused(r) => NumberAnswer::Refused(r),
-        FileAnswer::Done(s) => NumberAnswer::Number(s.sum),
-    }
+    let summary = check(file)?;
+    Ok(summary.sum)
 }
 
 // The number of readings, distances that are not 0. Refusals: 1 to 8.
-pub fn readings(file: &[u8]) -> NumberAnswer
-    ensures answer { result ≡ number_answer (readings_outcome file.now) }
+pub fn readings(file: &[u8]) -> Result<usize, Refusal>
+    ensures answer { result ≡ readings_outcome file.now }
 {
-    let checked = check_counts(file, 1);
-    match checked {
-        CountsAnswer::Refused(r) => NumberAnswer::Refused(r),
-        CountsAnswer::Counted(s) => {
-            let n = s.n;
-            let end = HEADER_LEN + n;
-            NumberAnswer::Number(readings_of(&file[HEADER_LEN..end]))
-        }
-    }
+    let Counts { n, .. } = check_counts(file, 1)?;
+    let end = HEADER_LEN + n;
+    Ok(readings_of(&file[HEADER_LEN..end]))
 }

@@ -5,6 +5,8 @@
 --   ends-many, -counts, -short, -unlisted    the refusals 3, 4 and 5, and 12 for the list
 --   ends-refused, -done    else as writing the file ends; stands  the rebuilt file then stands at the front of the output
 -- Axioms: none.
+use Rattle.std.proofs.Common.{Ok, Err}
+use Rattle.pciv_format.specs.declared.RefusalKind.TheVariants.{TooManySlots, BadCounts, BadLength, BufferTooSmall}
 use mathlib.Core.Path.{◌≡◌, refl, sym, ap, ◌∙◌}
 use Prim.Native.Nat.{ℕ, ◌+◌, ◌*◌, ◌≤◌, ◌<◌}
 use mathlib.Core.Bool.{Bool, true, false, ◌||◌}
@@ -15,25 +17,20 @@ use lib.Dec.{ltb}
 use borrow.Author.Tests.{lt-ltb, le-ltb, ltb-false}
 use Rattle.pciv_bytes.proofs.WriteLaws.{sets-front}
 use Rattle.pciv_format.specs.Layout.{max_slots, summary}
-use Rattle.pciv_format.specs.Refusals.{Outcome, done, refused, refuse, refuse_if, and_then, written, file_answer}
+use Rattle.pciv_format.specs.Refusals.{Outcome, refuse, refuse_if, and_then, written}
 use Rattle.pciv_format.specs.Write.{file_into, file_buffer}
 use Rattle.pciv_format.specs.declared.Summary.{Summary}
 use Rattle.pciv_format.specs.declared.Refusal.{Refusal}
-use Rattle.pciv_format.specs.declared.FileAnswer.{FileAnswer}
-use Rattle.pciv_format.specs.declared.FileAnswer.TheVariants as InFile
 use Rattle.pciv_format.proofs.PartsLaws.{or-false, or-true}
-use Rattle.pciv_format.proofs.RefusalsLaws.{refuse_if-done, file_answer-done, file_answer-refused}
+use Rattle.pciv_format.proofs.RefusalsLaws.{refuse_if-done}
 use Rattle.pciv_repair_file.specs.Repaired.{repaired_at, repaired_file, PartsGiven}
 use Rattle.pciv_repair.specs.Repair.{corrections, numbers_of, repaired_of, repair_outcome, repair_buffer, repair_list}
-use Rattle.pciv_repair.specs.Repair.{repair_answer}
 use Rattle.pciv_repair.specs.declared.Repaired.{Repaired}
-use Rattle.pciv_repair.specs.declared.RepairAnswer.{RepairAnswer}
-use Rattle.pciv_repair.specs.declared.RepairAnswer.TheVariants as InRepair
 use Rattle.pciv_repair.proofs.CountLaws.{length-numbers_of}
 
 module _ (b : List ℕ) (n k capacity room : ℕ) where
   pub repair-done : PartsGiven b n k → length (repaired_file b n k) ≤ capacity → 4 * length (corrections b n k) ≤ room
-      → repair_outcome b n k capacity room ≡ done (repaired_of b n k)
+      → repair_outcome b n k capacity room ≡ Ok (repaired_of b n k)
   unfolding repair_outcome
   repair-done given fits listed =
       rw (
@@ -50,7 +47,7 @@ module _ (b : List ℕ) (n k capacity room : ℕ) where
     pub listed : 4 * length (corrections b n k) ≤ room
     pub is : s ≡ repaired_of b n k
 
-  pub done-repair : (s : Repaired) → repair_outcome b n k capacity room ≡ done s → Done s
+  pub done-repair : (s : Repaired) → repair_outcome b n k capacity room ≡ Ok s → Done s
   unfolding repair_outcome
   done-repair s e =
       let long : Bool = ltb capacity (length (repaired_file b n k)) in
@@ -60,7 +57,7 @@ module _ (b : List ℕ) (n k capacity room : ℕ) where
       let g₅ = refuse_if-done (ltb (length b) (40 + n + 12 * k)) _ _ s g₄.1 in
       let g₁₂ = refuse_if-done (long || many) _ _ s g₅.1 in
       let o = or-false long many g₁₂.0 in
-      let q : done (repaired_of b n k) ≡ done s = g₁₂.1 in
+      let q : Ok (repaired_of b n k) ≡ Ok s = g₁₂.1 in
       record {
         given =
             record {
@@ -76,41 +73,41 @@ module _ (b : List ℕ) (n k capacity room : ℕ) where
 -- ---- case by case
 
 module _ (b : List ℕ) (n k : ℕ) (out list : List ℕ) where
-  abbrev pub Ends : RepairAnswer → List ℕ → List ℕ → Type 0
+  abbrev pub Ends : Outcome Repaired → List ℕ → List ℕ → Type 0
   Ends a out' list' =
-      (a ≡ repair_answer (repair_outcome b n k (length out) (length list)))
+      (a ≡ repair_outcome b n k (length out) (length list))
       × ((out' ≡ repair_buffer b n k (length list) out) × (list' ≡ repair_list b n k (length out) list))
 
   -- what goes with an outcome
   ends : (o : Outcome Repaired) → repair_outcome b n k (length out) (length list) ≡ o
-      → Ends (repair_answer o) (written o (repaired_file b n k) out) (written o (numbers_of (corrections b n k)) list)
+      → Ends o (written o (repaired_file b n k) out) (written o (numbers_of (corrections b n k)) list)
   unfolding repair_buffer repair_list
   ends o e = rw e (refl, (refl, refl))
 
-  pub ends-many : (a : RepairAnswer) → a ≡ repair_answer (refuse 3 1 0) → max_slots < n → Ends a out list
+  pub ends-many : (a : Outcome Repaired) → a ≡ refuse TooManySlots 1 0 → max_slots < n → Ends a out list
   unfolding repair_outcome
-  ends-many a is many = rw is (ends (refuse 3 1 0) (rw (lt-ltb max_slots n many)))
+  ends-many a is many = rw is (ends (refuse TooManySlots 1 0) (rw (lt-ltb max_slots n many)))
 
   module _ (small : n ≤ max_slots) where
-    pub ends-counts : (a : RepairAnswer) → a ≡ repair_answer (refuse 4 1 0) → n < k → Ends a out list
+    pub ends-counts : (a : Outcome Repaired) → a ≡ refuse BadCounts 1 0 → n < k → Ends a out list
     unfolding repair_outcome
-    ends-counts a is more = rw is (ends (refuse 4 1 0) (rw (le-ltb max_slots n small, lt-ltb n k more)))
+    ends-counts a is more = rw is (ends (refuse BadCounts 1 0) (rw (le-ltb max_slots n small, lt-ltb n k more)))
 
-    pub ends-short : (a : RepairAnswer) → a ≡ repair_answer (refuse 5 1 0) → k ≤ n → length b < 40 + n + 12 * k
+    pub ends-short : (a : Outcome Repaired) → a ≡ refuse BadLength 1 0 → k ≤ n → length b < 40 + n + 12 * k
         → Ends a out list
     unfolding repair_outcome
     ends-short a is few short =
         rw is
-        (ends (refuse 5 1 0)
+        (ends (refuse BadLength 1 0)
         (rw (le-ltb max_slots n small, le-ltb n k few, lt-ltb (length b) (40 + n + 12 * k) short)))
 
   module _ (given : PartsGiven b n k) where
-    pub ends-unlisted : (a : RepairAnswer) → a ≡ repair_answer (refuse 12 0 0)
+    pub ends-unlisted : (a : Outcome Repaired) → a ≡ refuse BufferTooSmall 0 0
         → length list < 4 * length (corrections b n k) → Ends a out list
     unfolding repair_outcome
     ends-unlisted a is many =
         rw is
-        (ends (refuse 12 0 0)
+        (ends (refuse BufferTooSmall 0 0)
         (rw (
           le-ltb max_slots n given.small,
           le-ltb n k given.few,
@@ -125,7 +122,7 @@ module _ (b : List ℕ) (n k : ℕ) (out list : List ℕ) where
 
       -- as writing the file, with the number of changes
       by-file : repair_outcome b n k (length out) (length list)
-          ≡ and_then (file_into n (repaired_at b n k) (length out)) (λ s. done (told s))
+          ≡ and_then (file_into n (repaired_at b n k) (length out)) (λ s. Ok (told s))
       unfolding repair_outcome
       by-file =
           rw (
@@ -136,34 +133,31 @@ module _ (b : List ℕ) (n k : ℕ) (out list : List ℕ) where
           )
           (go (ltb (length out) (length (repaired_file b n k))))
         where
-          go : (t : Bool) → refuse_if (t || false) (refuse 12 0 0) (done (repaired_of b n k))
-              ≡ and_then (refuse_if t (refuse 12 0 0) (done (summary n (repaired_at b n k)))) (λ s. done (told s))
+          go : (t : Bool) → refuse_if (t || false) (refuse BufferTooSmall 0 0) (Ok (repaired_of b n k))
+              ≡ and_then (refuse_if t (refuse BufferTooSmall 0 0) (Ok (summary n (repaired_at b n k)))) (λ s. Ok (told s))
           go true = refl
           go false = refl
 
-      module _ (a : FileAnswer) (out' : List ℕ) (answered : a ≡ file_answer (file_into n (repaired_at b n k) (length out)))
+      module _ (a : Outcome Summary) (out' : List ℕ) (answered : a ≡ file_into n (repaired_at b n k) (length out))
           (left : out' ≡ file_buffer (file_into n (repaired_at b n k) (length out)) n (repaired_at b n k) out) where
-        pub ends-refused : (r : Refusal) → a ≡ InFile.Refused r → Ends (InRepair.Refused r) out' list
+        pub ends-refused : (r : Refusal) → a ≡ Err r → Ends (Err r) out' list
         ends-refused r is =
-            let no : file_into n (repaired_at b n k) (length out) ≡ refused r =
-            file_answer-refused _ r (sym is ∙ answered) in
-            rw (left, no) (ends (refused r) (by-file ∙ rw no))
+            let no : file_into n (repaired_at b n k) (length out) ≡ Err r = sym answered ∙ is in
+            rw (left, no) (ends (Err r) (by-file ∙ rw no))
 
-        pub ends-done : (s : Summary) → a ≡ InFile.Done s → (list' : List ℕ)
+        pub ends-done : (s : Summary) → a ≡ Ok s → (list' : List ℕ)
             → list' ≡ sets list 0 (numbers_of (corrections b n k)) → (lines : ℕ) → lines ≡ length (corrections b n k)
-            → Ends (InRepair.Done (record { summary = s; lines = lines })) out' list'
+            → Ends (Ok (record { summary = s; lines = lines })) out' list'
         ends-done s is list' put lines count =
-            let ok : file_into n (repaired_at b n k) (length out) ≡ done s =
-            file_answer-done _ s (sym is ∙ answered) in
+            let ok : file_into n (repaired_at b n k) (length out) ≡ Ok s = sym answered ∙ is in
             rw (count, left, ok, put ∙ sets-front (numbers_of (corrections b n k)) list (rw length-numbers_of listed))
-            (ends (done (told s)) (by-file ∙ rw ok))
+            (ends (Ok (told s)) (by-file ∙ rw ok))
 
         -- the rebuilt file stands at the front
-        pub stands : (s : Summary) → a ≡ InFile.Done s
+        pub stands : (s : Summary) → a ≡ Ok s
             → out' ≡ repaired_file b n k ++ drop (length (repaired_file b n k)) out'
         stands s is =
-            let ok : file_into n (repaired_at b n k) (length out) ≡ done s =
-            file_answer-done _ s (sym is ∙ answered) in
+            let ok : file_into n (repaired_at b n k) (length out) ≡ Ok s = sym answered ∙ is in
             let e : out' ≡ repaired_file b n k ++ drop (length (repaired_file b n k)) out =
             left ∙ ap (λ (o : Outcome Summary). file_buffer o n (repaired_at b n k) out) ok in
             e

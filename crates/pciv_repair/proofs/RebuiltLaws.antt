@@ -4,6 +4,7 @@
 --   rebuilt-overflow, rebuilt-entries    its overflow entries are the bytes of those that are kept
 --   rebuilt-index                  behind them stands its index
 -- Axioms: none.
+use Rattle.std.proofs.Common.{Ok}
 use mathlib.Core.Path.{◌≡◌, sym, ap, ◌∙◌}
 use Prim.Native.Nat.{ℕ, ◌+◌, ◌*◌, ◌<◌}
 use native.Mathlib.Nat.{zero-add}
@@ -14,7 +15,6 @@ use Rattle.pciv_bytes.specs.LittleEndian.{Bytes}
 use Rattle.pciv_bytes.specs.ByteAt.{byte_at}
 use Rattle.pciv_bytes.proofs.RangesLaws.{get_or-table}
 use Rattle.pciv_format.specs.Layout.{overflow_count, overflow_part, summary}
-use Rattle.pciv_format.specs.Refusals.{done}
 use Rattle.pciv_format.specs.Check.{k_field, file_parts, CheckedHeader}
 use Rattle.pciv_format.specs.Read.{check_file}
 use Rattle.pciv_format.proofs.FileLaws.{file-header, file-byte}
@@ -28,12 +28,12 @@ use Rattle.pciv_repair.specs.Applied.{entry_bytes}
 use Rattle.pciv_repair.proofs.SplitLaws.{file-entries, file-index}
 
 module _ (b : List ℕ) (n k : ℕ) (bytes : Bytes b) (given : PartsGiven b n k) where
-  pub rebuilt-accepted : (mp : ℕ) → check_file mp (repaired_file b n k) ≡ done (summary n (repaired_at b n k))
+  pub rebuilt-accepted : (mp : ℕ) → check_file mp (repaired_file b n k) ≡ Ok (summary n (repaired_at b n k))
   rebuilt-accepted mp =
       let v : ℕ → ℕ = repaired_at b n k in
       ap (check_file mp) (file-table n v)
       ∙ file-accepted mp (table v 0 n) (table-limits n v given.small (repaired-le b n k bytes))
-      ∙ ap done (sym (summary-table n v))
+      ∙ ap Ok (sym (summary-table n v))
 
   pub rebuilt-header : CheckedHeader (repaired_file b n k) n (overflow_count n (repaired_at b n k))
   rebuilt-header = file-header n (repaired_at b n k) given.small (repaired-le b n k bytes)

@@ -3,6 +3,8 @@
 --   answers    what is answered, refusals included, and a list afterwards
 --   applies    what the bytes and the list give
 -- Axioms: none.
+use Rattle.std.proofs.Common.{Ok}
+use Rattle.pciv_format.specs.declared.RefusalKind.TheVariants.{TooManySlots, BadCounts, BadLength, BufferTooSmall}
 use mathlib.Core.Path.{◌≡◌, refl}
 use Prim.Native.Nat.{ℕ}
 use mathlib.Core.List.{List, [], ◌∷◌, ◌++◌}
@@ -12,7 +14,7 @@ use Rattle.pciv_bytes.specs.LittleEndian.{le, number, get}
 use Rattle.pciv_format.specs.Layout.{index_step, index_len, file_len, primary, overflow_slots, overflow_count, overflow_entry}
 use Rattle.pciv_format.specs.Layout.{overflow_part, index_entry, index_part, header, file, counts_of, summary, file_of}
 use Rattle.pciv_format.specs.Layout.{summary_of}
-use Rattle.pciv_format.specs.Refusals.{done, refuse}
+use Rattle.pciv_format.specs.Refusals.{refuse}
 use Rattle.pciv_format.specs.Parts.{wrong_entry, entry_of, bad_slot, value_of}
 use Rattle.pciv_repair_file.specs.Repaired.{lowest_kept, is_kept, kept_entries, is_set, repaired_at, repaired_file, same}
 use Rattle.pciv_repair.specs.Applied.{has_line, new_in, new_header, new_primary, new_entries, new_index, applied}
@@ -52,15 +54,15 @@ further = (refl, refl, refl, refl, refl, refl, refl, refl, refl, refl, refl, ref
 
 -- what is answered, with lists that are just long enough or one number short
 pub answers :
-    (repair_outcome (file_of A) 4 2 68 0 ≡ done (record { summary = summary_of A; lines = 0 }))
-    × (repair_outcome (file_of A) 4 2 67 0 ≡ refuse 12 0 0)
+    (repair_outcome (file_of A) 4 2 68 0 ≡ Ok (record { summary = summary_of A; lines = 0 }))
+    × (repair_outcome (file_of A) 4 2 67 0 ≡ refuse BufferTooSmall 0 0)
     × (repair_outcome swapped 4 2 56 12
-    ≡ done (record { summary = summary_of (0 ∷ 254 ∷ 254 ∷ 300 ∷ []); lines = 3 }))
-    × (repair_outcome swapped 4 2 56 11 ≡ refuse 12 0 0)
-    × (repair_outcome (take 67 (file_of A)) 4 2 68 0 ≡ refuse 5 1 0)
-    × (repair_outcome [] 0 0 68 0 ≡ refuse 5 1 0)
-    × (repair_outcome (file_of A) 4 5 68 0 ≡ refuse 4 1 0)
-    × (repair_outcome (file_of A) 1048577 1048578 68 0 ≡ refuse 3 1 0)
+    ≡ Ok (record { summary = summary_of (0 ∷ 254 ∷ 254 ∷ 300 ∷ []); lines = 3 }))
+    × (repair_outcome swapped 4 2 56 11 ≡ refuse BufferTooSmall 0 0)
+    × (repair_outcome (take 67 (file_of A)) 4 2 68 0 ≡ refuse BadLength 1 0)
+    × (repair_outcome [] 0 0 68 0 ≡ refuse BadLength 1 0)
+    × (repair_outcome (file_of A) 4 5 68 0 ≡ refuse BadCounts 1 0)
+    × (repair_outcome (file_of A) 1048577 1048578 68 0 ≡ refuse TooManySlots 1 0)
     × (repair_list (file_of A) 4 1 56 (table (λ (i : ℕ). i) 100 14)
     ≡ 1 ∷ 16 ∷ 2 ∷ 1 ∷ 3 ∷ 3 ∷ 255 ∷ 254 ∷ 4 ∷ 0 ∷ 12 ∷ 0 ∷ 112 ∷ 113 ∷ [])
 unfolding

@@ -5,6 +5,7 @@
 --   repair-sound          a sound file with its true counts stays, and nothing is listed
 --   repair-nothing-iff    nothing is listed exactly for a sound file with its true counts
 -- Axioms: none.
+use Rattle.std.proofs.Common.{Ok}
 use mathlib.Core.Path.{◌≡◌, refl, sym, ap, ap₂, ◌∙◌}
 use mathlib.Core.Logic.{◌↔◌}
 use Prim.Native.Nat.{ℕ, ◌+◌, ◌*◌, ◌≤◌, ◌<◌}
@@ -16,7 +17,6 @@ use Rattle.pciv_bytes.specs.Ranges.{table}
 use Rattle.pciv_bytes.specs.LittleEndian.{Bytes}
 use Rattle.pciv_bytes.specs.ByteAt.{byte_at}
 use Rattle.pciv_format.specs.Layout.{overflow_count, counts_of, summary, at, file_of, summary_of, Limits}
-use Rattle.pciv_format.specs.Refusals.{done}
 use Rattle.pciv_format.specs.Parts.{SoundParts}
 use Rattle.pciv_format.specs.Check.{file_parts}
 use Rattle.pciv_format.specs.Read.{list_of, check_file}
@@ -72,7 +72,7 @@ repair-kept b n k =
 -- what stands at the front of the output, as long as the answer says, is accepted with the summary that the repair
 -- answers, and is read as the distances of the rebuilt file
 pub repair-accepted : (b : List ℕ) (n k : ℕ) (out list : List ℕ) (s : Repaired) → Bytes b
-    → repair_outcome b n k (length out) (length list) ≡ done s
+    → repair_outcome b n k (length out) (length list) ≡ Ok s
     → ReadAs (repair_buffer b n k (length list) out) s.summary (table (repaired_at b n k) 0 n)
 unfolding repair_buffer
 repair-accepted b n k out list s bytes e =
@@ -128,10 +128,10 @@ module _ (xs : List ℕ) (l : Limits xs) where
       (sound-set (file_parts b n k) sound each-byte) same_index
 
   answer : (capacity room : ℕ) → length b ≤ capacity
-      → repair_outcome b n k capacity room ≡ done (record { summary = summary_of xs; lines = 0 })
+      → repair_outcome b n k capacity room ≡ Ok (record { summary = summary_of xs; lines = 0 })
   answer capacity room fits =
       repair-done b n k capacity room true-counts (rw same-file fits) (rw nothing (omega arith))
-      ∙ ap₂ (λ (s : Summary) (c : ℕ). done (record { summary = s; lines = c }))
+      ∙ ap₂ (λ (s : Summary) (c : ℕ). Ok (record { summary = s; lines = c }))
       (summary-cong n (repaired_at b n k) (at xs) same-value) (ap length nothing)
 
   output : (out list : List ℕ) → length b ≤ length out → repair_buffer b n k (length list) out ≡ b ++ drop (length b) out
@@ -151,7 +151,7 @@ pub repair-sound : (xs : List ℕ) → Limits xs
     (repaired_file b n k ≡ b)
     × (corrections b n k ≡ [])
     × ((out list : List ℕ) → length b ≤ length out
-    → (repair_outcome b n k (length out) (length list) ≡ done (record { summary = summary_of xs; lines = 0 }))
+    → (repair_outcome b n k (length out) (length list) ≡ Ok (record { summary = summary_of xs; lines = 0 }))
     × (repair_buffer b n k (length list) out ≡ b ++ drop (length b) out)
     × (repair_list b n k (length out) list ≡ list)))
 repair-sound xs l = (
@@ -176,7 +176,7 @@ summary-k n v = refl
 
 module _ (b : List ℕ) (n k : ℕ) (bytes : Bytes b) (given : PartsGiven b n k) where
   -- the file of b's own list
-  nothing-sound : (s : Summary) → check_file 1 b ≡ done s → s.n ≡ n → s.k ≡ k → corrections b n k ≡ []
+  nothing-sound : (s : Summary) → check_file 1 b ≡ Ok s → s.n ≡ n → s.k ≡ k → corrections b n k ≡ []
   nothing-sound s e n_is k_is =
       let is = accepted-is-file 1 b s bytes e in
       let xs : List ℕ = list_of b in
@@ -204,7 +204,7 @@ module _ (b : List ℕ) (n k : ℕ) (bytes : Bytes b) (given : PartsGiven b n k)
 
   -- a file that the check accepts, with the n and k that it answers
   pub repair-nothing-iff : (corrections b n k ≡ [])
-      ↔ ((s : Summary) × (check_file 1 b ≡ done s) × (s.n ≡ n) × (s.k ≡ k))
+      ↔ ((s : Summary) × (check_file 1 b ≡ Ok s) × (s.n ≡ n) × (s.k ≡ k))
   repair-nothing-iff = (
     λ none. (
       summary n (repaired_at b n k),

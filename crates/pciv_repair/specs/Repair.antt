@@ -1,6 +1,7 @@
 -- What a repair answers and lists (docs/FORMAT.md, "Repair"). b are the bytes of a file, with n and k as the caller
 -- gives them.
 --   field_at i, field_of b i    the offset of header field i, of six, and its number in b
+--   change_number kind        the number of a kind of change
 --   Correction                a change: its kind, its place, the number before and after it, by `correction`
 --   field_line, dropped_line, set_line, index_line    a change of each kind
 --   other_field b f i          header field i is another one in the file f than in b
@@ -11,19 +12,20 @@
 --   repaired_of b n k          the answer of a repair that is done
 --   repair_outcome             the answer, for an output of `capacity` bytes and a list of `room` numbers
 --   repair_buffer, repair_list  the output and the list afterwards
---   repair_answer              the outcome as a value of the answer's type
 -- Laws are in proofs/. Axioms: none.
+use Rattle.std.specs.Prelude.{Ok}
+use Rattle.pciv_format.specs.declared.RefusalKind.TheVariants.{TooManySlots, BadCounts, BadLength, BufferTooSmall}
 use Rattle.std.specs.Prelude.{ℕ, ◌+◌, ◌-◌, ◌*◌, Bool, not, cond, ◌&&◌, ◌||◌, List, [], ◌∷◌, ◌++◌, map, length, ltb, eqb}
 use Rattle.pciv_bytes.specs.Ranges.{positions}
 use Rattle.pciv_bytes.specs.LittleEndian.{get}
 use Rattle.pciv_bytes.specs.ByteAt.{byte_at}
 use Rattle.pciv_format.specs.Layout.{max_slots, summary}
-use Rattle.pciv_format.specs.Refusals.{Outcome, done, refused, refuse, refuse_if, written}
+use Rattle.pciv_format.specs.Refusals.{Outcome, refuse, refuse_if, written}
 use Rattle.pciv_format.specs.Check.{file_parts}
 use Rattle.pciv_repair_file.specs.Repaired.{is_kept, is_set, repaired_at, repaired_file, bytes_after, rebuilt_index, same}
 use Rattle.pciv_repair.specs.declared.Repaired.{Repaired}
-use Rattle.pciv_repair.specs.declared.RepairAnswer.{RepairAnswer}
-use Rattle.pciv_repair.specs.declared.RepairAnswer.TheVariants as InRepair
+use Rattle.pciv_repair.specs.declared.lines.ChangeKind.{ChangeKind}
+use Rattle.pciv_repair.specs.declared.lines.ChangeKind.TheVariants.{Field, Dropped, Set, Index}
 
 -- ---- the header
 
@@ -35,6 +37,13 @@ unfoldable pub field_of : List ℕ → ℕ → ℕ
 field_of b i = get (cond (ltb i 2) 4 8) b (field_at i)
 
 -- ---- a change
+
+-- the number of its kind in the list
+abbrev pub change_number : ChangeKind → ℕ
+change_number Field = 1
+change_number Dropped = 2
+change_number Set = 3
+change_number Index = 4
 
 pub record Correction : Type 0 where
   pub kind : ℕ
@@ -99,11 +108,11 @@ repaired_of b n k = record { summary = summary n (repaired_at b n k); lines = le
 
 unfoldable pub repair_outcome : List ℕ → ℕ → ℕ → ℕ → ℕ → Outcome Repaired
 repair_outcome b n k capacity room =
-    refuse_if (ltb max_slots n) (refuse 3 1 0)
-    (refuse_if (ltb n k) (refuse 4 1 0)
-    (refuse_if (ltb (length b) (40 + n + 12 * k)) (refuse 5 1 0)
-    (refuse_if (ltb capacity (length (repaired_file b n k)) || ltb room (4 * length (corrections b n k))) (refuse 12 0 0)
-    (done (repaired_of b n k)))))
+    refuse_if (ltb max_slots n) (refuse TooManySlots 1 0)
+    (refuse_if (ltb n k) (refuse BadCounts 1 0)
+    (refuse_if (ltb (length b) (40 + n + 12 * k)) (refuse BadLength 1 0)
+    (refuse_if (ltb capacity (length (repaired_file b n k)) || ltb room (4 * length (corrections b n k))) (refuse BufferTooSmall 0 0)
+    (Ok (repaired_of b n k)))))
 
 -- the output afterwards, where the list holds `room` numbers
 unfoldable pub repair_buffer : List ℕ → ℕ → ℕ → ℕ → List ℕ → List ℕ
@@ -113,7 +122,3 @@ repair_buffer b n k room out = written (repair_outcome b n k (length out) room) 
 unfoldable pub repair_list : List ℕ → ℕ → ℕ → ℕ → List ℕ → List ℕ
 repair_list b n k capacity list =
     written (repair_outcome b n k capacity (length list)) (numbers_of (corrections b n k)) list
-
-abbrev pub repair_answer : Outcome Repaired → RepairAnswer
-repair_answer (done a) = InRepair.Done a
-repair_answer (refused r) = InRepair.Refused r

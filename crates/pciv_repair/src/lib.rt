@@ -6,20 +6,17 @@ pub mod lines;
 
 ghost use Rattle.std.specs.Prelude.{◌≡◌, ◌+◌, ◌*◌, ◌≤◌, ◌++◌, length, drop};
 ghost use Rattle.std.proofs.lemmas.List.Edits.{sets};
-ghost use Rattle.pciv_format.specs.Refusals.{refuse};
 ghost use Rattle.pciv_format.specs.Check.{file_parts};
 ghost use Rattle.pciv_repair_file.specs.Repaired.{kept_entries, full_count, repaired_file, bytes_after, rebuilt_index, same};
 ghost use Rattle.pciv_repair_file.specs.Repaired.{PartsGiven};
 ghost use Rattle.pciv_repair.specs.Repair.{set_lines, index_lines, corrections, numbers_of, repair_outcome};
-ghost use Rattle.pciv_repair.specs.Repair.{repair_buffer, repair_list, repair_answer};
+ghost use Rattle.pciv_repair.specs.Repair.{repair_buffer, repair_list};
 
-use crate::lines::{INDEX, count_fields, put_dropped, put_fields, put_line, put_set};
+use crate::lines::{ChangeKind, count_fields, put_dropped, put_fields, put_line, put_set};
 use pciv_build::put_header;
-use pciv_format::{
-    BAD_COUNTS, BAD_LENGTH, BUFFER_TOO_SMALL, FileAnswer, HEADER_LEN, MAX_SLOTS, Refusal, Summary,
-    TOO_MANY_SLOTS,
-};
+use pciv_format::{HEADER_LEN, MAX_SLOTS, Refusal, RefusalKind, Summary};
 use pciv_layout::index_len;
+use pciv_layout::refusals::refuse;
 use pciv_repair_file::index::same_index;
 use pciv_repair_file::kept::{count_full, count_kept};
 use pciv_repair_file::put_repaired;
@@ -32,19 +29,6 @@ pub const CORRECTION_LEN: usize = 4;
 pub struct Repaired {
     pub summary: Summary,
     pub lines: usize,
-}
-
-// The answer of a repair.
-#[derive(Clone, Copy)]
-pub enum RepairAnswer {
-    Done(Repaired),
-    Refused(Refusal),
-}
-
-fn refuse_repair(number: usize, map: usize, place: usize) -> RepairAnswer
-    ensures { result ≡ repair_answer (refuse number map place) }
-{
-    RepairAnswer::Refused(Refusal { number, map, place })
 }
 
 // How many changes there are, where `kept` entries are kept and `full` bytes are 255; `indexed` tells that the bytes
@@ -110,7 +94,7 @@ fn put_index(
     put_line(
         list,
         line,
-        INDEX,
+        ChangeKind::Index,
         0,
         file.len() - after,
         16 * index_len(kept),
@@ -142,10 +126,16 @@ fn put_lines(
 }
 
 // The file and the list, or refusal 12.
-fn rebuild(file: &[u8], n: usize, k: usize, out: &mut [u8], list: &mut [usize]) -> RepairAnswer
+fn rebuild(
+    file: &[u8],
+    n: usize,
+    k: usize,
+    out: &mut [u8],
+    list: &mut [usize],
+) -> Result<Repaired, Refusal>
     requires { PartsGiven file.now n k }
-    ensures answer { result ≡ repair_answer (repair_outcome file.now n k (length out.old)
-        (length list.old)) }
+    ensures answer { result ≡ repair_outcome file.now n k (length out.old)
+        (length list.old) }
     ensures buffer { out.new
         ≡ repair_buffer file.now n k (length list.old) out.old }
     ensures list { list.new
@@ -156,38 +146,39 @@ fn rebuild(file: &[u8], n: usize, k: usize, out: &mut [u8], list: &mut [usize]) 
     let indexed = same_index(file, n, k, kept);
     let lines = count_lines(file, n, k, kept, full, indexed);
     if list.len() < CORRECTION_LEN * lines {
-        return refuse_repair(BUFFER_TOO_SMALL, 0, 0);
+        return refuse(RefusalKind::BufferTooSmall, 0, 0);
     }
-    let written = put_repaired(file, n, k, kept, full, out);
-    match written {
-        FileAnswer::Refused(r) => RepairAnswer::Refused(r),
-        FileAnswer::Done(summary) => {
-            put_lines(file, n, k, kept, full, indexed, out, list);
-            RepairAnswer::Done(Repaired { summary, lines })
-        }
-    }
+    let summary = put_repaired(file, n, k, kept, full, out)?;
+    put_lines(file, n, k, kept, full, indexed, out, list);
+    Ok(Repaired { summary, lines })
 }
 
 // Rebuilds a file from the primary bytes and overflow entries that stand in `file` where n slots and k entries have
 // them, writes it to the front of `out`, and lists every change at the front of `list`, CORRECTION_LEN numbers each:
 // kind, place, the number before and after. Refusals: 3, 4 and 5 with map 1, then 12 for either of the two.
 // A refused call changes nothing; bytes past the file and numbers past the list stay.
-pub fn repair(file: &[u8], n: usize, k: usize, out: &mut [u8], list: &mut [usize]) -> RepairAnswer
-    ensures answer { result ≡ repair_answer (repair_outcome file.now n k (length out.old)
-        (length list.old)) }
+pub fn repair(
+    file: &[u8],
+    n: usize,
+    k: usize,
+    out: &mut [u8],
+    list: &mut [usize],
+) -> Result<Repaired, Refusal>
+    ensures answer { result ≡ repair_outcome file.now n k (length out.old)
+        (length list.old) }
     ensures buffer { out.new
         ≡ repair_buffer file.now n k (length list.old) out.old }
     ensures list { list.new
         ≡ repair_list file.now n k (length out.old) list.old }
 {
     if MAX_SLOTS < n {
-        return refuse_repair(TOO_MANY_SLOTS, 1, 0);
+        return refuse(RefusalKind::TooManySlots, 1, 0);
     }
     if n < k {
-        return refuse_repair(BAD_COUNTS, 1, 0);
+        return refuse(RefusalKind::BadCounts, 1, 0);
     }
     if file.len() < HEADER_LEN + n + 12 * k {
-        return refuse_repair(BAD_LENGTH, 1, 0);
+        return refuse(RefusalKind::BadLength, 1, 0);
     }
     rebuild(file, n, k, out, list)
 }

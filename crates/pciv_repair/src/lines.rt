@@ -5,22 +5,30 @@ ghost use Rattle.pciv_bytes.specs.Any.{any_from};
 ghost use Rattle.pciv_bytes.specs.Ranges.{positions};
 ghost use Rattle.pciv_format.specs.Check.{file_parts};
 ghost use Rattle.pciv_repair_file.specs.Repaired.{is_kept, PartsGiven};
-ghost use Rattle.pciv_repair.specs.Repair.{field_at, field_of, other_field, field_line, dropped_line};
+ghost use Rattle.pciv_repair.specs.Repair.{change_number, field_at, field_of, other_field, field_line, dropped_line};
 ghost use Rattle.pciv_repair.specs.Repair.{was_set, set_line, numbers_of};
 
+use crate::CORRECTION_LEN;
 use pciv_bytes::little_endian::{get32, get64};
-use pciv_bytes::numbers::smaller;
 use pciv_format::{HEADER_LEN, INLINE_MAX, SENTINEL};
 use pciv_repair_file::kept::lowest_after;
 
-// The kinds of changes: a header field, an entry dropped, a byte set, the index.
-pub const FIELD: usize = 1;
+// The kinds of changes: a header field, an entry dropped, a byte set, the index. The list has their numbers.
+#[derive(Clone, Copy)]
+pub enum ChangeKind {
+    Field = 1,
+    Dropped = 2,
+    Set = 3,
+    Index = 4,
+}
 
-pub const DROPPED: usize = 2;
+impl From<ChangeKind> for usize {
+    ghost from_gives = { λ kind number. number ≡ change_number kind };
 
-pub const SET: usize = 3;
-
-pub const INDEX: usize = 4;
+    fn from(kind: ChangeKind) -> usize {
+        kind as usize
+    }
+}
 
 // How many fields the header has.
 const FIELDS: usize = 6;
@@ -32,7 +40,7 @@ const BLOCK: usize = 256;
 pub(crate) fn put_line(
     list: &mut [usize],
     line: usize,
-    kind: usize,
+    kind: ChangeKind,
     place: usize,
     before: usize,
     after: usize,
@@ -40,10 +48,10 @@ pub(crate) fn put_line(
     requires { 4 * (line + 1) ≤ length list.old }
     ensures next { result ≡ line + 1 }
     ensures list { list.new
-        ≡ sets list.old (4 * line) (kind ∷ place ∷ before ∷ after ∷ []) }
+        ≡ sets list.old (4 * line) (change_number kind ∷ place ∷ before ∷ after ∷ []) }
 {
-    let at = 4 * line;
-    list[at] = kind;
+    let at = CORRECTION_LEN * line;
+    list[at] = usize::from(kind);
     list[at + 1] = place;
     list[at + 2] = before;
     list[at + 3] = after;
@@ -78,10 +86,8 @@ pub(crate) fn count_fields(file: &[u8], new: &[u8]) -> usize
     ensures { result ≡ length (positions (other_field file.now new.now) 0 6) }
 {
     let mut count: usize = 0;
-    let mut i: usize = 0;
-    while i < FIELDS {
+    for i in 0..FIELDS {
         count += (field_of(file, i) != field_of(new, i)) as usize;
-        i += 1;
     }
     count
 }
@@ -97,14 +103,11 @@ pub(crate) fn put_fields(file: &[u8], new: &[u8], list: &mut [usize]) -> usize
         (positions (other_field file.now new.now) 0 6))) }
 {
     let mut line: usize = 0;
-    let mut i: usize = 0;
-    while i < FIELDS {
-        let place = field_at(i);
+    for i in 0..FIELDS {
         let before = field_of(file, i);
         let after = field_of(new, i);
-        i += 1;
         if before != after {
-            line = put_line(list, line, FIELD, place, before, after);
+            line = put_line(list, line, ChangeKind::Field, field_at(i), before, after);
         }
     }
     line
@@ -126,16 +129,13 @@ pub(crate) fn put_dropped(file: &[u8], n: usize, k: usize, list: &mut [usize], f
 {
     let mut line = from;
     let mut lowest: usize = 0;
-    let mut j: usize = 0;
-    while j < k {
-        let entry = j;
-        let free = lowest;
-        lowest = lowest_after(file, n, free, entry);
-        j += 1;
-        if lowest <= free {
-            let slot = get64(file, HEADER_LEN + n + 12 * entry);
-            line = put_line(list, line, DROPPED, entry, slot, 0);
+    for j in 0..k {
+        let next = lowest_after(file, n, lowest, j);
+        if next <= lowest {
+            let slot = get64(file, HEADER_LEN + n + 12 * j);
+            line = put_line(list, line, ChangeKind::Dropped, j, slot, 0);
         }
+        lowest = next;
     }
     line
 }
@@ -149,10 +149,8 @@ fn any_other(a: &[u8], b: &[u8], from: usize, to: usize) -> bool
         ≡ any_from (λ (i : ℕ). not (eqb (get_or a.now i 0) (get_or b.now i 0))) from (to - from) }
 {
     let mut found = false;
-    let mut i = from;
-    while i < to {
+    for i in from..to {
         found |= a[i] != b[i];
-        i += 1;
     }
     found
 }
@@ -177,22 +175,17 @@ fn put_block(
         (numbers_of (map set_line (positions (was_set file.now new.now) start (to - start)))) }
 {
     let mut line = from;
-    let mut i = start;
-    while i < to {
-        let slot = i;
+    for slot in start..to {
         let at = HEADER_LEN + slot;
-        i += 1;
-        if file[at] == SENTINEL {
-            if new[at] != SENTINEL {
-                line = put_line(
-                    list,
-                    line,
-                    SET,
-                    slot,
-                    SENTINEL as usize,
-                    INLINE_MAX as usize,
-                );
-            }
+        if file[at] == SENTINEL && new[at] != SENTINEL {
+            line = put_line(
+                list,
+                line,
+                ChangeKind::Set,
+                slot,
+                SENTINEL as usize,
+                INLINE_MAX as usize,
+            );
         }
     }
     line
@@ -209,13 +202,13 @@ pub(crate) fn put_set(file: &[u8], n: usize, new: &[u8], list: &mut [usize], fro
         (numbers_of (map set_line (positions (was_set file.now new.now) 0 n))) }
 {
     let mut line = from;
-    let mut i: usize = 0;
-    while i < n {
-        let start = i;
-        i += smaller(BLOCK, n - start);
-        if any_other(file, new, HEADER_LEN + start, HEADER_LEN + i) {
-            line = put_block(file, new, start, i, list, line);
+    let mut start: usize = 0;
+    while start < n {
+        let end = n.min(start + BLOCK);
+        if any_other(file, new, HEADER_LEN + start, HEADER_LEN + end) {
+            line = put_block(file, new, start, end, list, line);
         }
+        start = end;
     }
     line
 }

@@ -1,4 +1,5 @@
 -- Where all entries are kept, their bytes are those that stand in the file.
+--   put_mid-sets   a part of a list that holds other elements now
 --   all-kept       every entry is kept where as many are kept as there are; kept_same  each then has its own number
 --   entry-bytes    an entry as bytes
 --   kept-copy      the bytes of the kept entries
@@ -10,9 +11,10 @@ use native.Mathlib.Numerals.{add-one}
 use native.Mathlib.Omega.{arith}
 use native.Mathlib.Decide.{dec_le}
 use mathlib.Core.Bool.{Bool, true, false}
-use mathlib.Core.List.{List, ◌++◌}
+use mathlib.Core.List.{List, ◌++◌, append_assoc}
+use borrow.Rule.Slice.PartMut.{put_mid}
 use lib.ListN.{length, take, drop, length-append}
-use lib.Seq.{drop-drop}
+use lib.Seq.{sets, sets-eq, drop-drop}
 use Rattle.pciv_bytes.specs.Ranges.{table, positions, keep_if, joined}
 use Rattle.pciv_bytes.specs.LittleEndian.{le, Bytes}
 use Rattle.pciv_bytes.proofs.RangesLaws.{length-table, get_or-table}
@@ -27,6 +29,11 @@ use Rattle.pciv_close.specs.Close.{entries_from}
 use Rattle.pciv_repair_file.specs.Repaired.{is_kept, kept_entries, kept_parts, kept_bytes}
 use Rattle.pciv_repair_file.proofs.KeptLaws.{kept-number}
 use Rattle.pciv_repair_file.proofs.WalkLaws.{kept_count, kept_count-none, kept_count-kept}
+
+pub put_mid-sets : (a k : ℕ) (d vs : List ℕ) → length vs ≡ k → a + k ≤ length d → put_mid a k d vs ≡ sets d a vs
+put_mid-sets a k d vs same space =
+    let fits : a + length vs ≤ length d = rw same space in
+    sym (sets-eq vs d a fits ∙ append_assoc (take a d) vs (drop (a + length vs) d) ∙ rw (drop-drop k a d, same))
 
 -- as many as there are numbers
 every : (p : ℕ → Bool) (i c : ℕ) → length (positions p i c) ≡ c → (j : ℕ) → i ≤ j → j < i + c → p j ≡ true

@@ -16,10 +16,7 @@ fn other_entry(file: &[u8], at: usize, slot: usize, entry: usize) -> bool
     ensures { result
         ≡ not (eqb (get 8 file.now at) slot) || not (eqb (get 8 file.now (at + 8)) entry) }
 {
-    if get64(file, at) != slot {
-        return true;
-    }
-    get64(file, at + 8) != entry
+    get64(file, at) != slot || get64(file, at + 8) != entry
 }
 
 // As many bytes as the index has are the index.
@@ -35,22 +32,21 @@ fn same_entries(file: &[u8], n: usize, k: usize, kept: usize) -> bool
     let mut i: usize = 0;
     let mut entry: usize = 0;
     let mut lowest: usize = 0;
-    let mut j: usize = 0;
-    while i < m {
-        let free = lowest;
-        lowest = lowest_after(file, n, free, j);
-        j += 1;
-        if free < lowest {
-            let number = entry;
-            entry += 1;
-            if number == i * step {
-                let at = index + 16 * i;
-                i += 1;
-                if other_entry(file, at, lowest - 1, number) {
+    for j in 0..k {
+        if m <= i {
+            break;
+        }
+        let next = lowest_after(file, n, lowest, j);
+        if lowest < next {
+            if entry == i * step {
+                if other_entry(file, index + 16 * i, next - 1, entry) {
                     return false;
                 }
+                i += 1;
             }
+            entry += 1;
         }
+        lowest = next;
     }
     true
 }

@@ -6,7 +6,6 @@ ghost use Rattle.pciv_format.specs.Check.{file_parts};
 ghost use Rattle.pciv_repair_file.specs.Repaired.{lowest_after, kept_entries, full_count, kept_bytes, PartsGiven};
 
 use pciv_build::put_entry;
-use pciv_bytes::copies::copy_bytes;
 use pciv_bytes::little_endian::{get32, get64};
 use pciv_format::{HEADER_LEN, SENTINEL};
 use pciv_layout::entries::wrong_entry;
@@ -35,12 +34,10 @@ pub fn count_kept(file: &[u8], n: usize, k: usize) -> usize
 {
     let mut kept: usize = 0;
     let mut lowest: usize = 0;
-    let mut j: usize = 0;
-    while j < k {
+    for j in 0..k {
         let next = lowest_after(file, n, lowest, j);
         kept += (lowest < next) as usize;
         lowest = next;
-        j += 1;
     }
     kept
 }
@@ -62,15 +59,13 @@ fn put_some(file: &[u8], n: usize, k: usize, out: &mut [u8])
 {
     let mut place = HEADER_LEN + n;
     let mut lowest: usize = 0;
-    let mut j: usize = 0;
-    while j < k {
-        let free = lowest;
-        let distance = get32(file, HEADER_LEN + n + 12 * j + 8);
-        lowest = lowest_after(file, n, free, j);
-        j += 1;
-        if free < lowest {
-            place = put_entry(out, place, lowest - 1, distance);
+    for j in 0..k {
+        let next = lowest_after(file, n, lowest, j);
+        if lowest < next {
+            let distance = get32(file, HEADER_LEN + n + 12 * j + 8);
+            place = put_entry(out, place, next - 1, distance);
         }
+        lowest = next;
     }
 }
 
@@ -82,9 +77,10 @@ pub fn put_kept(file: &[u8], n: usize, k: usize, kept: usize, out: &mut [u8])
     ensures { out.new
         ≡ sets out.old (40 + n) (kept_bytes (file_parts file.now n k)) }
 {
-    let start = HEADER_LEN + n;
     if kept == k {
-        copy_bytes(&file[start..start + 12 * k], out, start);
+        let start = HEADER_LEN + n;
+        let end = start + 12 * k;
+        out[start..end].copy_from_slice(&file[start..end]);
     } else {
         put_some(file, n, k, out);
     }

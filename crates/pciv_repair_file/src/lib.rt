@@ -8,15 +8,13 @@ pub mod kept;
 ghost use Rattle.std.specs.Prelude.{◌≡◌, ◌+◌, ◌≤◌, length};
 ghost use Rattle.std.proofs.lemmas.List.Edits.{sets};
 ghost use Rattle.pciv_bytes.specs.Ranges.{table};
-ghost use Rattle.pciv_format.specs.Refusals.{file_answer};
 ghost use Rattle.pciv_format.specs.Check.{file_parts};
 ghost use Rattle.pciv_format.specs.Write.{file_into, file_buffer};
 ghost use Rattle.pciv_repair_file.specs.Repaired.{kept_entries, repaired_parts, repaired_at, full_count, PartsGiven};
 
 use crate::kept::{lowest_after, put_kept};
 use pciv_build::{begin, finish};
-use pciv_bytes::copies::copy_bytes;
-use pciv_format::{CountsAnswer, FileAnswer, HEADER_LEN, INLINE_MAX, SENTINEL};
+use pciv_format::{HEADER_LEN, INLINE_MAX, Refusal, SENTINEL, Summary};
 use pciv_map::totals::summary_of;
 use pciv_passes::pairs::{ByteOp, map_into};
 
@@ -35,14 +33,12 @@ fn put_lowered(file: &[u8], n: usize, k: usize, out: &mut [u8])
         HEADER_LEN,
     );
     let mut lowest: usize = 0;
-    let mut j: usize = 0;
-    while j < k {
-        let free = lowest;
-        lowest = lowest_after(file, n, free, j);
-        j += 1;
-        if free < lowest {
-            out[HEADER_LEN + (lowest - 1)] = SENTINEL;
+    for j in 0..k {
+        let next = lowest_after(file, n, lowest, j);
+        if lowest < next {
+            out[HEADER_LEN + (next - 1)] = SENTINEL;
         }
+        lowest = next;
     }
 }
 
@@ -55,7 +51,8 @@ fn put_primary(file: &[u8], n: usize, k: usize, kept: usize, full: usize, out: &
         ≡ sets out.old 40 (table (repaired_parts (file_parts file.now n k)).byte 0 n) }
 {
     if full == kept {
-        copy_bytes(&file[HEADER_LEN..HEADER_LEN + n], out, HEADER_LEN);
+        let end = HEADER_LEN + n;
+        out[HEADER_LEN..end].copy_from_slice(&file[HEADER_LEN..end]);
     } else {
         put_lowered(file, n, k, out);
     }
@@ -69,22 +66,17 @@ pub fn put_repaired(
     kept: usize,
     full: usize,
     out: &mut [u8],
-) -> FileAnswer
+) -> Result<Summary, Refusal>
     requires parts_given { PartsGiven file.now n k }
     requires kept_value { (kept ≡ length (kept_entries (file_parts file.now n k))) × (full ≡ full_count file.now n) }
-    ensures answer { result ≡ file_answer (file_into n (repaired_at file.now n k) (length out.old)) }
+    ensures answer { result ≡ file_into n (repaired_at file.now n k) (length out.old) }
     ensures buffer { out.new
         ≡ file_buffer (file_into n (repaired_at file.now n k) (length out.old)) n
         (repaired_at file.now n k) out.old }
 {
-    let begun = begin(out, n, kept);
-    match begun {
-        CountsAnswer::Refused(r) => FileAnswer::Refused(r),
-        CountsAnswer::Counted(c) => {
-            put_primary(file, n, k, kept, full, out);
-            put_kept(file, n, k, kept, out);
-            finish(out, n, kept);
-            FileAnswer::Done(summary_of(out, c))
-        }
-    }
+    let counts = begin(out, n, kept)?;
+    put_primary(file, n, k, kept, full, out);
+    put_kept(file, n, k, kept, out);
+    finish(out, n, kept);
+    Ok(summary_of(out, counts))
 }

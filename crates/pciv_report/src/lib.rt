@@ -5,13 +5,12 @@
 mod text;
 
 ghost use Rattle.std.specs.Prelude.{◌≡◌, ◌≤◌, length};
-ghost use Rattle.pciv_format.specs.Refusals.{number_answer};
 ghost use Rattle.pciv_format.specs.Report.{map_lines, refused_line, report_text, report_outcome, report_buffer};
-ghost use Rattle.pciv_report.specs.Text.{Put, max_text, number_of, deliver_outcome, deliver_buffer};
+ghost use Rattle.pciv_report.specs.Text.{Put, max_text, deliver_outcome, deliver_buffer};
 
 use crate::text::{put_field, put_line, put_word};
 use pciv_check::check;
-use pciv_format::{BUFFER_TOO_SMALL, FileAnswer, NumberAnswer, Refusal, Summary};
+use pciv_format::{Refusal, RefusalKind, Summary};
 use pciv_read::readings;
 
 // The longest input that is reported on.
@@ -22,7 +21,7 @@ pub const MAX_TEXT: usize = 160;
 
 // A buffer that is too short, or an input that is too long.
 const TOO_LONG: Refusal = Refusal {
-    number: BUFFER_TOO_SMALL,
+    kind: RefusalKind::BufferTooSmall,
     map: 0,
     place: 0,
 };
@@ -47,30 +46,20 @@ fn put_refusal(out: &mut [u8], r: Refusal) -> usize
     ensures text { Put out.old 0 (refused_line r) out.new result }
     ensures most { result ≤ max_text }
 {
-    let at = put_field(out, 0, b"refused", r.number);
+    let at = put_field(out, 0, b"refused", usize::from(r.kind));
     let at = put_field(out, at, b" map", r.map);
     put_line(out, at, b" place", r.place)
 }
 
 // A text to the front of the caller's buffer, and its length. Refusal: 12.
-fn deliver(text: &[u8], out: &mut [u8]) -> NumberAnswer
-    ensures answer { result ≡ number_answer (deliver_outcome text.now (length out.old)) }
+fn deliver(text: &[u8], out: &mut [u8]) -> Result<usize, Refusal>
+    ensures answer { result ≡ deliver_outcome text.now (length out.old) }
     ensures buffer { out.new ≡ deliver_buffer text.now out.old }
 {
     if out.len() < text.len() {
-        return NumberAnswer::Refused(TOO_LONG);
+        return Err(TOO_LONG);
     }
-    NumberAnswer::Number(put_word(out, 0, text))
-}
-
-// The number of an answer, 0 where it is a refusal.
-fn number_of(answer: NumberAnswer) -> usize
-    ensures { result ≡ number_of answer }
-{
-    match answer {
-        NumberAnswer::Number(x) => x,
-        NumberAnswer::Refused(_) => 0,
-    }
+    Ok(put_word(out, 0, text))
 }
 
 // The report on an input, and how many bytes it is.
@@ -84,15 +73,15 @@ fn put_report(out: &mut [u8], input: &[u8]) -> usize
         return put_refusal(out, TOO_LONG);
     }
     match check(input) {
-        FileAnswer::Done(s) => put_map(out, s, s.sum, number_of(readings(input))),
-        FileAnswer::Refused(r) => put_refusal(out, r),
+        Ok(s) => put_map(out, s, s.sum, readings(input).unwrap_or(0)),
+        Err(r) => put_refusal(out, r),
     }
 }
 
 // Writes the report on an input to the front of the caller's buffer and answers its length. An input of more
 // than 65,536 bytes is reported as refused. Refusal: 12, where the buffer is shorter than the report.
-pub fn report(input: &[u8], out: &mut [u8]) -> NumberAnswer
-    ensures answer { result ≡ number_answer (report_outcome input.now (length out.old)) }
+pub fn report(input: &[u8], out: &mut [u8]) -> Result<usize, Refusal>
+    ensures answer { result ≡ report_outcome input.now (length out.old) }
     ensures buffer { out.new ≡ report_buffer input.now out.old }
 {
     let mut text = [0u8; MAX_TEXT];

@@ -28,7 +28,8 @@ pub(crate) fn put_decimal(out: &mut [u8], at: usize, x: usize) -> usize
     ensures { Put out.old at (decimal x) out.new result }
 {
     let digit = b'0' + (x % 10) as u8;
-    if x < 10 {
+    let is_last = x < 10;
+    if is_last {
         put_byte(out, at, digit)
     } else {
         let at = put_decimal(out, at, x / 10);

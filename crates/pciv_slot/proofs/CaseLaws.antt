@@ -8,6 +8,8 @@
 --   below-count            how many entries stand before the slot's;  entry-inside  in overflow, the slot has one
 --   stays-inline, -overflow    answer and buffer where the slot stays inline, or in overflow, and no entry is moved
 -- Axioms: none.
+use Rattle.std.proofs.Common.{Ok}
+use Rattle.pciv_format.specs.declared.RefusalKind.TheVariants.{BufferTooSmall}
 use mathlib.Core.Path.{◌≡◌, sym, ap, ap₂, ◌∙◌}
 use Prim.Native.Nat.{ℕ, ◌+◌, ◌-◌, ◌*◌, ◌^◌, ◌≤◌, ◌<◌}
 use native.Mathlib.Omega.{arith}
@@ -21,7 +23,7 @@ use Rattle.pciv_bytes.specs.Ranges.{sum_from}
 use Rattle.pciv_bytes.specs.LittleEndian.{le, Bytes}
 use Rattle.pciv_format.specs.Layout.{file_len, overflow_count, file, counts_of, summarize, summary, at}
 use Rattle.pciv_format.specs.Layout.{file_of}
-use Rattle.pciv_format.specs.Refusals.{Outcome, done, refuse, refuse_if}
+use Rattle.pciv_format.specs.Refusals.{Outcome, refuse, refuse_if}
 use Rattle.pciv_format.specs.Parts.{value_of}
 use Rattle.pciv_format.specs.Check.{file_parts}
 use Rattle.pciv_format.specs.Read.{total, with_sum}
@@ -70,7 +72,7 @@ module _ (b : List ℕ) (n k : ℕ) (bytes : Bytes b) (e : Edit) (p : EditAt b n
       ap length file-edited ∙ length-file n w ∙ ap (file_len n) (sym is) in
       edit-checked b n k bytes p.checked e
       ∙ rw (lt-leb (length (held b)) e.slot slot-in, len)
-      (ap (λ (c : Counts). refuse_if short (refuse 12 0 0) (done (summarize c sum)))
+      (ap (λ (c : Counts). refuse_if short (refuse BufferTooSmall 0 0) (Ok (summarize c sum)))
       (ap₂ counts_of slots (ap (λ (m : ℕ). overflow_count m w) slots ∙ sym is))
       ∙ sym (refuse_if-sum short (counts_of n count) sum))
 
@@ -115,7 +117,7 @@ module _ (b : List ℕ) (n k : ℕ) (bytes : Bytes b) (e : Edit) (p : EditAt b n
 
   -- as many entries as before, each with its number
   stays : leb 255 (at (held b) e.slot) ≡ leb 255 e.distance
-      → (edit_outcome b e ≡ done (summarize (counts_of n k) (total (edited (held b) e)))) × (edit_moved b e ≡ 0)
+      → (edit_outcome b e ≡ Ok (summarize (counts_of n k) (total (edited (held b) e)))) × (edit_moved b e ≡ 0)
   stays same =
       let count : k ≡ overflow_count n (at (edited (held b) e)) =
       sym
@@ -127,12 +129,12 @@ module _ (b : List ℕ) (n k : ℕ) (bytes : Bytes b) (e : Edit) (p : EditAt b n
       (is, moved-done b e _ is ∙ moved-stays (held b) e same)
 
   -- the same of the buffer taken apart
-  apart-done : (s : Summary) → edit_outcome b e ≡ done s
-      → edit_outcome (file_of (held b) ++ drop (file_len n k) b) e ≡ done s
+  apart-done : (s : Summary) → edit_outcome b e ≡ Ok s
+      → edit_outcome (file_of (held b) ++ drop (file_len n k) b) e ≡ Ok s
   apart-done s is = ap (λ (l : List ℕ). edit_outcome l e) (sym holds.apart) ∙ is
 
   pub stays-inline : get_or b (40 + e.slot) 0 < 255 → e.distance < 255
-      → (edit_outcome b e ≡ done (summarize (counts_of n k) (total (edited (held b) e))))
+      → (edit_outcome b e ≡ Ok (summarize (counts_of n k) (total (edited (held b) e))))
       × (edit_moved b e ≡ 0)
       × (edit_buffer b e ≡ set b (40 + e.slot) e.distance)
   stays-inline old new =
@@ -147,7 +149,7 @@ module _ (b : List ℕ) (n k : ℕ) (bytes : Bytes b) (e : Edit) (p : EditAt b n
 
   pub stays-overflow : get_or b (40 + e.slot) 0 ≡ 255 → 255 ≤ e.distance
       → (j : ℕ) → j ≡ entries_below (file_parts b n k) e.slot
-      → (edit_outcome b e ≡ done (summarize (counts_of n k) (total (edited (held b) e))))
+      → (edit_outcome b e ≡ Ok (summarize (counts_of n k) (total (edited (held b) e))))
       × (edit_moved b e ≡ 0)
       × (edit_buffer b e ≡ sets b (40 + n + 12 * j + 8) (le 4 e.distance))
   stays-overflow old new j at_j =

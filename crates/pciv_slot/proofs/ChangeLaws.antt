@@ -1,10 +1,11 @@
 -- A slot that moves into or out of overflow, in place: header, primary byte and entries, then index and zeros.
---   put-in          an entry written where those behind it were moved up
+--   put_in_front    an entry written where those behind it were moved up
 --   SlotMoves       what follows for an edit that moves a slot:  few  the new file is within the limits;  answer  the
 --                   editor's;  space  what the change asks for;  entries_moved  how many entries it moves;  buffer  that its
 --                   steps leave the editor's buffer
 --   slot-moves      an edit where the old and the new distance differ in being in overflow has all of it
 -- Axioms: none.
+use Rattle.std.proofs.Common.{Ok}
 use mathlib.Core.Path.{◌≡◌, refl, sym, ap, ap₂, ◌∙◌}
 use Prim.Native.Nat.{ℕ, ◌+◌, ◌-◌, ◌*◌, ◌≤◌, ◌<◌}
 use native.Mathlib.Nat.{add-zero}
@@ -21,7 +22,7 @@ use Rattle.pciv_bytes.proofs.WriteLaws.{sets-append, set-behind, sets_behind, se
 use Rattle.pciv_format.specs.Layout.{file_len, primary_byte, primary, overflow_slots, overflow_count}
 use Rattle.pciv_format.specs.Layout.{overflow_entry, overflow_part, index_part, header, file, counts_of, summarize}
 use Rattle.pciv_format.specs.Layout.{at, file_of}
-use Rattle.pciv_format.specs.Refusals.{Outcome, done}
+use Rattle.pciv_format.specs.Refusals.{Outcome}
 use Rattle.pciv_format.specs.Check.{file_parts}
 use Rattle.pciv_format.specs.Read.{total, with_sum}
 use Rattle.pciv_format.specs.Edit.{Edit, edited, replaced, edit_outcome, moved_by, edit_moved, edit_buffer}
@@ -45,9 +46,9 @@ use Rattle.pciv_slot.proofs.CaseLaws.{below-count, edit-counted}
 -- ---- lists
 
 -- d₁: what stands from `from` on, moved; d₂: an entry written there
-pub put-in : (d d₁ d₂ x : List ℕ) (slot distance from : ℕ) → d₁ ≡ sets d (from + 12) x
+pub put_in_front : (d d₁ d₂ x : List ℕ) (slot distance from : ℕ) → d₁ ≡ sets d (from + 12) x
     → d₂ ≡ sets d₁ from (le 8 slot ++ le 4 distance) → d₂ ≡ sets d from ((le 8 slot ++ le 4 distance) ++ x)
-put-in d d₁ d₂ x slot distance from e₁ e₂ =
+put_in_front d d₁ d₂ x slot distance from e₁ e₂ =
     let E : List ℕ = le 8 slot ++ le 4 distance in
     let L : length E ≡ 12 =
     length-append (le 8 slot) (le 4 distance) ∙ ap₂ (λ (a c : ℕ). a + c) (length-le 8 slot) (length-le 4 distance) in
@@ -356,7 +357,7 @@ module _ (b : List ℕ) (n k : ℕ) (bytes : Bytes b) (e : Edit) (p : EditAt b n
     slot-moves =
         let answer = edit-counted b n k bytes e p count moved-count in
         let sum : ℕ = total (edited (held b) e) in
-        let accepted : file_len n count ≤ length b → edit_outcome b e ≡ done (summarize (counts_of n count) sum) =
+        let accepted : file_len n count ≤ length b → edit_outcome b e ≡ Ok (summarize (counts_of n count) sum) =
         λ fits. answer ∙ ap (λ (o : Outcome Counts). with_sum o sum) (begin-fits n count b fits).0 in
         record {
           few = moved-few;

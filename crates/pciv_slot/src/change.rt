@@ -12,6 +12,7 @@ use pciv_format::{HEADER_LEN, SENTINEL};
 use pciv_layout::file_len;
 
 // The slot's byte becomes 255, and its entry stands before entry j of the k that there were.
+#[tactic(auto, using(crate::proofs::ChangeLaws::put_in_front), unfolding(crate::specs::Change::put_in))]
 fn put_in(buffer: &mut [u8], n: usize, k: usize, j: usize, slot: usize, distance: u32)
     requires { (slot < n) × (j ≤ k) × (entry_at n (k + 1) ≤ length buffer.old) }
     ensures { buffer.new ≡ put_in buffer.old n k j slot distance }
@@ -24,6 +25,7 @@ fn put_in(buffer: &mut [u8], n: usize, k: usize, j: usize, slot: usize, distance
 }
 
 // The slot's byte becomes its distance, and entry j of k, which was the slot's, is gone.
+#[tactic(auto, unfolding(crate::specs::Change::taken_out))]
 fn take_out(buffer: &mut [u8], n: usize, k: usize, j: usize, slot: usize, distance: u32)
     requires slot_lt_n { (slot < n) × (j < k) × (entry_at n k ≤ length buffer.old) }
     requires distance_bound { distance < 255 }
@@ -35,6 +37,7 @@ fn take_out(buffer: &mut [u8], n: usize, k: usize, j: usize, slot: usize, distan
 }
 
 // The one or the other, by the distance.
+#[tactic(auto, unfolding(crate::specs::Change::changed))]
 pub(crate) fn change_entries(
     buffer: &mut [u8],
     n: usize,
@@ -64,6 +67,7 @@ fn clear_freed(buffer: &mut [u8], len: usize, old: usize)
 }
 
 // The index of the `count` entries that stand there now, and zeros where the file of k entries was longer.
+#[tactic(auto, unfolding(crate::specs::Change::finished))]
 pub(crate) fn finish_change(buffer: &mut [u8], n: usize, k: usize, count: usize)
     requires n_le_max_slots { (n ≤ max_slots) × (k ≤ n) × (count ≤ n) }
     requires k_in_bounds { (file_len n k ≤ length buffer.old) × (file_len n count ≤ length buffer.old) }

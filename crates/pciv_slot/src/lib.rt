@@ -6,7 +6,7 @@ mod change;
 
 ghost use Rattle.std.specs.Prelude.{◌≡◌, ◌+◌, ◌-◌, ◌^◌, ◌≤◌, ◌<◌, get_or, eqb, ltb};
 ghost use Rattle.pciv_format.specs.Layout.{max_slots, counts_of, summarize};
-ghost use Rattle.pciv_format.specs.Refusals.{done, refuse};
+ghost use Rattle.pciv_format.specs.Refusals.{refuse};
 ghost use Rattle.pciv_format.specs.Parts.{value_of};
 ghost use Rattle.pciv_format.specs.Check.{file_parts};
 ghost use Rattle.pciv_format.specs.Read.{list_of, total};
@@ -17,10 +17,8 @@ ghost use Rattle.pciv_slot.specs.Change.{new_count, above_count, SummedMap, Edit
 use crate::change::{change_entries, finish_change};
 use pciv_build::put_header;
 use pciv_bytes::little_endian::put32;
-use pciv_format::{
-    BUFFER_TOO_SMALL, EditAnswer, FileAnswer, HEADER_LEN, SENTINEL, SLOT_OUT_OF_RANGE,
-};
-use pciv_layout::refusals::refuse_file;
+use pciv_format::{EditAnswer, HEADER_LEN, RefusalKind, SENTINEL};
+use pciv_layout::refusals::refuse;
 use pciv_layout::{counts_of, file_len, summarized};
 use pciv_map::entries::entry_distance;
 use pciv_map_lookup::entry_of;
@@ -28,10 +26,10 @@ use pciv_map_lookup::entry_of;
 // The slot is changed, the file has n slots, k overflow entries and that sum now, and `moved` entries have another number.
 fn edited(n: usize, k: usize, sum: usize, moved: usize) -> EditAnswer
     requires { (n ≤ max_slots) × (k ≤ n) }
-    ensures { result ≡ edit_answer (done (summarize (counts_of n k) sum)) moved }
+    ensures { result ≡ edit_answer (Ok (summarize (counts_of n k) sum)) moved }
 {
     EditAnswer {
-        outcome: FileAnswer::Done(summarized(counts_of(n, k), sum)),
+        outcome: Ok(summarized(counts_of(n, k), sum)),
         moved,
     }
 }
@@ -39,17 +37,17 @@ fn edited(n: usize, k: usize, sum: usize, moved: usize) -> EditAnswer
 // The same where the slot stays inline or in overflow: no entry gets another number.
 fn stayed(n: usize, k: usize, sum: usize) -> EditAnswer
     requires { (n ≤ max_slots) × (k ≤ n) }
-    ensures { result ≡ edit_answer (done (summarize (counts_of n k) sum)) 0 }
+    ensures { result ≡ edit_answer (Ok (summarize (counts_of n k) sum)) 0 }
 {
     edited(n, k, sum, 0)
 }
 
 // A refusal, which concerns no map; no entry is moved.
-fn refused(number: usize) -> EditAnswer
-    ensures { result ≡ edit_answer (refuse number 0 0) 0 }
+fn refused(kind: RefusalKind) -> EditAnswer
+    ensures { result ≡ edit_answer (refuse kind 0 0) 0 }
 {
     EditAnswer {
-        outcome: refuse_file(number, 0, 0),
+        outcome: refuse(kind, 0, 0),
         moved: 0,
     }
 }
@@ -67,6 +65,7 @@ fn above_count(k: usize, j: usize, distance: u32) -> usize
 }
 
 // The distance at a slot, where j entries have a smaller slot: its byte, or that of entry j.
+#[tactic(auto, unfolding(pciv_format::specs::Parts::value_of))]
 fn old_distance(buffer: &[u8], n: usize, k: usize, j: usize, slot: usize) -> u32
     requires edit_at { EditAt buffer.now n k slot }
     requires j_value { j ≡ entries_below (file_parts buffer.now n k) slot }
@@ -149,7 +148,7 @@ fn move_slot(
     ensures buffer { buffer.new ≡ edit_buffer buffer.old (record { slot = slot; distance = distance }) }
 {
     if buffer.len() < file_len(n, count) {
-        let told = refused(BUFFER_TOO_SMALL);
+        let told = refused(RefusalKind::BufferTooSmall);
         return told;
     }
     let j = entry_of(buffer, n, k, slot);
@@ -176,7 +175,7 @@ pub fn edit_checked(
     ensures buffer { buffer.new ≡ edit_buffer buffer.old (record { slot = slot; distance = distance }) }
 {
     if n <= slot {
-        return refused(SLOT_OUT_OF_RANGE);
+        return refused(RefusalKind::SlotOutOfRange);
     }
     let byte = buffer[HEADER_LEN + slot] as u32;
     let mark = SENTINEL as u32;

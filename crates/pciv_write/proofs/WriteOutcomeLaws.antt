@@ -1,20 +1,20 @@
 -- What `write` answers and leaves, case by case, and what its passes know of the list.
---   overflow_at xs i        1 where slot i is in overflow
---   count-is, count_small  the sum of these is the count, and not above the number of slots
+--   count-is               how many are in overflow, as a sum over the list
 --   write-long             the list is too long
 --   write-into             else the answer is that of writing the file
 --   write_buffer-is         the buffer, by the answer
 -- Axioms: none.
-use mathlib.Core.Path.{◌≡◌, refl, sym, ◌∙◌}
-use Prim.Native.Nat.{ℕ, ◌-◌, ◌≤◌, ◌<◌}
-use native.Mathlib.Nat.{sub-zero}
+use Rattle.pciv_format.specs.declared.RefusalKind.TheVariants.{TooManySlots}
+use Rattle.std.specs.List.{sum, sum_by}
+use Rattle.std.proofs.lemmas.List.Sums.{sum_by-cons, sum-map}
+use mathlib.Core.Path.{◌≡◌, refl, sym, ap, ◌∙◌}
+use Prim.Native.Nat.{ℕ, suc, ◌+◌, ◌≤◌, ◌<◌}
 use native.Mathlib.Omega.{arith}
-use mathlib.Core.List.{List}
+use mathlib.Core.List.{List, [], ◌∷◌, map}
 use lib.ListN.{length}
 use borrow.Author.Tests.{lt-ltb, le-ltb}
 use Rattle.pciv_bytes.specs.Ranges.{flag, sum_from}
-use Rattle.pciv_bytes.proofs.SumLaws.{sum_from-le}
-use Rattle.pciv_bytes.proofs.RangesLaws.{flag-le}
+use Rattle.pciv_bytes.proofs.SumLaws.{sum_from-shift}
 use Rattle.pciv_format.specs.Layout.{max_slots, in_overflow, overflow_count, at}
 use Rattle.pciv_format.specs.Refusals.{refuse}
 use Rattle.pciv_format.specs.Write.{file_into, file_buffer, write_outcome, write_buffer}
@@ -22,21 +22,26 @@ use Rattle.pciv_build.proofs.EntriesLaws.{overflow_count-sum}
 
 -- ---- the count
 
--- 1 where slot i is in overflow
-abbrev pub overflow_at : List ℕ → ℕ → ℕ
-overflow_at xs i = flag (in_overflow (at xs i))
+sum-listed : (f : ℕ → ℕ) (xs : List ℕ) → sum_by f xs ≡ sum_from (λ (i : ℕ). f (at xs i)) 0 (length xs)
+unfolding sum_from
+sum-listed f [] = refl
+sum-listed f (x ∷ xs) =
+    sum_by-cons f x xs
+    ∙ ap (λ (s : ℕ). f x + s)
+    (sum-listed f xs
+    ∙ sum_from-shift (λ (i : ℕ). f (at xs i)) (λ (i : ℕ). f (at (x ∷ xs) i)) 0 1 (length xs)
+    (λ j. let low : 0 + j ≡ j = omega arith in let high : 1 + j ≡ suc j = omega arith in rw (low, high)))
 
-pub count-is : (xs : List ℕ) (c : ℕ) → c ≡ sum_from (overflow_at xs) 0 (length xs - 0)
-    → c ≡ overflow_count (length xs) (at xs)
-count-is xs c e = e ∙ rw sub-zero (sym (overflow_count-sum (length xs) (at xs)))
-
-pub count_small : (xs : List ℕ) → sum_from (overflow_at xs) 0 (length xs - 0) ≤ length xs
-count_small xs = omega (arith, sum_from-le (overflow_at xs) 1 (λ j. flag-le (in_overflow (at xs j))) 0 (length xs - 0))
+pub count-is : (xs : List ℕ) → sum (map (λ (x : ℕ). flag (in_overflow x)) xs) ≡ overflow_count (length xs) (at xs)
+count-is xs =
+    sum-map (λ (x : ℕ). flag (in_overflow x)) xs
+    ∙ sum-listed (λ (x : ℕ). flag (in_overflow x)) xs
+    ∙ sym (overflow_count-sum (length xs) (at xs))
 
 -- ---- the answer and the buffer
 
 module _ (xs out : List ℕ) where
-  pub write-long : max_slots < length xs → (write_outcome xs (length out) ≡ refuse 3 1 0) × (write_buffer xs out ≡ out)
+  pub write-long : max_slots < length xs → (write_outcome xs (length out) ≡ refuse TooManySlots 1 0) × (write_buffer xs out ≡ out)
   unfolding write_outcome write_buffer
   write-long long = let t = lt-ltb max_slots (length xs) long in (rw t, rw t)
 

@@ -7,16 +7,15 @@ ghost use Rattle.std.specs.Prelude.{◌≡◌, ◌+◌, ◌*◌, ◌≤◌, leng
 ghost use Rattle.std.proofs.lemmas.List.Edits.{sets};
 ghost use Rattle.pciv_bytes.specs.Ranges.{flag};
 ghost use Rattle.pciv_format.specs.Layout.{max_slots, in_overflow, primary, overflow_count, overflow_part, at};
-ghost use Rattle.pciv_format.specs.Refusals.{file_answer};
 ghost use Rattle.pciv_format.specs.Write.{write_outcome, write_buffer};
 ghost use Rattle.pciv_build.specs.Slots.{HoldsPrimary};
 
 use pciv_build::slots::put_slots;
 use pciv_build::{begin, finish, put_entry};
 use pciv_bytes::little_endian::get64;
-use pciv_format::{CountsAnswer, FileAnswer, HEADER_LEN, MAX_SLOTS, SENTINEL, TOO_MANY_SLOTS};
+use pciv_format::{HEADER_LEN, MAX_SLOTS, Refusal, RefusalKind, SENTINEL, Summary};
 use pciv_layout::primary_byte;
-use pciv_layout::refusals::refuse_file;
+use pciv_layout::refusals::refuse;
 use pciv_map::totals::summary_of;
 
 // The least distance that is in overflow.
@@ -26,7 +25,7 @@ const OVERFLOW_MIN: u32 = SENTINEL as u32;
 fn overflow_flag(x: u32) -> u32
     ensures { result ≡ flag (in_overflow x) }
 {
-    (OVERFLOW_MIN <= x) as u32
+    u32::from(OVERFLOW_MIN <= x)
 }
 
 // How many distances are in overflow.
@@ -34,13 +33,7 @@ fn count_overflow(distances: &[u32]) -> usize
     requires { length distances.now ≤ max_slots }
     ensures { result ≡ overflow_count (length distances.now) (at distances.now) }
 {
-    let mut count: u32 = 0;
-    let mut i = 0;
-    while i < distances.len() {
-        count += overflow_flag(distances[i]);
-        i += 1;
-    }
-    count as usize
+    distances.iter().map(|x| overflow_flag(*x)).sum::<u32>() as usize
 }
 
 // Writes the primary array.
@@ -48,10 +41,8 @@ fn put_primary(out: &mut [u8], distances: &[u32])
     requires { 40 + length distances.now ≤ length out.old }
     ensures { out.new ≡ sets out.old 40 (primary (length distances.now) (at distances.now)) }
 {
-    let mut i = 0;
-    while i < distances.len() {
-        out[HEADER_LEN + i] = primary_byte(distances[i]);
-        i += 1;
+    for (i, x) in distances.iter().enumerate() {
+        out[HEADER_LEN + i] = primary_byte(*x);
     }
 }
 
@@ -66,34 +57,29 @@ fn put_entries(out: &mut [u8], distances: &[u32], k: usize)
 {
     let n = distances.len();
     put_slots(out, n);
-    let mut place = HEADER_LEN + n;
-    let end = place + 12 * k;
-    while place < end {
+    let start = HEADER_LEN + n;
+    for j in 0..k {
+        let place = start + 12 * j;
         let slot = get64(out, place);
-        place = put_entry(out, place, slot, distances[slot]);
+        put_entry(out, place, slot, distances[slot]);
     }
 }
 
 // Writes the file of a list of distances to the front of the caller's buffer. Refusals: 3 with map 1, then 12.
 // A refused call changes no byte, and bytes past the file stay as they were.
-pub fn write(distances: &[u32], out: &mut [u8]) -> FileAnswer
-    ensures answer { result ≡ file_answer (write_outcome distances.now (length out.old)) }
+pub fn write(distances: &[u32], out: &mut [u8]) -> Result<Summary, Refusal>
+    ensures answer { result ≡ write_outcome distances.now (length out.old) }
     ensures buffer { out.new ≡ write_buffer distances.now out.old }
 {
     let n = distances.len();
     let is_large = MAX_SLOTS < n;
     if is_large {
-        return refuse_file(TOO_MANY_SLOTS, 1, 0);
+        return refuse(RefusalKind::TooManySlots, 1, 0);
     }
     let k = count_overflow(distances);
-    let begun = begin(out, n, k);
-    match begun {
-        CountsAnswer::Refused(r) => FileAnswer::Refused(r),
-        CountsAnswer::Counted(c) => {
-            put_primary(out, distances);
-            put_entries(out, distances, k);
-            finish(out, n, k);
-            FileAnswer::Done(summary_of(out, c))
-        }
-    }
+    let counts = begin(out, n, k)?;
+    put_primary(out, distances);
+    put_entries(out, distances, k);
+    finish(out, n, k);
+    Ok(summary_of(out, counts))
 }

@@ -1,7 +1,6 @@
 // Reads a file from standard input and prints the report on it (docs/FORMAT.md, "The report program").
 #![tactic(auto)]
 
-use pciv_format::NumberAnswer;
 use pciv_report::{MAX_INPUT, MAX_TEXT, report};
 
 // One byte more than the longest input, so that a longer one is seen to be too long.
@@ -12,7 +11,7 @@ fn main() {
     let got = io::read_full(0, &mut input);
     let mut text = [0u8; MAX_TEXT];
     let answer = report(&input[..got], &mut text);
-    if let NumberAnswer::Number(len) = answer {
+    if let Ok(len) = answer {
         io::write_all(1, &text[..len]);
     }
 }

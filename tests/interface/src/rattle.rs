@@ -103,12 +103,18 @@ pub fn element_numbers(name: &str, structs: &Structs) -> Option<Vec<Number>> {
 }
 
 /// The structs that consist of numbers. A struct that stands for others has to come after them.
+/// A field of an enum whose variants have numbers is C's field `number`.
 pub fn read_structs(words: &[String]) -> Structs {
     let mut structs = Structs::new();
+    let numbered: Vec<String> = enums(words)
+        .into_iter()
+        .filter(|(_, variants)| items(variants, ",").iter().all(|item| item.contains(&"=".to_string())))
+        .map(|(name, _)| name)
+        .collect();
     for at in 0..words.len() {
         if let ["struct", name, "{"] = strs(&words[at..words.len().min(at + 3)])[..] {
             let close = closing(words, at + 2).unwrap_or(words.len());
-            if let Some(fields) = read_fields(&words[at + 3..close], &structs) {
+            if let Some(fields) = read_fields(&words[at + 3..close], &structs, &numbered) {
                 structs.insert(name.to_string(), fields);
             }
         }
@@ -129,7 +135,11 @@ pub fn has_layout(words: &[String], name: &str) -> bool {
     attributes.windows(4).any(|part| strs(part) == layout)
 }
 
-fn read_fields(body: &[String], structs: &Structs) -> Option<Vec<(String, Number)>> {
+fn read_fields(
+    body: &[String],
+    structs: &Structs,
+    numbered: &[String],
+) -> Option<Vec<(String, Number)>> {
     let mut fields = Vec::new();
     for item in items(body, ",") {
         let (name, kind) = match strs(item)[..] {
@@ -146,16 +156,29 @@ fn read_fields(body: &[String], structs: &Structs) -> Option<Vec<(String, Number
                 let inner = inner.iter();
                 fields.extend(inner.map(|(field, number)| (format!("{name}.{field}"), *number)));
             }
+            (None, None) if numbered.iter().any(|name| name == kind) => {
+                fields.push(("number".to_string(), Number::U64));
+            }
             (None, None) => return None,
         }
     }
     Some(fields)
 }
 
-/// The numbers that a source names: `pub const NAME: usize = NUMBER;`, or with `u64`.
+/// The numbers that a source names: `pub const NAME: usize = NUMBER;`, or with `u64`, and those of
+/// its enums, where `BadMask = 13` is `BAD_MASK`.
 pub fn read_numbers(source: &str) -> BTreeMap<String, u64> {
     let words = words(source);
     let mut numbers = BTreeMap::new();
+    for variants in enums(&words).values() {
+        for item in items(variants, ",") {
+            if let [name, "=", number] = strs(item)[..] {
+                if let Ok(number) = number.parse() {
+                    numbers.insert(constant_name(name), number);
+                }
+            }
+        }
+    }
     for part in words.windows(8) {
         if let ["pub", "const", name, ":", "usize" | "u64", "=", number, ";"] = strs(part)[..] {
             if let Ok(number) = number.parse() {
@@ -164,4 +187,28 @@ pub fn read_numbers(source: &str) -> BTreeMap<String, u64> {
         }
     }
     numbers
+}
+
+/// The enums of a source by name, each as the words between its brackets.
+fn enums(words: &[String]) -> BTreeMap<String, &[String]> {
+    let mut enums = BTreeMap::new();
+    for at in 0..words.len() {
+        if let ["enum", name, "{"] = strs(&words[at..words.len().min(at + 3)])[..] {
+            let close = closing(words, at + 2).unwrap_or(words.len());
+            enums.insert(name.to_string(), &words[at + 3..close]);
+        }
+    }
+    enums
+}
+
+/// The name of a constant for the name of a variant: `BadMask` is `BAD_MASK`.
+fn constant_name(variant: &str) -> String {
+    let mut name = String::new();
+    for (at, letter) in variant.chars().enumerate() {
+        if at > 0 && letter.is_uppercase() {
+            name.push('_');
+        }
+        name.push(letter.to_ascii_uppercase());
+    }
+    name
 }

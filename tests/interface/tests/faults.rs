@@ -253,6 +253,34 @@ fn another_number_or_field_is_told() {
     }
 }
 
+/// A kind of refusal is an enum in Rattle, and its number in C.
+#[test]
+fn another_kind_of_refusal_is_told() {
+    let source = "pub enum Kind { BadMagic = 2, BadMask = 13, }\n\
+        pub struct Refusal { pub kind: Kind, pub map: usize }";
+    let text = "enum pciv_refusal_number { PCIV_OK = 0, PCIV_BAD_MAGIC = 2, PCIV_BAD_MASK = 13 };";
+    let faults = |source: &str| header(text).compare_numbers(("rattle", &read_numbers(source)));
+    assert!(faults(source).is_empty());
+    assert_eq!(
+        faults(&source.replace("13", "12")),
+        ["PCIV_BAD_MASK: 13 in the header, Some(12) in rattle"]
+    );
+    assert_eq!(
+        faults(&source.replace("BadMask", "Badmask")),
+        ["PCIV_BAD_MASK: 13 in the header, None in rattle"]
+    );
+
+    let c = "typedef struct { uint64_t number; uint64_t map; } pciv_refusal;";
+    let structs = |source: &str| read_rattle("", source).unwrap().1;
+    let faults = |source: &str| {
+        let (c, rattle) = (header(c).structs, structs(source));
+        compare_structs(("c", "pciv_refusal"), &c, ("rattle", "Refusal"), &rattle)
+    };
+    assert!(faults(source).is_empty());
+    assert_eq!(faults(&source.replace("map", "place")).len(), 1);
+    assert_eq!(faults(&source.replace(" = 13", "")).len(), 1);
+}
+
 /// The kinds of corrections are numbers without words, and have shorter names elsewhere.
 #[test]
 fn another_kind_is_told() {

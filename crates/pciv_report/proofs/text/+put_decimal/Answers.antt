@@ -11,15 +11,15 @@ pub put_decimal-at-requires : goal.put_decimal-at-requires
 put_decimal-at-requires t c =
     (omega arith, omega (arith, length-decimal-large c.args.x (omega arith) (omega arith)))
 
-pub put_byte-requires-else-x-lt10 : goal.put_byte-requires-else-x-lt10
-put_byte-requires-else-x-lt10 t c =
+pub put_byte-requires-else-is_last : goal.put_byte-requires-else-is_last
+put_byte-requires-else-is_last t c =
     let kept = put-length c.put_decimal-at.ensures in
     omega (arith, length-decimal-large c.args.x (omega arith) (omega arith))
 
-pub returns-then-x-lt10 : goal.returns-then-x-lt10
-returns-then-x-lt10 t c = rw (decimal-small c.args.x (omega arith)) c.put_byte.ensures
+pub returns-then-is_last : goal.returns-then-is_last
+returns-then-is_last t c = rw (decimal-small c.args.x (omega arith)) c.put_byte.ensures
 
-pub returns-else-x-lt10 : goal.returns-else-x-lt10
-returns-else-x-lt10 t c =
-    let both = put_then c.put_decimal-at.ensures c.put_byte-else-x-lt10.ensures in
+pub returns-else-is_last : goal.returns-else-is_last
+returns-else-is_last t c =
+    let both = put_then c.put_decimal-at.ensures c.put_byte-else-is_last.ensures in
     rw (decimal-large c.args.x (omega arith) (omega arith)) both

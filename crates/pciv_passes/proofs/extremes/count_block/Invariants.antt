@@ -1,0 +1,6 @@
+use Rattle.pciv_passes.specs.Extremes.{ExtremeSums}
+use Rattle.pciv_passes.specs.declared.counts.Term.TheVariants.{Passing}
+use Rattle.pciv_passes.proofs.extremes.count_block.Given as goal
+
+abbrev pub invariant-loop-i : goal.invariant-loop-i
+invariant-loop-i l = ExtremeSums (Passing l.test) l.a l.b 0 l.i l.least l.most
