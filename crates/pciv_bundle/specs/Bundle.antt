@@ -1,6 +1,8 @@
 -- What the routines on bundles answer (docs/FORMAT.md, "Bundles"). b are the bytes of a bundle.
 --   bundle_outcome b           refusal 14, then each frame's 1 to 8, then 10, else the two counts
 --   row_outcome b slot         then 9, else the distances at a slot, by frame
+--   row_distances o, row_answer o
+--                             the row, or eight zeros after a refusal; they beside the verdict
 --   nearest_outcome b capacity, nearest_buffer b out
 --                             then 12, else how many distances; the caller's list afterwards
 --   used_slots fs              the slot count of a bundle that is written: that of its first frame
@@ -8,16 +10,17 @@
 --   bundle_write_outcome fs count capacity, bundle_write_buffer fs count out
 --                             the first `count` of the frames fs as a bundle: how many bytes; the buffer afterwards
 -- Laws are in proofs/BundleCaseLaws.antt, the theorems in Bundles.antt, Accepted.antt and Skips.antt. Axioms: none.
-use Rattle.std.specs.Prelude.{Ok}
+use Rattle.std.specs.Prelude.{Ok, Err}
 use Rattle.pciv_format.specs.declared.RefusalKind.TheVariants.{SlotOutOfRange, BadBundle}
-use Rattle.std.specs.Prelude.{ℕ, ◌+◌, ◌<◌, ◌^◌, ◌||◌, List, [], length, get_or, take, ltb, leb}
-use Rattle.pciv_format.specs.Refusals.{Outcome, refuse, refuse_if, and_then, written}
+use Rattle.std.specs.Prelude.{ℕ, ◌+◌, ◌<◌, ◌^◌, ◌||◌, List, [], length, get_or, take, replicate, ltb, leb}
+use Rattle.pciv_format.specs.Refusals.{Outcome, refuse, refuse_if, and_then, written, verdict_of}
 use Rattle.pciv_format.specs.Check.{n_field}
 use Rattle.pciv_format.specs.Read.{items_into}
 use Rattle.pciv_bundle_records.specs.Records.{frames, slot_count, records_outcome, bundle_of}
 use Rattle.pciv_bundle_records.specs.declared.BundleCounts.{BundleCounts}
 use Rattle.pciv_bundle_frames.specs.Frames.{frames_outcome, row_of}
 use Rattle.pciv_bundle_nearest.specs.Nearest.{nearest_list}
+use Rattle.pciv_bundle.specs.declared.RowAnswer.{RowAnswer}
 
 unfoldable pub bundle_outcome : List ℕ → Outcome BundleCounts
 bundle_outcome b =
@@ -29,6 +32,13 @@ unfoldable pub row_outcome : List ℕ → ℕ → Outcome (List ℕ)
 row_outcome b slot =
     and_then (bundle_outcome b)
     (λ c. refuse_if (leb c.slots slot) (refuse SlotOutOfRange 0 0) (Ok (row_of (frames b) slot)))
+
+abbrev pub row_distances : Outcome (List ℕ) → List ℕ
+row_distances (Ok row) = row
+row_distances (Err r) = replicate 8 0
+
+abbrev pub row_answer : Outcome (List ℕ) → RowAnswer
+row_answer o = record { verdict = verdict_of o; distances = row_distances o }
 
 -- ---- the nearest distance of every slot
 

@@ -6,7 +6,7 @@ ghost use Rattle.pciv_c_cells.specs.Cells.{ToldNumber, ToldCounts};
 
 use pciv_bundle::write::write;
 use pciv_bundle::{nearest, read};
-use pciv_c_cells::{tell_counts, tell_value};
+use pciv_c_cells::{tell_counts, tell_row, tell_value};
 
 #[unsafe(no_mangle)]
 pub extern "C" fn pciv_bundle_read(
@@ -32,7 +32,7 @@ pub extern "C" fn pciv_bundle_row(
     ensures told { ToldNumber (row_outcome bundle.now slot)
         result row.old row.new refusal.new }
 {
-    tell_value(pciv_bundle::row(bundle, slot), row, refusal)
+    tell_row(pciv_bundle::row(bundle, slot), row, refusal)
 }
 
 #[unsafe(no_mangle)]

@@ -14,10 +14,11 @@
 --   span_cells o, span_length o    where the primary part starts, and its length; 0 and 0 for a refused file
 --   ToldNumber, ToldFile, ToldLocated, ToldRepaired, ToldCounts, ToldTable
 --                         all of a call: its answer, the result's cells, the refusal's cells
---   told_table a           the outcome that a table's answer stands for
+--   told_row v distances   the outcome that a verdict and distances beside it stand for, of a row or a table
+--   told_table a           that of a table's answer
 -- Laws are in proofs/CellsLaws.antt. Axioms: none.
 use Rattle.std.specs.Prelude.{Ok, Err}
-use Rattle.std.specs.Prelude.{◌≡◌, ℕ, List, [], ◌∷◌, Float}
+use Rattle.std.specs.Prelude.{◌≡◌, ℕ, List, [], ◌∷◌}
 use Rattle.pciv_format.specs.Refusals.{Outcome, and_then, number_of}
 use Rattle.pciv_format.specs.Read.{origin_number}
 use Rattle.pciv_format.specs.declared.Counts.{Counts}
@@ -122,8 +123,10 @@ pub record ToldTable (o : Outcome (List ℕ)) (T : List ℕ) (code : ℕ) (new w
   pub table_is : new ≡ T
   pub why_is : why ≡ refusal_cells o
 
--- ---- a table
+-- ---- a verdict, and distances beside it
 
--- the table beside a verdict
+abbrev pub told_row : Outcome Unit → List ℕ → Outcome (List ℕ)
+told_row verdict distances = and_then verdict (λ v. Ok distances)
+
 abbrev pub told_table : TableAnswer → Outcome (List ℕ)
-told_table a = and_then a.verdict (λ v. Ok a.table)
+told_table a = told_row a.verdict a.table

@@ -5,12 +5,13 @@
 
 ghost use Rattle.std.specs.Prelude.{◌≡◌, ◌≤◌, length};
 ghost use Rattle.pciv_c_cells.specs.Cells.{ToldNumber, ToldFile, ToldLocated, ToldRepaired, ToldCounts, ToldTable};
-ghost use Rattle.pciv_c_cells.specs.Cells.{told_table, no_cells, cells_of};
+ghost use Rattle.pciv_c_cells.specs.Cells.{told_row, told_table, no_cells, cells_of};
 ghost use Rattle.pciv_format.specs.Refusals.{number_of};
 ghost use Rattle.pciv_format.specs.Check.{k_field};
 ghost use Rattle.pciv_format.specs.Read.{origin_number};
 
-use pciv_bundle_records::BundleCounts;
+use pciv_bundle::RowAnswer;
+use pciv_bundle_records::{BundleCounts, MAX_FRAMES};
 use pciv_bytes::little_endian::get64;
 use pciv_disparity::TableAnswer;
 use pciv_format::{HEADER_LEN, Located, Origin, Refusal, Summary};
@@ -52,7 +53,7 @@ pub fn tell_file(
     }
 }
 
-// A result that goes to C as it is: a number, a figure, a row of distances.
+// A result that goes to C as it is: a number, or a figure.
 pub fn tell_value<T: Copy>(a: Result<T, Refusal>, cell: &mut T, refusal: &mut [usize; 3]) -> usize
     ensures told { ToldNumber a result cell.old cell.new refusal.new }
 {
@@ -149,6 +150,20 @@ pub fn tell_counts(
         Ok(c) => {
             *slots = c.slots;
             *frames = c.frames;
+            tell_done(refusal)
+        }
+        Err(r) => tell_refused(r, refusal),
+    }
+}
+
+pub fn tell_row(a: RowAnswer, row: &mut [u32; MAX_FRAMES], refusal: &mut [usize; 3]) -> usize
+    ensures told { ToldNumber (told_row a.verdict a.distances)
+        result row.old row.new refusal.new }
+{
+    match a.verdict {
+        Ok(_) => {
+            let distances = a.distances;
+            *row = distances;
             tell_done(refusal)
         }
         Err(r) => tell_refused(r, refusal),

@@ -1,18 +1,18 @@
--- Proves pciv_bundle::row: one law for each answer.
+-- Proves pciv_bundle::row_at: one law for each answer.
 use Rattle.std.proofs.Common.{Ok, sym, ap, ◌∙◌}
 use Rattle.pciv_format.proofs.RefusalsLaws.{passed_on}
 use Rattle.pciv_bundle.proofs.BundleCaseLaws.{accepted-frames, bundle-checked, row-refused, row-outside, row_inside}
-use Rattle.pciv_bundle.proofs.row.Goals as goal
+use Rattle.pciv_bundle.proofs.row_at.Goals as goal
 
 pub returns-in_err-split : goal.returns-in_err-split
 returns-in_err-split c =
     let a = c.args in
-    record { answer = passed_on _ _ c.from_residual.ensures.1 ∙ sym (row-refused a.bundle.now _ c.in_err-split.ensures a.slot) }
+    passed_on _ _ c.from_residual.ensures.1 ∙ sym (row-refused a.bundle.now _ c.in_err-split.ensures a.slot)
 
 pub returns-then-counts-slot : goal.returns-then-counts-slot
 returns-then-counts-slot c =
     let a = c.args in
-    record { answer = c.refuse.ensures ∙ sym (row-outside a.bundle.now _ c.in_ok-split.ensures.0 a.slot c.if-counts-slot.true) }
+    c.refuse.ensures ∙ sym (row-outside a.bundle.now _ c.in_ok-split.ensures.0 a.slot c.if-counts-slot.true)
 
 pub row_of-requires-clause-count_bound : goal.row_of-requires-clause-count_bound
 row_of-requires-clause-count_bound c =
@@ -27,6 +27,4 @@ row_of-requires-clause-placed_frames c =
 pub returns : goal.returns
 returns c =
     let a = c.args in
-    record {
-      answer = ap Ok c.row_of.ensures ∙ sym (row_inside a.bundle.now _ c.in_ok-split.ensures.0 a.slot c.if-counts-slot.false);
-    }
+    ap Ok c.row_of.ensures ∙ sym (row_inside a.bundle.now _ c.in_ok-split.ensures.0 a.slot c.if-counts-slot.false)
