@@ -4,14 +4,15 @@
 --   length-lent, lent-at  as many as the slices; one of them, from its slice
 --   used frames count     the first `count` of them
 --   used-lent             they are those of the first `count` slices
---   used-length, used-at  they are `count`, where there are eight slices; one of them, from its slice
+--   used-length           they are `count`, where there are eight slices
+--   used-at, used-taken   one of them, from its slice among all, and among the first `count`
 -- Axioms: none.
 use mathlib.Core.Path.{◌≡◌, sym, ap, ◌∙◌}
-use Prim.Native.Nat.{ℕ, ◌≤◌}
+use Prim.Native.Nat.{ℕ, ◌≤◌, ◌<◌}
 use native.Mathlib.Omega.{arith}
 use mathlib.Core.List.{List, [], map}
 use lib.ListN.{length, get_or, take, length-map, get_or-map}
-use lib.Seq.{length-take-le}
+use lib.Seq.{length-take-le, get_or-take}
 use Rattle.std.proofs.lemmas.List.{take-map}
 use Rattle.std.specs.Borrow.{Bor}
 
@@ -37,5 +38,8 @@ module _ (frames : List (Bor (List ℕ))) (count : ℕ) where
   pub used-length : length frames ≡ 8 → count ≤ 8 → length (used frames count) ≡ count
   used-length eight h = length-take-le count (lent frames) (omega (arith, length-lent frames))
 
-  pub used-at : (f : ℕ) → (get_or (take count frames) f no_frame).now ≡ get_or (used frames count) f []
-  used-at f = lent-at (take count frames) f ∙ ap (λ (fs : List (List ℕ)). get_or fs f []) (sym used-lent)
+  pub used-at : (f : ℕ) → f < count → (get_or frames f no_frame).now ≡ get_or (used frames count) f []
+  used-at f h = lent-at frames f ∙ sym (get_or-take count (lent frames) f [] h)
+
+  pub used-taken : (f : ℕ) → (get_or (take count frames) f no_frame).now ≡ get_or (used frames count) f []
+  used-taken f = lent-at (take count frames) f ∙ ap (λ (fs : List (List ℕ)). get_or fs f []) (sym used-lent)

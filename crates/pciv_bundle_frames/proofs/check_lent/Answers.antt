@@ -1,7 +1,7 @@
 -- Proves pciv_bundle_frames::check_lent: the laws of `Passed`, from frame to frame.
 use Rattle.std.proofs.Common.{sym, ◌∙◌, arith}
 use Rattle.pciv_format.proofs.RefusalsLaws.{passed_on}
-use Rattle.pciv_bundle_frames.proofs.LentLaws.{used-length, used-at}
+use Rattle.pciv_bundle_frames.proofs.LentLaws.{used-length, used-taken}
 use Rattle.pciv_bundle_frames.proofs.FramesLaws.{passed_none, passed-more, passed-below, passed-refused, frames-end}
 use Rattle.pciv_bundle_frames.proofs.check_lent.Goals as goal
 
@@ -14,14 +14,14 @@ returns-in_err-other c =
     let many = used-length a.frames.now a.count c.told-frames c.requires in
     passed_on _ _ c.from_residual.ensures.1
     ∙ sym (passed-refused c.loop-f.invariant (omega arith) _
-    (rw (← used-at a.frames.now a.count c.loop-f.f) (sym c.check_next.ensures ∙ c.in_err-other.was)))
+    (rw (← used-taken a.frames.now a.count c.loop-f.f) (sym c.check_next.ensures ∙ c.in_err-other.was)))
 
 pub loop-f-preserved : goal.loop-f-preserved
 loop-f-preserved c =
     let a = c.args in
     let many = used-length a.frames.now a.count c.told-frames c.requires in
     passed-more c.loop-f.invariant (omega arith) _
-    (rw (← used-at a.frames.now a.count c.loop-f.f) (sym c.check_next.ensures ∙ c.in_ok-other.was))
+    (rw (← used-taken a.frames.now a.count c.loop-f.f) (sym c.check_next.ensures ∙ c.in_ok-other.was))
 
 pub same_slots-requires : goal.same_slots-requires
 same_slots-requires c =
