@@ -12,12 +12,14 @@ pub fn widen(a: &[u8], out: &mut [u32])
     }
 }
 
-// All of src, from `at` on.
+// All of src, from `at` on. For `copy_from_slice` the compiler calls memmove, which an archive without a C library may not have.
 pub fn copy_bytes(src: &[u8], out: &mut [u8], at: usize)
     requires { at + length src.now ≤ length out.old }
     ensures { out.new ≡ sets out.old at src.now }
 {
-    out[at..at + src.len()].copy_from_slice(src);
+    for (i, x) in src.iter().enumerate() {
+        out[at + i] = *x;
+    }
 }
 
 // Zeros, from `from` up to `to`.

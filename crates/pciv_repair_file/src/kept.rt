@@ -6,6 +6,7 @@ ghost use Rattle.pciv_format.specs.Check.{file_parts};
 ghost use Rattle.pciv_repair_file.specs.Repaired.{lowest_after, kept_entries, full_count, kept_bytes, PartsGiven};
 
 use pciv_build::put_entry;
+use pciv_bytes::copies::copy_bytes;
 use pciv_bytes::little_endian::{get32, get64};
 use pciv_format::{HEADER_LEN, SENTINEL};
 use pciv_layout::entries::wrong_entry;
@@ -80,7 +81,7 @@ pub fn put_kept(file: &[u8], n: usize, k: usize, kept: usize, out: &mut [u8])
     if kept == k {
         let start = HEADER_LEN + n;
         let end = start + 12 * k;
-        out[start..end].copy_from_slice(&file[start..end]);
+        copy_bytes(&file[start..end], out, start);
     } else {
         put_some(file, n, k, out);
     }

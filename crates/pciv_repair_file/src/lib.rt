@@ -14,6 +14,7 @@ ghost use Rattle.pciv_repair_file.specs.Repaired.{kept_entries, repaired_parts, 
 
 use crate::kept::{lowest_after, put_kept};
 use pciv_build::{begin, finish};
+use pciv_bytes::copies::copy_bytes;
 use pciv_format::{HEADER_LEN, INLINE_MAX, Refusal, SENTINEL, Summary};
 use pciv_map::totals::summary_of;
 use pciv_passes::pairs::{ByteOp, map_into};
@@ -52,7 +53,7 @@ fn put_primary(file: &[u8], n: usize, k: usize, kept: usize, full: usize, out: &
 {
     if full == kept {
         let end = HEADER_LEN + n;
-        out[HEADER_LEN..end].copy_from_slice(&file[HEADER_LEN..end]);
+        copy_bytes(&file[HEADER_LEN..end], out, HEADER_LEN);
     } else {
         put_lowered(file, n, k, out);
     }
