@@ -20,7 +20,7 @@ pub enum Term {
 }
 
 // The bytes that are counted at once: at most 255, so that a byte can hold their count.
-pub(crate) const BLOCK: usize = 192;
+const BLOCK: usize = 192;
 
 // 1 where a byte passes the test, else 0.
 pub(crate) fn passing(test: Test, x: u8) -> u8

@@ -4,7 +4,10 @@ ghost use Rattle.std.specs.Prelude.{◌≡◌, ◌≤◌, length};
 ghost use Rattle.pciv_passes.specs.Extremes.{ExtremeSums};
 ghost use Rattle.pciv_passes.specs.declared.counts.Term.TheVariants.{Passing, Byte};
 
-use crate::counts::{BLOCK, Term, Test, passing};
+use crate::counts::{Term, Test, passing};
+
+// The bytes that are taken at once: at most 255, so that a byte can hold their count.
+const BLOCK: usize = 192;
 
 // What the smaller bytes and the larger ones add up to.
 #[derive(Clone, Copy)]

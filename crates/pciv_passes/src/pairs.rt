@@ -5,7 +5,8 @@ ghost use Rattle.std.proofs.lemmas.List.Edits.{sets};
 ghost use Rattle.pciv_bytes.specs.Ranges.{table, sum_from};
 ghost use Rattle.pciv_passes.specs.Pairs.{byte_op, pair_at, one_at, full_at};
 
-use crate::counts::BLOCK;
+// The bytes that are counted at once: at most 255, so that a byte can hold their count.
+const BLOCK: usize = 192;
 
 // What is done with two bytes. Lower and Raise are difference and sum that leave a first byte 0 as it is; another one
 // is at least 1 afterwards.

@@ -2,7 +2,7 @@ use Rattle.std.proofs.Common.{arith, ◌≡◌, ◌∙◌, ◌*◌, ◌+◌, [],
 use Rattle.std.proofs.Math.Nat.{sub-zero}
 use Rattle.std.proofs.lemmas.Slice.Zip.{zip_turn, zip_end}
 use Rattle.pciv_bytes.specs.Ranges.{sum_from}
-use Rattle.pciv_passes.specs.declared.counts.TheConstants.{BLOCK}
+use Rattle.pciv_passes.specs.declared.extremes.TheConstants.{BLOCK}
 use Rattle.pciv_passes.specs.Counts.{term_of}
 use Rattle.pciv_passes.specs.Extremes.{least_at, most_at}
 use Rattle.pciv_passes.proofs.BlocksLaws.{Left, block_is, rest_is, left-block, left-end}

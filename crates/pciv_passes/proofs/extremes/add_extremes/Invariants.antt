@@ -1,6 +1,6 @@
 -- The sums so far, and those of the bytes that are left, are the whole.
 use Rattle.std.proofs.Common.{ℕ, length, min, max}
-use Rattle.pciv_passes.specs.declared.counts.TheConstants.{BLOCK}
+use Rattle.pciv_passes.specs.declared.extremes.TheConstants.{BLOCK}
 use Rattle.pciv_passes.specs.Counts.{term_of}
 use Rattle.pciv_passes.proofs.BlocksLaws.{Left}
 use Rattle.pciv_passes.proofs.extremes.add_extremes.Given as goal

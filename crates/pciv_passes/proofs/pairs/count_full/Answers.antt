@@ -1,7 +1,7 @@
 use Rattle.std.proofs.Common.{arith, [], length, eqb, length-append, ℕ, List, ◌≤◌, ◌∙◌}
 use Rattle.std.proofs.lemmas.Slice.Zip.{zip_turn, zip_end}
 use Rattle.pciv_bytes.proofs.SumLaws.{sum_from-flag-le}
-use Rattle.pciv_passes.specs.declared.counts.TheConstants.{BLOCK}
+use Rattle.pciv_passes.specs.declared.pairs.TheConstants.{BLOCK}
 use Rattle.pciv_bytes.specs.Ranges.{sum_from}
 use Rattle.pciv_passes.specs.Pairs.{pair_at, full_at}
 use Rattle.pciv_passes.specs.declared.pairs.ByteOp.{ByteOp}

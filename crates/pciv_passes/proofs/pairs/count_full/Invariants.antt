@@ -1,7 +1,7 @@
 -- The count so far, and that of the bytes that are left, are the whole.
 use Rattle.std.proofs.Common.{ℕ, length, eqb}
 use Rattle.pciv_bytes.specs.Ranges.{flag}
-use Rattle.pciv_passes.specs.declared.counts.TheConstants.{BLOCK}
+use Rattle.pciv_passes.specs.declared.pairs.TheConstants.{BLOCK}
 use Rattle.pciv_passes.specs.Pairs.{byte_op}
 use Rattle.pciv_passes.proofs.BlocksLaws.{Left}
 use Rattle.pciv_passes.proofs.pairs.count_full.Given as goal
