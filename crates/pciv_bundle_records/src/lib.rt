@@ -81,7 +81,10 @@ fn wrong_record(bundle: &[u8], at: usize, found: usize, count: usize) -> bool
     let len = get32(bundle, at) as usize;
     let kind = get16(bundle, at + 4);
     let is_header = kind == HEADER_KIND;
-    left - 4 < len || len < KIND_LEN || is_header || (kind == FRAME_KIND && count <= found)
+    if left - 4 < len || len < KIND_LEN || is_header {
+        return true;
+    }
+    kind == FRAME_KIND && count <= found
 }
 
 // The counts of a bundle and the places of its frames, which are not checked yet, or why it is none. Refusals: 14, with

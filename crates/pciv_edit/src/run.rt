@@ -27,7 +27,9 @@ fn put_cells(answers: &mut [usize], at: usize, why: [usize; 3], s: Summary, move
     let cells = [
         why[0], why[1], why[2], s.n, s.k, s.m, s.step, s.len, s.sum, moved,
     ];
-    answers[at..at + ANSWER_LEN].copy_from_slice(&cells);
+    for j in 0..ANSWER_LEN {
+        answers[at + j] = cells[j];
+    }
 }
 
 // One edit of a checked map; its answer goes to the caller's list. Answers what the next edit has to know.

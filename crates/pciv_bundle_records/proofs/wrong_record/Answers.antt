@@ -9,9 +9,9 @@ pub returns-then-left-lt-PREFIX_LEN : goal.returns-then-left-lt-PREFIX_LEN
 unfolding wrong_record
 returns-then-left-lt-PREFIX_LEN c = grind (arith, nat_tests)
 
-pub returns-then-is_header : goal.returns-then-is_header
+pub returns-then-left-len : goal.returns-then-left-len
 unfolding wrong_record
-returns-then-is_header c = grind (arith, nat_tests)
+returns-then-left-len c = grind (arith, nat_tests)
 
 pub returns-then-kind-eq-FRAME_KIND : goal.returns-then-kind-eq-FRAME_KIND
 unfolding wrong_record
