@@ -200,8 +200,6 @@ module _ (A B : Parts) (n : A.n ≡ B.n) (sa : SoundParts A) (sb : SoundParts B)
   weighed-from t h r w =
       weighed-capped (term_of (Passing (AtLeast t))) (weight_of (From t)) (λ x. ap flag (leb-capped t x h)) r w
 
--- distances weigh more than their bytes only above 255
--- a threshold above 255 is met by no byte
 -- ---- the primary bytes as parts of the files
 
 module _ (a b : List ℕ) (n ka kb : ℕ) (ca : CheckedMap a n ka) (cb : CheckedMap b n kb) where
