@@ -1,6 +1,5 @@
 -- Laws of a mask in which each overflow entry whose distance is not below a limit flips its slot, for a limit that every
 -- inline distance is below.
---   asked-high                     where the bytes do not tell, the limit is so
 --   flipped-asked                  what is asked is then the start, flipped
 --   settled P limit p j i          slot i of the mask made of p after the first j entries
 --   settled-start, -more, -end     before the first entry, one entry on, and after the last

@@ -3,8 +3,8 @@
 --   holds-limit         a comparison with t is a test of a limit
 --   bytes-limit, -near  where the primary bytes tell, their mask is that of the distances
 --   bytes-start         the mask of the bytes that are not 0
---   select-refused, _short, -done      the outcome, where the file is refused, and where it is a map with counts s
---   words-refused, -done, -cong        the caller's words afterwards
+--   select-done         the outcome, where the file is a map with counts s
+--   words-done, -cong   the caller's words afterwards
 -- Axioms: none.
 use Rattle.std.proofs.Common.{Ok}
 use mathlib.Core.Path.{◌≡◌, refl, sym, ap, ap₂, ◌∙◌}
