@@ -103,7 +103,7 @@ pub fn element_numbers(name: &str, structs: &Structs) -> Option<Vec<Number>> {
 }
 
 /// The structs that consist of numbers. A struct that stands for others has to come after them.
-/// A field of an enum whose variants have numbers is C's field `number`.
+/// The field `kind` of an enum whose variants have numbers is C's field `number`, but in a struct that goes to C as it is.
 pub fn read_structs(words: &[String]) -> Structs {
     let mut structs = Structs::new();
     let numbered: Vec<String> = enums(words)
@@ -114,7 +114,8 @@ pub fn read_structs(words: &[String]) -> Structs {
     for at in 0..words.len() {
         if let ["struct", name, "{"] = strs(&words[at..words.len().min(at + 3)])[..] {
             let close = closing(words, at + 2).unwrap_or(words.len());
-            if let Some(fields) = read_fields(&words[at + 3..close], &structs, &numbered) {
+            let kinds = if has_layout(words, name) { &[][..] } else { &numbered[..] };
+            if let Some(fields) = read_fields(&words[at + 3..close], &structs, kinds) {
                 structs.insert(name.to_string(), fields);
             }
         }
@@ -138,7 +139,7 @@ pub fn has_layout(words: &[String], name: &str) -> bool {
 fn read_fields(
     body: &[String],
     structs: &Structs,
-    numbered: &[String],
+    kinds: &[String],
 ) -> Option<Vec<(String, Number)>> {
     let mut fields = Vec::new();
     for item in items(body, ",") {
@@ -156,7 +157,7 @@ fn read_fields(
                 let inner = inner.iter();
                 fields.extend(inner.map(|(field, number)| (format!("{name}.{field}"), *number)));
             }
-            (None, None) if numbered.iter().any(|name| name == kind) => {
+            (None, None) if name == "kind" && kinds.iter().any(|name| name == kind) => {
                 fields.push(("number".to_string(), Number::U64));
             }
             (None, None) => return None,
@@ -189,13 +190,13 @@ pub fn read_numbers(source: &str) -> BTreeMap<String, u64> {
     numbers
 }
 
-/// The enums of a source by name, each as the words between its brackets.
+/// The public enums of a source by name, each as the words between its brackets.
 fn enums(words: &[String]) -> BTreeMap<String, &[String]> {
     let mut enums = BTreeMap::new();
     for at in 0..words.len() {
-        if let ["enum", name, "{"] = strs(&words[at..words.len().min(at + 3)])[..] {
-            let close = closing(words, at + 2).unwrap_or(words.len());
-            enums.insert(name.to_string(), &words[at + 3..close]);
+        if let ["pub", "enum", name, "{"] = strs(&words[at..words.len().min(at + 4)])[..] {
+            let close = closing(words, at + 3).unwrap_or(words.len());
+            enums.insert(name.to_string(), &words[at + 4..close]);
         }
     }
     enums

@@ -278,7 +278,15 @@ fn another_kind_of_refusal_is_told() {
     };
     assert!(faults(source).is_empty());
     assert_eq!(faults(&source.replace("map", "place")).len(), 1);
-    assert_eq!(faults(&source.replace(" = 13", "")).len(), 1);
+    for (old, new) in [
+        (" = 13", ""),
+        ("kind:", "number:"),
+        ("kind:", "cause:"),
+        ("pub enum", "enum"),
+        ("pub struct", "#[repr(C)] pub struct"),
+    ] {
+        assert_eq!(faults(&source.replace(old, new)).len(), 1, "{new}");
+    }
 }
 
 /// The kinds of corrections are numbers without words, and have shorter names elsewhere.
