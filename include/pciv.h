@@ -45,10 +45,10 @@
 /* The version of this header and of the library that it belongs to. The number is made of the three,
    with 1,000 for each MINOR and 1,000,000 for each MAJOR, and is for comparisons by #if. */
 #define PCIV_VERSION_MAJOR 0
-#define PCIV_VERSION_MINOR 7
+#define PCIV_VERSION_MINOR 8
 #define PCIV_VERSION_PATCH 0
-#define PCIV_VERSION_NUMBER 7000
-#define PCIV_VERSION "0.7.0"
+#define PCIV_VERSION_NUMBER 8000
+#define PCIV_VERSION "0.8.0"
 
 #ifdef __cplusplus
 extern "C" {
