@@ -17,7 +17,7 @@ mod told;
 
 pub use header::{read_header, Header};
 pub use model::{compare_functions, compare_names, compare_structs, Functions, Structs};
-pub use rattle::{read_numbers, read_rattle};
+pub use rattle::{read_kinds, read_numbers, read_rattle};
 pub use rust::read_rust;
 pub use symbols::{exported, read_symbols};
 pub use told::{
@@ -79,7 +79,7 @@ pub fn compare(root: &Path, libraries: &[String]) -> Result<usize, Vec<String>> 
         numbers += &read_folder(root, folder, "rt").map_err(failure)?;
     }
     let place = format!("{RATTLE_FORMAT} or {}", RATTLE_NUMBERS.join(" or "));
-    faults.extend(header.compare_numbers((&place, &read_numbers(&numbers))));
+    faults.extend(header.compare_numbers((&place, &read_kinds(&numbers))));
     faults.extend(header.compare_numbers((RUST, &read_numbers(&crate_text))));
     let refusals = header.refusals.iter().map(String::as_str);
     let (in_c, in_rust) = (read_c_texts(&text), read_rust_texts(&crate_text));

@@ -103,7 +103,8 @@ pub fn element_numbers(name: &str, structs: &Structs) -> Option<Vec<Number>> {
 }
 
 /// The structs that consist of numbers. A struct that stands for others has to come after them.
-/// The field `kind` of an enum whose variants have numbers is C's field `number`, but in a struct that goes to C as it is.
+/// In a struct that does not go to C as it is, the field `kind` is C's field `number`, where its type is the struct's own
+/// enum (`RefusalKind` of `Refusal`), whose variants have numbers.
 pub fn read_structs(words: &[String]) -> Structs {
     let mut structs = Structs::new();
     let numbered: Vec<String> = enums(words)
@@ -114,8 +115,9 @@ pub fn read_structs(words: &[String]) -> Structs {
     for at in 0..words.len() {
         if let ["struct", name, "{"] = strs(&words[at..words.len().min(at + 3)])[..] {
             let close = closing(words, at + 2).unwrap_or(words.len());
-            let kinds = if has_layout(words, name) { &[][..] } else { &numbered[..] };
-            if let Some(fields) = read_fields(&words[at + 3..close], &structs, kinds) {
+            let own = format!("{name}Kind");
+            let own = (!has_layout(words, name) && numbered.contains(&own)).then_some(&own[..]);
+            if let Some(fields) = read_fields(&words[at + 3..close], &structs, own) {
                 structs.insert(name.to_string(), fields);
             }
         }
@@ -139,7 +141,7 @@ pub fn has_layout(words: &[String], name: &str) -> bool {
 fn read_fields(
     body: &[String],
     structs: &Structs,
-    kinds: &[String],
+    own: Option<&str>,
 ) -> Option<Vec<(String, Number)>> {
     let mut fields = Vec::new();
     for item in items(body, ",") {
@@ -157,7 +159,7 @@ fn read_fields(
                 let inner = inner.iter();
                 fields.extend(inner.map(|(field, number)| (format!("{name}.{field}"), *number)));
             }
-            (None, None) if name == "kind" && kinds.iter().any(|name| name == kind) => {
+            (None, None) if name == "kind" && own == Some(kind) => {
                 fields.push(("number".to_string(), Number::U64));
             }
             (None, None) => return None,
@@ -166,9 +168,9 @@ fn read_fields(
     Some(fields)
 }
 
-/// The numbers that a source names: `pub const NAME: usize = NUMBER;`, or with `u64`, and those of
-/// its enums, where `BadMask = 13` is `BAD_MASK`.
-pub fn read_numbers(source: &str) -> BTreeMap<String, u64> {
+/// The numbers that a Rattle source names: those of `read_numbers`, and those of its enums, where
+/// `BadMask = 13` is `BAD_MASK`.
+pub fn read_kinds(source: &str) -> BTreeMap<String, u64> {
     let words = words(source);
     let mut numbers = BTreeMap::new();
     for variants in enums(&words).values() {
@@ -180,6 +182,14 @@ pub fn read_numbers(source: &str) -> BTreeMap<String, u64> {
             }
         }
     }
+    numbers.extend(read_numbers(source));
+    numbers
+}
+
+/// The numbers that a source names: `pub const NAME: usize = NUMBER;`, or with `u64`.
+pub fn read_numbers(source: &str) -> BTreeMap<String, u64> {
+    let words = words(source);
+    let mut numbers = BTreeMap::new();
     for part in words.windows(8) {
         if let ["pub", "const", name, ":", "usize" | "u64", "=", number, ";"] = strs(part)[..] {
             if let Ok(number) = number.parse() {

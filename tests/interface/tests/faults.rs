@@ -3,8 +3,8 @@
 
 use interface::{
     compare, compare_functions, compare_names, compare_structs, compare_texts, compare_version,
-    read_c_texts, read_header, read_numbers, read_rattle, read_rust, read_rust_texts, read_symbols,
-    read_version, read_versions, Functions, Header,
+    read_c_texts, read_header, read_kinds, read_numbers, read_rattle, read_rust, read_rust_texts,
+    read_symbols, read_version, read_versions, Functions, Header,
 };
 use std::{ops::Range, path::Path};
 
@@ -256,11 +256,12 @@ fn another_number_or_field_is_told() {
 /// A kind of refusal is an enum in Rattle, and its number in C.
 #[test]
 fn another_kind_of_refusal_is_told() {
-    let source = "pub enum Kind { BadMagic = 2, BadMask = 13, }\n\
-        pub struct Refusal { pub kind: Kind, pub map: usize }";
+    let source = "pub enum RefusalKind { BadMagic = 2, BadMask = 13, }\n\
+        pub struct Refusal { pub kind: RefusalKind, pub map: usize }";
     let text = "enum pciv_refusal_number { PCIV_OK = 0, PCIV_BAD_MAGIC = 2, PCIV_BAD_MASK = 13 };";
-    let faults = |source: &str| header(text).compare_numbers(("rattle", &read_numbers(source)));
+    let faults = |source: &str| header(text).compare_numbers(("rattle", &read_kinds(source)));
     assert!(faults(source).is_empty());
+    assert!(read_numbers(source).is_empty());
     assert_eq!(
         faults(&source.replace("13", "12")),
         ["PCIV_BAD_MASK: 13 in the header, Some(12) in rattle"]
@@ -282,6 +283,7 @@ fn another_kind_of_refusal_is_told() {
         (" = 13", ""),
         ("kind:", "number:"),
         ("kind:", "cause:"),
+        ("enum RefusalKind", "enum OtherKind"),
         ("pub enum", "enum"),
         ("pub struct", "#[repr(C)] pub struct"),
     ] {
