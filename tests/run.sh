@@ -54,6 +54,12 @@ as_it_comes() {
     wait $!
 }
 
+# archive_needs: a program without a C library can link the archive with these two functions alone.
+archive_needs() {
+    nm -u "$PCIV_LIB_DIR/libpciv_c.a" | sed -n 's/^ *U //p' | sort -u >"$work/needs"
+    printf 'memcpy\nmemset\n' | diff - "$work/needs" && echo 'memcpy and memset'
+}
+
 # `make` lists its targets; rt's progress is shown as it comes, its log is kept, and its status is that of the call.
 make_help() {
     for target in help report test dist fuzz bench benchmarks; do
@@ -503,6 +509,7 @@ part header-c header_c
 part header-c++ header_cpp
 part c_smoke c_smoke
 part cpp_smoke cpp_smoke
+part needs archive_needs
 part make make_help
 part dist dist
 part c-shared c_shared
